@@ -1,0 +1,8 @@
+pub mod Workings
+pub mod Tables
+pub mod Numbers
+pub mod Powers
+pub mod Exponentials
+pub mod Halvings
+pub mod Orders
+pub mod Roots

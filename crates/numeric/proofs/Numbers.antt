@@ -1,0 +1,64 @@
+-- The code's literals are the numbers that they print, and bits below the infinity's are no NaN's. Assumes nothing.
+use Prim.Native.Nat.{ℕ, _+_, _*_, _<_, _%_}
+use mathlib.Core.Path.{_≡_, refl, sym, subst, ap, _∙_}
+use mathlib.Core.Bool.{Bool, true, false, not, _&&_, true≢false}
+use native.Mathlib.Omega.{arith}
+use native.Mathlib.Nat.{mod-eq-of-lt}
+use borrow.Author.Tests.{le-ltb, ltb-false, eq-eqb}
+use lib.Dec.{T, ltb, eqb}
+use lib.Ieee.{Float, nan, inf, fin, binary64, up, down, isNan, nanBits, ofBits, ofInt, round, lt, eq}
+use lib.Ieee.Bits.{nanBits-above}
+use lib.Ieee.Scale.{finite}
+use Rattle.numeric.specs.Number.{whole, nonneg}
+
+pub literal-0 : ofBits binary64 0 ≡ whole 0
+unfolding ofBits whole ofInt round
+literal-0 = refl
+
+pub literal-1 : ofBits binary64 0x3ff0_0000_0000_0000 ≡ whole 1
+unfolding ofBits whole ofInt round
+literal-1 = refl
+
+-- the bits of the infinity
+abbrev pub infinity : ℕ
+infinity = 0x7ff0_0000_0000_0000
+
+pub no-nan : (b : ℕ) → b < infinity → T (not (nanBits binary64 b))
+no-nan b h =
+    let m : b % 0x8000_0000_0000_0000 ≡ b = mod-eq-of-lt (omega arith) in
+    let e = nanBits-above binary64 b ∙ ap (ltb infinity) m ∙ le-ltb infinity b (omega arith) in
+    subst (λ (t : Bool). T (not t)) (sym e) tt
+
+-- a number with no minus sign, or that is less than another or more, is no NaN
+pub nonneg-no-nan : (x : Float) → T (nonneg x) → T (not (isNan x))
+unfolding isNan
+nonneg-no-nan nan h = absurd h
+nonneg-no-nan (inf s) h = tt
+nonneg-no-nan (fin s m e) h = tt
+
+pub less-no-nan : (x y : Float) → lt x y ≡ true → T (not (isNan x))
+unfolding lt isNan
+less-no-nan nan y h = absurd (true≢false (sym h))
+less-no-nan (inf s) y h = tt
+less-no-nan (fin s m e) y h = tt
+
+pub more-no-nan : (x y : Float) → lt y x ≡ true → T (not (isNan x))
+unfolding lt isNan
+more-no-nan nan nan h = absurd (true≢false (sym h))
+more-no-nan nan (inf s) h = absurd (true≢false (sym h))
+more-no-nan nan (fin s m e) h = absurd (true≢false (sym h))
+more-no-nan (inf s) y h = tt
+more-no-nan (fin s m e) y h = tt
+
+-- what is finite, not below 0 and not 0 has no minus sign
+zero-is-0 : (a b : ℕ) → b ≡ 0 → ltb 0 (a + b) ≡ false → eqb a b && eqb a 0 ≡ false → ⊥
+zero-is-0 a b e l n =
+    let h = ltb-false 0 (a + b) l in
+    true≢false (sym (simp (eq-eqb a b (omega arith), eq-eqb a 0 (omega arith))) ∙ n)
+
+pub above-0 : (x : Float) → finite x ≡ true → lt x (whole 0) ≡ false → eq x (whole 0) ≡ false → T (nonneg x)
+unfolding lt eq whole ofInt
+above-0 nan f l e = absurd (true≢false (sym f))
+above-0 (inf s) f l e = absurd (true≢false (sym f))
+above-0 (fin false m e) f l n = tt
+above-0 (fin true m e) f l n = absurd (zero-is-0 (m * up e * 1) (0 * down e) (omega arith) l n)

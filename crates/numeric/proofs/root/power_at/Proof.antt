@@ -1,0 +1,20 @@
+-- The bits are below the infinity's, so they are no NaN's. Assumes nothing.
+use borrow.Author.Needs.{needs}
+use Rattle.numeric.proofs.Numbers.{no-nan}
+use Rattle.numeric.proofs.root.power_at.Statement.{statement}
+use Rattle.numeric.proofs.root.power_at.Tie as tie
+use Rattle.numeric.proofs.root.power_at.Reads as reads
+use Rattle.numeric.proofs.root.power_at.Lts as lts
+use Rattle.numeric.proofs.power.whole_power.Reads as whole-power-reads
+
+float-from-bits-whole-power : tie.Need-float-from-bits-whole-power
+float-from-bits-whole-power c = no-nan (c .args .b) (c .pre)
+
+whole-power-requires : tie.Need-whole-power-requires
+whole-power-requires c κs = search needs
+
+returns : tie.Need-returns
+returns c = search needs
+
+pub power-at-spec : {M : Type 1} → statement M
+power-at-spec = tie.close (tie.spec float-from-bits-whole-power whole-power-requires returns)

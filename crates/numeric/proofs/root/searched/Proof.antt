@@ -1,0 +1,121 @@
+-- The power and the crossing are those of the definition; the crossing's bits lie below the infinity's. Assumes nothing.
+use mathlib.Core.Path.{_≡_, sym, ap, subst, _∙_}
+use Prim.Native.Nat.{ℕ}
+use native.Mathlib.Omega.{arith}
+use borrow.Author.Needs.{needs}
+use lib.Dec.{T}
+use lib.Ieee.{Float}
+use lib.Ieee.Scale.{finite}
+use Rattle.numeric.specs.declared.working.Worked.{Worked}
+use Rattle.numeric.specs.declared.halving.Crossing.the-variants.{At}
+use Rattle.numeric.specs.Number.{nonneg}
+use Rattle.numeric.specs.Power.{power}
+use Rattle.numeric.specs.Working.{checked, then}
+use Rattle.numeric.specs.Root.{searched, rootBits, rootOf}
+use Rattle.numeric.proofs.Numbers.{infinity, no-nan}
+use Rattle.numeric.proofs.Powers.{checked-power}
+use Rattle.numeric.proofs.Workings.{checked-number}
+use Rattle.numeric.proofs.Orders.{power-plain}
+use Rattle.numeric.proofs.Roots.{crossing-below}
+use Rattle.numeric.proofs.root.searched.Statement.{statement}
+use Rattle.numeric.proofs.root.searched.Tie as tie
+use Rattle.numeric.proofs.root.searched.Reads as reads
+use Rattle.numeric.proofs.root.searched.Lts as lts
+use Rattle.numeric.proofs.power.whole_power.Reads as whole-power-reads
+use Rattle.numeric.proofs.root.crossing.Reads as crossing-reads
+use Rattle.numeric.proofs.root.guess.Reads as guess-reads
+use Rattle.numeric.proofs.working.checked.Reads as checked-reads
+
+abbrev lookedFor : ℕ → Worked → Worked
+lookedFor k w = then w (λ t. rootOf (rootBits k t))
+
+-- the power, as it was worked
+raised : (c : tie.After-checked) → searched (c .before .before .args .m) (c .before .before .args .k) (c .before .before .args .x) ≡ lookedFor (c .before .before .args .k) (c .checked .result)
+unfolding searched
+raised c =
+    let a = c .before .before .args in
+    ap (lookedFor (a .k)) (sym (checked-power (a .x) (a .m)) ∙ sym (ap checked (c .before .whole-power .ensures)) ∙ sym (c .checked .ensures))
+
+-- and the crossing, as it was found
+told : (c : tie.After-crossing) → rootOf (c .crossing .result) ≡ searched (c .before .before .before .before .before .before .before .args .m) (c .before .before .before .before .before .before .before .args .k) (c .before .before .before .before .before .before .before .args .x)
+told c =
+    let t = c .before .before .before in
+    ap rootOf (c .crossing .ensures) ∙ sym (raised (t .before .before) ∙ ap (lookedFor _) (t .t .given .1))
+
+whole-power-requires : tie.Need-whole-power-requires
+whole-power-requires c κs = search needs
+
+checked-requires : tie.Need-checked-requires
+checked-requires c κs = search needs
+
+enum-known-t : tie.Need-enum-known-t
+enum-known-t c = search needs
+
+enum-told : tie.Need-enum-told
+enum-told c = search needs
+
+returns : tie.Need-returns
+returns c = sym (raised (c .before .before) ∙ ap (lookedFor _) (c .enum-told .given .1))
+
+cast-guess : tie.Need-cast-guess
+cast-guess c = search needs
+
+cast-guess-2 : tie.Need-cast-guess-2
+cast-guess-2 c = search needs
+
+guess-requires : tie.Need-guess-requires
+guess-requires c κs = search needs
+
+crossing-requires : tie.Need-crossing-requires
+crossing-requires c κs =
+    let t = c .before .before in
+    let w = t .before .before .before in
+    let a = w .before in
+    let n = checked-number (w .whole-power .result) (t .t .given .0 .0) (sym (t .before .before .checked .ensures) ∙ t .t .given .1) in
+    let f : T (finite (power (a .args .x) (a .args .m))) = rw (w .whole-power .ensures) at (n .1) in
+    let p = power-plain (a .args .x) (a .args .m) (a .pre .0) f in
+    (subst (λ (z : Float). T (nonneg z)) (sym (w .whole-power .ensures) ∙ n .0) p, (omega arith, omega arith))
+
+enum-known-b : tie.Need-enum-known-b
+enum-known-b c = search needs
+
+float-from-bits-t13 : tie.Need-float-from-bits-t13
+float-from-bits-t13 c =
+    let b = c .before in
+    no-nan _ (crossing-below _ _ _ (sym (b .before .before .crossing .ensures) ∙ b .b .given .1))
+
+enum-told-2 : tie.Need-enum-told-2
+enum-told-2 c = search needs
+
+enum-told-3 : tie.Need-enum-told-3
+enum-told-3 c = search needs
+
+returns-2 : tie.Need-returns-2
+returns-2 c = sym (ap rootOf (c .before .b .given .1)) ∙ told (c .before .before .before)
+
+returns-3 : tie.Need-returns-3
+returns-3 c = sym (ap rootOf (c .enum-told2 .given .1)) ∙ told (c .before .before)
+
+returns-4 : tie.Need-returns-4
+returns-4 c = sym (ap rootOf (c .enum-told3 .given .1)) ∙ told (c .before .before)
+
+pub searched-spec : {M : Type 1} → statement M
+searched-spec =
+    tie.close
+    (tie.spec
+    whole-power-requires
+    checked-requires
+    enum-known-t
+    enum-told
+    returns
+    cast-guess
+    cast-guess-2
+    guess-requires
+    crossing-requires
+    enum-known-b
+    float-from-bits-t13
+    enum-told-2
+    enum-told-3
+    returns-2
+    returns-3
+    returns-4)

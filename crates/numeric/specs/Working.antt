@@ -1,0 +1,41 @@
+-- Document 01, refusal 7: working failed, a number that was worked is not finite. Definitions only.
+use mathlib.Core.Bool.{Bool, true, false}
+use lib.Ieee as Ieee
+use lib.Ieee.{Float, nan, inf, fin, binary64}
+use Rattle.numeric.specs.declared.working.Worked.{Worked}
+use Rattle.numeric.specs.declared.working.Worked.the-variants.{Number, Failed}
+
+-- a number, failed where it is not finite
+abbrev pub checked : Float → Worked
+checked nan = Failed
+checked (inf s) = Failed
+checked (fin s m e) = Number (fin s m e)
+
+-- what is worked from a number, failed where the number has
+abbrev pub then : Worked → (Float → Worked) → Worked
+then Failed f = Failed
+then (Number x) f = f x
+
+abbrev pub pick : Bool → Worked → Worked → Worked
+pick true a b = a
+pick false a b = b
+
+-- an f64 operation, rounded once, on two numbers that were worked
+abbrev pub both : (Float → Float → Float) → Worked → Worked → Worked
+both op Failed w = Failed
+both op (Number x) Failed = Failed
+both op (Number x) (Number y) = checked (op x y)
+
+infixl 6 _+ᵂ_ _-ᵂ_
+infixl 7 _*ᵂ_ _/ᵂ_
+unfoldable pub _+ᵂ_ : Worked → Worked → Worked
+v +ᵂ w = both (Ieee.add binary64) v w
+
+unfoldable pub _-ᵂ_ : Worked → Worked → Worked
+v -ᵂ w = both (Ieee.sub binary64) v w
+
+unfoldable pub _*ᵂ_ : Worked → Worked → Worked
+v *ᵂ w = both (Ieee.mul binary64) v w
+
+unfoldable pub _/ᵂ_ : Worked → Worked → Worked
+v /ᵂ w = both (Ieee.div binary64) v w

@@ -1,0 +1,7 @@
+// How a number is worked (document 01): every operation is an f64 operation rounded once, in a fixed order.
+pub mod exponent;
+pub mod exponential;
+pub mod halving;
+pub mod power;
+pub mod root;
+pub mod working;

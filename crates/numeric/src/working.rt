@@ -1,0 +1,27 @@
+// A number that was worked is finite, or the working has failed (document 01, refusal 7).
+ghost use mathlib.Core.Path.{_≡_};
+ghost use lib.Ieee.Scale.{finite};
+ghost use Rattle.numeric.specs.Working.{checked};
+
+pub enum Worked {
+    Number(f64),
+    Failed,
+}
+
+pub fn is_finite(x: f64) -> bool
+    ensures { λ r. ⌜ r ≡ finite x ⌝ }
+{
+    let infinity = 1.0 / 0.0;
+    if x < infinity { -infinity < x } else { false }
+}
+
+// The one test at the end of a formula.
+pub fn checked(x: f64) -> Worked
+    ensures { λ r. ⌜ r ≡ checked x ⌝ }
+{
+    if is_finite(x) {
+        Worked::Number(x)
+    } else {
+        Worked::Failed
+    }
+}

@@ -4,5 +4,4 @@ pub mod Numbers
 pub mod Powers
 pub mod Exponentials
 pub mod Halvings
-pub mod Orders
-pub mod Roots
+pub mod Unique

@@ -1,7 +1,6 @@
 pub mod Number
+pub mod Constant
 pub mod Working
 pub mod Power
 pub mod Exponential
 pub mod Halving
-pub mod Exponent
-pub mod Root

@@ -1,8 +1,9 @@
 // The exponential (document 01, "How a number is worked").
 ghost use mathlib.Core.Path.{_≡_};
 ghost use Rattle.numeric.specs.Exponential.{exponential, falling};
-
-use crate::working::{Worked, checked, is_finite};
+use crate::working::Worked;
+use crate::working::checked;
+use crate::working::is_finite;
 
 // eˣ for x from −700 to 0.
 fn falling(x: f64) -> Worked

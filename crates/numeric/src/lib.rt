@@ -1,7 +1,6 @@
 // How a number is worked (document 01): every operation is an f64 operation rounded once, in a fixed order.
-pub mod exponent;
+pub mod constant;
 pub mod exponential;
 pub mod halving;
 pub mod power;
-pub mod root;
 pub mod working;

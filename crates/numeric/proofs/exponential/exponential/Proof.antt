@@ -42,7 +42,7 @@ falling-requires c κs = search needs
 
 returns-4 : tie.Need-returns-4
 unfolding exponential ofBits ofInt whole
-returns-4 c = 
+returns-4 c =
     let d = c .before in
     let f = sym (d .before .before .before .before .is-finite .ensures) ∙ d .before .before .before .if1 .taken in
     c .falling .ensures ∙ simp (exponential, f, d .before .before .if2 .left, d .before .if3 .left, d .if4 .taken)

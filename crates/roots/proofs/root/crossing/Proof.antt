@@ -5,11 +5,11 @@ use Prim.Native.Nat.{ℕ, _≤_, _<_, _-_, _+_}
 use native.Mathlib.Omega.{arith}
 use borrow.Author.Needs.{needs}
 use lib.Ieee.{Float}
 use Rattle.numeric.specs.Halving.{NotAbove, Above}
-use Rattle.numeric.specs.Root.{powerAt}
-use Rattle.numeric.proofs.Roots.{top, first-not-above, above-at, not-above-at, crossing-is, no-crossing}
-use Rattle.numeric.proofs.root.crossing.Statement.{statement}
-use Rattle.numeric.proofs.root.crossing.Tie as tie
+use Rattle.roots.specs.Root.{powerAt}
+use Rattle.roots.proofs.Roots.{top, first-not-above, above-at, not-above-at, crossing-is, no-crossing}
+use Rattle.roots.proofs.root.crossing.Statement.{statement}
+use Rattle.roots.proofs.root.crossing.Tie as tie
 
 record Bracket (k : ℕ) (t : Float) (lo hi width : ℕ) : Type 0 where
   apart : lo < hi

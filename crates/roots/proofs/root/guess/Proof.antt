@@ -1,12 +1,9 @@
 -- The guess is within the ends because it is tested; all else it owes is that no bits it makes or reads are a NaN's. Assumes nothing.
 use native.Mathlib.Omega.{arith}
 use borrow.Author.Needs.{needs}
 use Rattle.numeric.proofs.Numbers.{no-nan, nonneg-no-nan, less-no-nan, more-no-nan}
-use Rattle.numeric.proofs.root.guess.Statement.{statement}
-use Rattle.numeric.proofs.root.guess.Tie as tie
-use Rattle.numeric.proofs.root.guess.Reads as reads
-use Rattle.numeric.proofs.root.guess.Lts as lts
-use Rattle.numeric.proofs.power.whole_power.Reads as whole-power-reads
+use Rattle.roots.proofs.root.guess.Statement.{statement}
+use Rattle.roots.proofs.root.guess.Tie as tie
 
 float-to-bits-b : tie.Need-float-to-bits-b
 float-to-bits-b c = nonneg-no-nan (c .args .x) (c .pre)

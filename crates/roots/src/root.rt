@@ -5,14 +5,15 @@ ghost use mathlib.Core.Path.{_≡_};
 ghost use Prim.Native.Nat.{_+_, _≤_, _<_};
 ghost use lib.Dec.{T};
 ghost use lib.Ieee.{binary64, ofBits};
 ghost use Rattle.numeric.specs.Number.{nonneg};
 ghost use Rattle.numeric.specs.Power.{power};
-ghost use Rattle.numeric.specs.Root.{root, rootBits, searched};
-
+ghost use Rattle.roots.specs.Root.{root, rootBits, searched};
 use crate::exponent::Exponent;
-use crate::halving::Crossing;
-use crate::power::whole_power;
-use crate::working::{Worked, checked, is_finite};
+use numeric::halving::Crossing;
+use numeric::power::whole_power;
+use numeric::working::Worked;
+use numeric::working::checked;
+use numeric::working::is_finite;
 
 // The k-th whole power of the float with the bits b.
 fn power_at(b: u64, k: usize) -> f64
@@ -34,16 +35,21 @@ fn guess(x: f64, m: u32, k: u32, t: f64) -> u64
     let w = (z - 1.4142135623730951) / (z + 1.4142135623730951);
     let v = w * w;
     let high = 0.4121985831111324 + v * (0.3205988979753252 + v * 0.2623081892525388);
-    let series = 2.8853900817779268 + v * (0.9617966939259756 + v * (0.5770780163555853 + v * high));
-    let exponent = f64::from_bits(b / 0x0010_0000_0000_0000 % 2048 + 0x4330_0000_0000_0000) - 4503599627371519.0;
+    let series = 2.8853900817779268
+        + v * (0.9617966939259756 + v * (0.5770780163555853 + v * high));
+    let exponent = f64::from_bits(b / 0x0010_0000_0000_0000 % 2048 + 0x4330_0000_0000_0000)
+        - 4503599627371519.0;
     let l = (exponent + 0.5 + w * series) * ((m as f64) / (k as f64));
     // l is a whole number, which 1.5·2⁵² rounds it to, and f
     let n = l + 6755399441055744.0;
     if n < 9007199254740992.0 {
         let f = l - (n - 6755399441055744.0);
         let high = 0.00015403530393381606
-            + f * (0.000015252733804059838 + f * (0.0000013215486790144305 + f * 0.00000010178086009239696));
-        let middle = 0.05550410866482158 + f * (0.009618129107628477 + f * (0.0013333558146428441 + f * high));
+            + f
+                * (0.000015252733804059838
+                    + f * (0.0000013215486790144305 + f * 0.00000010178086009239696));
+        let middle = 0.05550410866482158
+            + f * (0.009618129107628477 + f * (0.0013333558146428441 + f * high));
         let part = 1.0 + f * (0.6931471805599453 + f * (0.2402265069591007 + f * middle));
         let e = (f64::to_bits(n) % 4096 + 1023) % 4096 % 2047;
         let y = f64::from_bits(e * 0x0010_0000_0000_0000) * part;
@@ -84,7 +90,11 @@ fn wider(width: u64) -> u64
     requires { ⌜ 0 < width ⌝ }
     ensures { λ r. ⌜ width ≤ r ⌝ }
 {
-    if width < 0x1000_0000_0000_0000 { width * 2 } else { width }
+    if width < 0x1000_0000_0000_0000 {
+        width * 2
+    } else {
+        width
+    }
 }
 
 // The bits, from those of 0 to those of 2²⁰, where the k-th whole power passes t.

@@ -6,25 +6,19 @@ use borrow.Author.Needs.{needs}
 use lib.Dec.{T}
 use lib.Ieee.{Float}
 use lib.Ieee.Scale.{finite}
 use Rattle.numeric.specs.declared.working.Worked.{Worked}
 use Rattle.numeric.specs.declared.halving.Crossing.the-variants.{At}
 use Rattle.numeric.specs.Number.{nonneg}
 use Rattle.numeric.specs.Power.{power}
 use Rattle.numeric.specs.Working.{checked, then}
-use Rattle.numeric.specs.Root.{searched, rootBits, rootOf}
+use Rattle.roots.specs.Root.{searched, rootBits, rootOf}
 use Rattle.numeric.proofs.Numbers.{infinity, no-nan}
 use Rattle.numeric.proofs.Powers.{checked-power}
 use Rattle.numeric.proofs.Workings.{checked-number}
-use Rattle.numeric.proofs.Orders.{power-plain}
-use Rattle.numeric.proofs.Roots.{crossing-below}
-use Rattle.numeric.proofs.root.searched.Statement.{statement}
-use Rattle.numeric.proofs.root.searched.Tie as tie
-use Rattle.numeric.proofs.root.searched.Reads as reads
-use Rattle.numeric.proofs.root.searched.Lts as lts
-use Rattle.numeric.proofs.power.whole_power.Reads as whole-power-reads
-use Rattle.numeric.proofs.root.crossing.Reads as crossing-reads
-use Rattle.numeric.proofs.root.guess.Reads as guess-reads
-use Rattle.numeric.proofs.working.checked.Reads as checked-reads
+use Rattle.roots.proofs.Orders.{power-plain}
+use Rattle.roots.proofs.Roots.{crossing-below}
+use Rattle.roots.proofs.root.searched.Statement.{statement}
+use Rattle.roots.proofs.root.searched.Tie as tie
 
 abbrev lookedFor : ℕ → Worked → Worked
 lookedFor k w = then w (λ t. rootOf (rootBits k t))

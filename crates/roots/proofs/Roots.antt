@@ -9,20 +9,20 @@ use lib.Dec.{T}
 use lib.Ieee.{Float, nan, inf, fin, binary64, ofBits, toBits, ofInt, up, down, lt, eq, mul}
 use lib.Ieee.Bits.{is-true}
 use lib.Ieee.Scale.{finite}
 use Rattle.numeric.specs.declared.working.Worked.{Worked}
 use Rattle.numeric.specs.declared.working.Worked.the-variants.{Number, Failed}
 use Rattle.numeric.specs.declared.halving.Crossing.the-variants.{At, Nowhere, Broke}
 use Rattle.numeric.specs.Number.{whole, nonneg}
 use Rattle.numeric.specs.Working.{checked, then}
 use Rattle.numeric.specs.Power.{power, _^ᵂ_}
 use Rattle.numeric.specs.Halving.{halve, NotAbove, Above, second-not-above, at-second}
-use Rattle.numeric.specs.Root.{powerAt, rootBits, rootOf, searched}
+use Rattle.roots.specs.Root.{powerAt, rootBits, rootOf, searched}
 use Rattle.numeric.proofs.Tables.{at}
 use Rattle.numeric.proofs.Numbers.{infinity}
 use Rattle.numeric.proofs.Workings.{checked-finite, checked-failed, checked-number}
 use Rattle.numeric.proofs.Powers.{power-next, checked-power}
 use Rattle.numeric.proofs.Halvings.{Rises, Works, answer, nowhere-back, breaks-back, unique-crossing}
-use Rattle.numeric.proofs.Orders.{Ordered, bits-mono, power-mono, never-falls}
+use Rattle.roots.proofs.Orders.{Ordered, bits-mono, power-mono, never-falls}
 
 -- the bits of 2²⁰
 abbrev pub top : ℕ

@@ -8,17 +8,13 @@ use borrow.Author.Tests.{lt-ltb, le-ltb}
 use lib.Dec.{ltb}
 use lib.Ieee.{ofBits, ofInt}
 use lib.Ieee.Scale.{finite}
 use Rattle.numeric.specs.declared.working.Worked.the-variants.{Failed}
 use Rattle.numeric.specs.Number.{whole}
-use Rattle.numeric.specs.Root.{root, searched}
+use Rattle.roots.specs.Root.{root, searched}
 use Rattle.numeric.proofs.Numbers.{above-0}
-use Rattle.numeric.proofs.Roots.{search-fails}
-use Rattle.numeric.proofs.root.root.Statement.{statement}
-use Rattle.numeric.proofs.root.root.Tie as tie
-use Rattle.numeric.proofs.root.root.Reads as reads
-use Rattle.numeric.proofs.root.root.Lts as lts
-use Rattle.numeric.proofs.root.searched.Reads as searched-reads
-use Rattle.numeric.proofs.working.is_finite.Reads as is-finite-reads
+use Rattle.roots.proofs.Roots.{search-fails}
+use Rattle.roots.proofs.root.root.Statement.{statement}
+use Rattle.roots.proofs.root.root.Tie as tie
 
 finite-so : (c : tie.Else4) → finite (c .before .before .before .before .before .args .x) ≡ true
 finite-so c = sym (c .before .before .before .is-finite .ensures) ∙ c .before .before .if2 .taken
@@ -34,7 +30,7 @@ rest c =
 
 returns : tie.Need-returns
 unfolding root
-returns c = 
+returns c =
     let e = c .before .args .e in
     simp (root, le-ltb (e .m) (2 * e .k) (omega arith))
 
@@ -43,24 +39,24 @@ is-finite-requires c κs = search needs
 
 returns-2 : tie.Need-returns-2
 unfolding root
-returns-2 c = 
+returns-2 c =
     let e = c .before .before .before .args .e in
     simp (root, lt-ltb (e .m) (2 * e .k) (omega arith), sym (c .before .is-finite .ensures) ∙ c .if2 .left)
 
 returns-3 : tie.Need-returns-3
 unfolding root ofBits ofInt whole
-returns-3 c = 
+returns-3 c =
     let e = c .before .before .before .before .args .e in
     simp (root, lt-ltb (e .m) (2 * e .k) (omega arith), sym (c .before .before .is-finite .ensures) ∙ c .before .if2 .taken, c .if3 .taken)
 
 returns-4 : tie.Need-returns-4
 unfolding root ofBits ofInt whole
-returns-4 c = 
+returns-4 c =
     let e = c .before .before .before .before .before .args .e in
     simp (root, lt-ltb (e .m) (2 * e .k) (omega arith), sym (c .before .before .before .is-finite .ensures) ∙ c .before .before .if2 .taken, c .before .if3 .left, c .if4 .taken)
 
 returns-5 : tie.Need-returns-5
-returns-5 c = 
+returns-5 c =
     let a = c .before .before .before .before .before .before .args in
     sym (rest (c .before) ∙ search-fails (a .e .m) (a .e .k) (a .x) (omega arith))
 

@@ -201,6 +201,14 @@ bits-mono b c l h =
       order = le-of-values (ofBits binary64 b) (ofBits binary64 c) (value b) (2 ^ 1074) (value c) (2 ^ 1074) (pow-pos 1074) (pow-pos 1074) x y
           (mul-le-mul-right (2 ^ 1074) (val-mono (b / 4503599627370496) (b % 4503599627370496) (c / 4503599627370496) (c % 4503599627370496) (omega arith) (omega arith) (λ e. omega arith)));
     }
+
+pub bits-finite : (b : ℕ) → b < infinity → T (finite (ofBits binary64 b))
+bits-finite b h = go (ofBits binary64 b) (bits-mono b b (le-of-eq refl) h .first)
+  where
+    go : (x : Float) → T (nonneg x) → T (finite x)
+    go nan p = p
+    go (inf s) p = p
+    go (fin s m e) p = tt
 
 -- ---- a number against an order
 lt-cross : (t x : Float) → T (nonneg t) → T (nonneg x) → lt t x ≡ true → num t * den x < num x * den t

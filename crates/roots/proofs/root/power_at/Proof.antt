@@ -1,11 +1,8 @@
 -- The bits are below the infinity's, so they are no NaN's. Assumes nothing.
 use borrow.Author.Needs.{needs}
 use Rattle.numeric.proofs.Numbers.{no-nan}
-use Rattle.numeric.proofs.root.power_at.Statement.{statement}
-use Rattle.numeric.proofs.root.power_at.Tie as tie
-use Rattle.numeric.proofs.root.power_at.Reads as reads
-use Rattle.numeric.proofs.root.power_at.Lts as lts
-use Rattle.numeric.proofs.power.whole_power.Reads as whole-power-reads
+use Rattle.roots.proofs.root.power_at.Statement.{statement}
+use Rattle.roots.proofs.root.power_at.Tie as tie
 
 float-from-bits-whole-power : tie.Need-float-from-bits-whole-power
 float-from-bits-whole-power c = no-nan (c .args .b) (c .pre)

@@ -1,0 +1,47 @@
+-- No second answer meets a public function's promise. `Post` is the function's own `ensures`, read at a call. Assumes nothing.
+use mathlib.Core.Path.{_≡_, sym, _∙_}
+use mathlib.Core.Bool.{Bool}
+use mathlib.Core.List.{List}
+use lib.Ieee.{Float}
+use Rattle.numeric.specs.declared.working.Worked.{Worked}
+use Rattle.numeric.specs.declared.constant.Constants.{Constants}
+use Rattle.numeric.proofs.constant.span_wagner.Reads as span-wagner
+use Rattle.numeric.proofs.exponential.exponential.Reads as exponential
+use Rattle.numeric.proofs.power.powers_to_3.Reads as powers-to-3
+use Rattle.numeric.proofs.power.powers_to_10.Reads as powers-to-10
+use Rattle.numeric.proofs.power.powers_to_28.Reads as powers-to-28
+use Rattle.numeric.proofs.power.whole_power.Reads as whole-power
+use Rattle.numeric.proofs.working.checked.Reads as checked
+use Rattle.numeric.proofs.working.is_finite.Reads as is-finite
+
+-- two answers to one call are equal, whatever else the call left
+abbrev pub OneAnswer : {A S : Type 0} (R : Type 0) → (A → R → S → Type 0) → Type 0
+OneAnswer {A} {S} R Post = (a : A) (r s : R) (x y : S) → Post a r x → Post a s y → r ≡ s
+
+-- as a promise that is an equation always has it
+pub by-equation : {R : Type 0} {r s d : R} → r ≡ d → s ≡ d → r ≡ s
+by-equation p q = p ∙ sym q
+
+pub is-finite-once : OneAnswer Bool (is-finite.Post tt)
+is-finite-once a r s x y = by-equation
+
+pub checked-once : OneAnswer Worked (checked.Post tt)
+checked-once a r s x y = by-equation
+
+pub whole-power-once : OneAnswer Float (whole-power.Post tt)
+whole-power-once a r s x y = by-equation
+
+pub powers-to-3-once : OneAnswer (List Float) (powers-to-3.Post tt)
+powers-to-3-once a r s x y = by-equation
+
+pub powers-to-10-once : OneAnswer (List Float) (powers-to-10.Post tt)
+powers-to-10-once a r s x y = by-equation
+
+pub powers-to-28-once : OneAnswer (List Float) (powers-to-28.Post tt)
+powers-to-28-once a r s x y = by-equation
+
+pub exponential-once : OneAnswer Worked (exponential.Post tt)
+exponential-once a r s x y = by-equation
+
+pub span-wagner-once : OneAnswer Constants (span-wagner.Post tt)
+span-wagner-once a r s x y = by-equation

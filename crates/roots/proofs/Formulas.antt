@@ -1,0 +1,175 @@
+-- A formula worked in plain f64 and tested once at its end is the formula worked with a test of every number, where the divisors are finite.
+-- Assumes nothing.
+use Prim.Native.Nat.{ℕ, zero, suc, _*_}
+use mathlib.Core.Path.{_≡_, refl, sym, ap, _∙_, subst}
+use mathlib.Core.Bool.{Bool, true, false, not, _&&_, cond}
+use native.Mathlib.Omega.{arith}
+use lib.Dec.{T, ltb, eqb}
+use lib.IntN.{ℤ}
+use lib.Ieee as Ieee
+use lib.Ieee.{Float, nan, inf, fin, binary64}
+use lib.Ieee.Fits.{and-l, and-r}
+use lib.Ieee.Scale.{finite}
+use Rattle.numeric.specs.Number.{whole}
+use Rattle.numeric.specs.Working.{checked, then, pick, both, _+ᵂ_, _-ᵂ_, _*ᵂ_, _/ᵂ_}
+use Rattle.numeric.specs.Power.{power, _^ᵂ_}
+use Rattle.numeric.specs.Exponential.{exponential, falling, squared, series}
+use Rattle.roots.specs.Root as Root
+use Rattle.roots.specs.Root.{rootBits, rootOf, searched}
+use Rattle.roots.specs.Formula.{Formula, num, _⊕_, _⊖_, _⊗_, _⊘_, _^^_, minus, size, e^, root, absolute, work}
+use Rattle.numeric.specs.declared.working.Worked.{Worked}
+use Rattle.numeric.specs.declared.working.Worked.the-variants.{Number, Failed}
+use Rattle.numeric.specs.declared.halving.Crossing.{Crossing}
+use Rattle.numeric.specs.declared.halving.Crossing.the-variants.{At, Nowhere, Broke}
+use Rattle.roots.specs.declared.exponent.Exponent.{Exponent}
+use Rattle.numeric.proofs.Workings.{checked-add, checked-sub, checked-mul, checked-div}
+use Rattle.numeric.proofs.Powers.{checked-power}
+use Rattle.roots.proofs.Orders.{bits-finite}
+use Rattle.roots.proofs.Roots.{crossing-below}
+
+-- ---- what was worked is finite
+abbrev pub sound : Worked → Bool
+sound (Number x) = finite x
+sound Failed = true
+
+checked-sound : (x : Float) → T (sound (checked x))
+checked-sound nan = tt
+checked-sound (inf s) = tt
+checked-sound (fin s m e) = tt
+
+both-sound : (op : Float → Float → Float) (v w : Worked) → T (sound (both op v w))
+both-sound op Failed w = tt
+both-sound op (Number x) Failed = tt
+both-sound op (Number x) (Number y) = checked-sound (op x y)
+
+pick-sound : (b : Bool) (v w : Worked) → T (sound v) → T (sound w) → T (sound (pick b v w))
+pick-sound true v w p q = p
+pick-sound false v w p q = q
+
+squared-sound : (n : ℕ) (s : Worked) → T (sound (squared (suc n) s))
+unfolding squared _*ᵂ_
+squared-sound zero s = both-sound (Ieee.mul binary64) s s
+squared-sound (suc n) s = squared-sound n (s *ᵂ s)
+
+falling-sound : (x : Float) → T (sound (falling x))
+unfolding falling
+falling-sound x = squared-sound 9 (series (checked (Ieee.neg x) /ᵂ checked (whole 1024)) 14 (checked (whole 1)))
+
+pub exponential-sound : (x : Float) → T (sound (exponential x))
+unfolding exponential whole Ieee.ofInt _/ᵂ_
+exponential-sound x =
+    pick-sound (finite x) _ Failed
+    (pick-sound (Ieee.lt x (Ieee.neg (whole 700))) _ _ tt
+    (pick-sound (Ieee.lt (whole 700) x) _ _ tt
+    (pick-sound (Ieee.le x (whole 0)) _ _ (falling-sound x) (both-sound (Ieee.div binary64) (checked (whole 1)) (falling (Ieee.neg x)))))) tt
+
+found-sound : (k : ℕ) (t : Float) (c : Crossing) → rootBits k t ≡ c → T (sound (rootOf c))
+found-sound k t (At b) e = bits-finite b (crossing-below k t b e)
+found-sound k t Nowhere e = tt
+found-sound k t Broke e = tt
+
+searched-sound : (m k : ℕ) (x : Float) → T (sound (searched m k x))
+unfolding searched
+searched-sound m k x = go (checked x ^ᵂ m)
+  where
+    go : (w : Worked) → T (sound (then w (λ t. rootOf (rootBits k t))))
+    go Failed = tt
+    go (Number t) = found-sound k t (rootBits k t) refl
+
+pub root-sound : (e : Exponent) (x : Float) → T (sound (Root.root e x))
+unfolding Root.root whole Ieee.ofInt
+root-sound e x =
+    pick-sound (ltb (e .m) (2 * e .k)) _ Failed
+    (pick-sound (finite x) _ Failed
+    (pick-sound (Ieee.lt x (whole 0)) _ _ tt
+    (pick-sound (Ieee.eq x (whole 0)) _ _ tt (searched-sound (e .m) (e .k) x))) tt) tt
+
+-- ---- plain f64: a failure is a NaN
+abbrev pub number : Worked → Float
+number (Number x) = x
+number Failed = nan
+
+unfoldable pub value : Formula → Float
+value (num x) = x
+value (a ⊕ b) = Ieee.add binary64 (value a) (value b)
+value (a ⊖ b) = Ieee.sub binary64 (value a) (value b)
+value (a ⊗ b) = Ieee.mul binary64 (value a) (value b)
+value (a ⊘ b) = Ieee.div binary64 (value a) (value b)
+value (a ^^ n) = power (value a) n
+value (minus a) = Ieee.neg (value a)
+value (size a) = absolute (value a)
+value (e^ a) = number (exponential (value a))
+value (root e a) = number (Root.root e (value a))
+
+-- every divisor is finite
+unfoldable pub steady : Formula → Bool
+steady (num x) = true
+steady (a ⊕ b) = steady a && steady b
+steady (a ⊖ b) = steady a && steady b
+steady (a ⊗ b) = steady a && steady b
+steady (a ⊘ b) = steady a && (steady b && finite (value b))
+steady (a ^^ n) = steady a
+steady (minus a) = steady a
+steady (size a) = steady a
+steady (e^ a) = steady a
+steady (root e a) = steady a
+
+-- ---- an operation of one number
+checked-number-of : (w : Worked) → T (sound w) → checked (number w) ≡ w
+checked-number-of Failed s = refl
+checked-number-of (Number nan) s = absurd s
+checked-number-of (Number (inf b)) s = absurd s
+checked-number-of (Number (fin b m e)) s = refl
+
+checked-neg : (x : Float) → checked (Ieee.neg x) ≡ then (checked x) (λ y. Number (Ieee.neg y))
+unfolding Ieee.neg
+checked-neg nan = refl
+checked-neg (inf s) = refl
+checked-neg (fin s m e) = refl
+
+either-finite : (b s : Bool) (m : ℕ) (e : ℤ) → checked (cond b (fin (not s) m e) (fin s m e)) ≡ Number (cond b (fin (not s) m e) (fin s m e))
+either-finite true s m e = refl
+either-finite false s m e = refl
+
+checked-absolute : (x : Float) → checked (absolute x) ≡ then (checked x) (λ y. Number (absolute y))
+unfolding absolute Ieee.lt Ieee.neg whole Ieee.ofInt
+checked-absolute nan = refl
+checked-absolute (inf true) = refl
+checked-absolute (inf false) = refl
+checked-absolute (fin s m e) = either-finite (Ieee.lt (fin s m e) (whole 0)) s m e
+
+-- an operation that refuses what is not finite, and whose answers are finite
+checked-refusing : (f : Float → Worked) → ((x : Float) → T (sound (f x))) → f nan ≡ Failed → ((s : Bool) → f (inf s) ≡ Failed) → (x : Float) → checked (number (f x)) ≡ then (checked x) f
+checked-refusing f s n i nan = ap (λ (w : Worked). checked (number w)) n
+checked-refusing f s n i (inf b) = ap (λ (w : Worked). checked (number w)) (i b)
+checked-refusing f s n i (fin b m e) = checked-number-of (f (fin b m e)) (s (fin b m e))
+
+checked-exponential : (x : Float) → checked (number (exponential x)) ≡ then (checked x) exponential
+unfolding exponential
+checked-exponential = checked-refusing exponential exponential-sound refl (λ s. refl)
+
+either-failed : (b : Bool) → pick b Failed Failed ≡ Failed
+either-failed true = refl
+either-failed false = refl
+
+checked-root : (e : Exponent) (x : Float) → checked (number (Root.root e x)) ≡ then (checked x) (Root.root e)
+unfolding Root.root
+checked-root e = checked-refusing (Root.root e) (root-sound e) (either-failed (ltb (e .m) (2 * e .k))) (λ s. either-failed (ltb (e .m) (2 * e .k)))
+
+-- ---- so one test, of the last number, stands for all
+pub once : (e : Formula) → T (steady e) → checked (value e) ≡ work e
+unfolding value work steady
+once (num x) s = refl
+once (a ⊕ b) s = checked-add (value a) (value b) ∙ ap (λ (w : Worked). w +ᵂ checked (value b)) (once a (and-l (steady a) (steady b) s)) ∙ ap (λ (w : Worked). work a +ᵂ w) (once b (and-r (steady a) (steady b) s))
+once (a ⊖ b) s = checked-sub (value a) (value b) ∙ ap (λ (w : Worked). w -ᵂ checked (value b)) (once a (and-l (steady a) (steady b) s)) ∙ ap (λ (w : Worked). work a -ᵂ w) (once b (and-r (steady a) (steady b) s))
+once (a ⊗ b) s = checked-mul (value a) (value b) ∙ ap (λ (w : Worked). w *ᵂ checked (value b)) (once a (and-l (steady a) (steady b) s)) ∙ ap (λ (w : Worked). work a *ᵂ w) (once b (and-r (steady a) (steady b) s))
+once (a ⊘ b) s =
+    let r = and-r (steady a) (steady b && finite (value b)) s in
+    checked-div (value a) (value b) (and-r (steady b) (finite (value b)) r)
+    ∙ ap (λ (w : Worked). w /ᵂ checked (value b)) (once a (and-l (steady a) (steady b && finite (value b)) s))
+    ∙ ap (λ (w : Worked). work a /ᵂ w) (once b (and-l (steady b) (finite (value b)) r))
+once (a ^^ n) s = checked-power (value a) n ∙ ap (λ (w : Worked). w ^ᵂ n) (once a s)
+once (minus a) s = checked-neg (value a) ∙ ap (λ (w : Worked). then w (λ x. Number (Ieee.neg x))) (once a s)
+once (size a) s = checked-absolute (value a) ∙ ap (λ (w : Worked). then w (λ x. Number (absolute x))) (once a s)
+once (e^ a) s = checked-exponential (value a) ∙ ap (λ (w : Worked). then w exponential) (once a s)
+once (root e a) s = checked-root e (value a) ∙ ap (λ (w : Worked). then w (Root.root e)) (once a s)

@@ -1,0 +1,6 @@
+pub mod Exponents
+pub mod Orders
+pub mod Roots
+pub mod Formulas
+pub mod Readings
+pub mod Unique

@@ -1,0 +1,41 @@
+-- Formulas, and how one is worked: a number that is not finite anywhere on the way, or a root or exponential that is refused, fails the whole
+-- (document 01, refusal 7). Definitions only.
+use Prim.Native.Nat.{ℕ}
+use mathlib.Core.Bool.{cond}
+use lib.Ieee as Ieee
+use lib.Ieee.{Float}
+use Rattle.numeric.specs.Number.{whole}
+use Rattle.numeric.specs.Working.{checked, then, _+ᵂ_, _-ᵂ_, _*ᵂ_, _/ᵂ_}
+use Rattle.numeric.specs.Power.{_^ᵂ_}
+use Rattle.numeric.specs.Exponential.{exponential}
+use Rattle.roots.specs.Root as Root
+use Rattle.numeric.specs.declared.working.Worked.{Worked}
+use Rattle.numeric.specs.declared.working.Worked.the-variants.{Number}
+use Rattle.roots.specs.declared.exponent.Exponent.{Exponent}
+
+infixl 6 _⊕_ _⊖_
+infixl 7 _⊗_ _⊘_
+infixl 8 _^^_
+pub data Formula : Type 0 where
+  num : Float → Formula
+  _⊕_ _⊖_ _⊗_ _⊘_ : Formula → Formula → Formula
+  _^^_ : Formula → ℕ → Formula
+  minus size e^ : Formula → Formula
+  root : Exponent → Formula → Formula
+
+-- |x|: x, or −x where x is below 0
+unfoldable pub absolute : Float → Float
+absolute x = cond (Ieee.lt x (whole 0)) (Ieee.neg x) x
+
+-- every operation is an f64 operation rounded once, in the order in which the formula is written
+unfoldable pub work : Formula → Worked
+work (num x) = checked x
+work (a ⊕ b) = work a +ᵂ work b
+work (a ⊖ b) = work a -ᵂ work b
+work (a ⊗ b) = work a *ᵂ work b
+work (a ⊘ b) = work a /ᵂ work b
+work (a ^^ n) = work a ^ᵂ n
+work (minus a) = then (work a) (λ x. Number (Ieee.neg x))
+work (size a) = then (work a) (λ x. Number (absolute x))
+work (e^ a) = then (work a) exponential
+work (root e a) = then (work a) (Root.root e)

@@ -1,0 +1,4 @@
+pub mod Exponent
+pub mod Root
+pub mod Formula
+pub mod Readings

@@ -5,8 +5,8 @@ use Rattle.numeric.specs.declared.constant.Constants.{Constants}
 -- "Critical temperature 304.1282 K, critical density 467.6 kg/m³, gas constant 188.9241 J/(kg K), critical pressure 7.3773 MPa."
 unfoldable pub spanWagner : Constants
 spanWagner = record {
-  critical-temperature = decimal 3041282 4;
-  critical-density = decimal 4676 1;
-  gas-constant = decimal 1889241 4;
-  critical-pressure = whole 7377300;
+  temperature = decimal 3041282 4;
+  density = decimal 4676 1;
+  gas = decimal 1889241 4;
+  pressure = whole 7377300;
 }

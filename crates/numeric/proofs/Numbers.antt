@@ -39,7 +39,13 @@ no-nan b h =
     let e = nanBits-above binary64 b ∙ ap (ltb infinity) m ∙ le-ltb infinity b (omega arith) in
     subst (λ (t : Bool). T (not t)) (sym e) tt
 
--- a number with no minus sign, or that is less than another or more, is no NaN
+-- a number that is finite, has no minus sign, or is less than another or more, is no NaN
+pub finite-no-nan : (x : Float) → finite x ≡ true → T (not (isNan x))
+unfolding isNan
+finite-no-nan nan h = absurd (true≢false (sym h))
+finite-no-nan (inf s) h = tt
+finite-no-nan (fin s m e) h = tt
+
 pub nonneg-no-nan : (x : Float) → T (nonneg x) → T (not (isNan x))
 unfolding isNan
 nonneg-no-nan nan h = absurd h

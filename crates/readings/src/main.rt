@@ -1,0 +1,132 @@
+// The readings of document 01 that are run, and exponentials and roots whose bits were worked elsewhere
+// (crosscheck/numerics.py): one a line, numbers as the sixteen hexadecimal digits of their bits.
+use libc::STDOUT_FILENO;
+use numeric::exponential::exponential;
+use numeric::power::whole_power;
+use numeric::working::Worked;
+use numeric::working::is_finite;
+use roots::exponent::Exponent;
+use roots::root::root;
+
+fn say(text: &[u8]) {
+    io::write_all(STDOUT_FILENO, text);
+}
+
+fn show(x: f64) {
+    if is_finite(x) {
+        io::print_hex(STDOUT_FILENO, f64::to_bits(x), 16);
+    } else {
+        say(b"not finite");
+    }
+}
+
+fn tell(w: Worked) {
+    say(b" is ");
+    match w {
+        Worked::Number(x) => show(x),
+        Worked::Failed => say(b"refused"),
+    }
+    say(b"\n");
+}
+
+fn e_to(x: f64) {
+    say(b"e to ");
+    show(x);
+    tell(exponential(x));
+}
+
+fn root_of(x: f64, m: usize, k: usize) {
+    say(b"root ");
+    io::print_decimal(STDOUT_FILENO, m as u64);
+    say(b"/");
+    io::print_decimal(STDOUT_FILENO, k as u64);
+    say(b" of ");
+    show(x);
+    tell(root(x, Exponent { m, k }));
+}
+
+fn power_of(x: f64, n: usize) {
+    say(b"power ");
+    io::print_decimal(STDOUT_FILENO, n as u64);
+    say(b" of ");
+    show(x);
+    tell(Worked::Number(whole_power(x, n)));
+}
+
+fn exponentials() {
+    e_to(0.0);
+    e_to(-0.0);
+    e_to(-701.0);
+    e_to(-700.0);
+    e_to(700.0);
+    e_to(700.0000000000001);
+    e_to(1.0 / 0.0);
+    e_to(0.0 / 0.0);
+    e_to(1.0);
+    e_to(-1.0);
+    e_to(-0.0001220703125);
+    e_to(-36.5);
+    e_to(0.3);
+    e_to(12.25);
+    e_to(-123.456);
+    e_to(650.1);
+    e_to(-1e-300);
+}
+
+fn roots_of(x: f64) {
+    root_of(x, 1, 2);
+    root_of(x, 1, 3);
+    root_of(x, 2, 3);
+    root_of(x, 3, 2);
+    root_of(x, 5, 3);
+    root_of(x, 11, 6);
+    root_of(x, 7, 8);
+    root_of(x, 37, 40);
+    root_of(x, 17, 50);
+}
+
+fn edges() {
+    root_of(4.0, 1, 2);
+    root_of(0.0, 1, 2);
+    root_of(-0.0, 17, 50);
+    root_of(1.0, 1, 2);
+    root_of(-1.0, 1, 2);
+    root_of(1.0 / 0.0, 1, 2);
+    root_of(0.0 / 0.0, 1, 2);
+    root_of(2.0, 2, 1);
+    root_of(2.0, 0, 0);
+    root_of(2.0, 0, 1);
+    root_of(2.0, 1, 51);
+    root_of(2.0, 1, 52);
+    root_of(0.0, 1, 52);
+    root_of(1099511627775.9999, 1, 2);
+    root_of(1099511627776.0, 1, 2);
+    root_of(5e-324, 1, 2);
+    root_of(5e-324, 3, 2);
+    root_of(1e-200, 5, 3);
+    root_of(1e-308, 37, 40);
+    root_of(1e300, 3, 2);
+    root_of(1e-17, 2, 3);
+}
+
+fn powers() {
+    power_of(2.0, 10);
+    power_of(0.1, 0);
+    power_of(0.1, 1);
+    power_of(1.1, 10);
+    power_of(1.3972, 28);
+    power_of(1e200, 2);
+}
+
+fn main() {
+    powers();
+    exponentials();
+    edges();
+    roots_of(0.000001);
+    roots_of(0.0712890625);
+    roots_of(0.7);
+    roots_of(1.0);
+    roots_of(1.4042);
+    roots_of(17.77);
+    roots_of(1000.0);
+}

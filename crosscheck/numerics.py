@@ -1,0 +1,105 @@
+#!/usr/bin/env python3
+"""The numerics worked a second time, from document 01 alone: prints what the program `readings` must print.
+
+Each operation is one Python float operation, which is the same f64 operation. Roots halve as document 01 says, with no guess.
+    crosscheck/numerics.py | diff - crates/readings/stdout
+"""
+import math
+import struct
+
+
+def bits(x):
+    return struct.unpack("<Q", struct.pack("<d", x))[0]
+
+
+def number(b):
+    return struct.unpack("<d", struct.pack("<Q", b))[0]
+
+
+def power(x, n):
+    if n == 0:
+        return 1.0
+    p = x
+    for _ in range(n - 1):
+        p = p * x
+    return p
+
+
+def exponential(x):
+    if not math.isfinite(x):
+        return None
+    if x < -700.0:
+        return 0.0
+    if x > 700.0:
+        return None
+    if x <= 0.0:
+        y = (-x) / 1024.0
+        s = 1.0
+        for k in range(14, 0, -1):
+            s = 1.0 - (y / k) * s
+        for _ in range(10):
+            s = s * s
+        return s
+    return 1.0 / exponential(-x)
+
+
+def halve(figure, target, lo, hi):
+    """The bits of the crossing; 'no crossing'; or None where a figure is not finite."""
+    if lo >= hi:
+        return "no crossing"
+    first = figure(lo)
+    if not math.isfinite(first):
+        return None
+    second = figure(hi)
+    if not math.isfinite(second):
+        return None
+    if first > target or not second > target:
+        return "no crossing"
+    while hi != lo + 1:
+        mid = lo + (hi - lo) // 2
+        f = figure(mid)
+        if not math.isfinite(f):
+            return None
+        if f > target:
+            hi = mid
+        else:
+            lo = mid
+    return lo
+
+
+def root(x, m, k):
+    if not m < 2 * k or not math.isfinite(x) or x < 0.0:
+        return None
+    if x == 0.0:
+        return 0.0
+    target = power(x, m)
+    if not math.isfinite(target):
+        return None
+    found = halve(lambda b: power(number(b), k), target, bits(0.0), bits(2.0**20))
+    return number(found) if isinstance(found, int) else None
+
+
+def show(x):
+    return "%016x" % bits(x) if math.isfinite(x) else "not finite"
+
+
+def tell(w):
+    return "refused" if w is None else show(w)
+
+
+def main():
+    for x, n in [(2.0, 10), (0.1, 0), (0.1, 1), (1.1, 10), (1.3972, 28), (1e200, 2)]:
+        print(f"power {n} of {show(x)} is {tell(power(x, n))}")
+    inf, nan = float("inf"), float("nan")
+    for x in [0.0, -0.0, -701.0, -700.0, 700.0, 700.0000000000001, inf, nan, 1.0, -1.0, -0.0001220703125, -36.5, 0.3, 12.25, -123.456, 650.1, -1e-300]:
+        print(f"e to {show(x)} is {tell(exponential(x))}")
+    edges = [(4.0, 1, 2), (0.0, 1, 2), (-0.0, 17, 50), (1.0, 1, 2), (-1.0, 1, 2), (inf, 1, 2), (nan, 1, 2), (2.0, 2, 1), (2.0, 0, 0), (2.0, 0, 1), (2.0, 1, 51),
+             (2.0, 1, 52), (0.0, 1, 52), (1099511627775.9999, 1, 2), (1099511627776.0, 1, 2), (5e-324, 1, 2), (5e-324, 3, 2), (1e-200, 5, 3), (1e-308, 37, 40),
+             (1e300, 3, 2), (1e-17, 2, 3)]
+    exponents = [(1, 2), (1, 3), (2, 3), (3, 2), (5, 3), (11, 6), (7, 8), (37, 40), (17, 50)]
+    spread = [(x, m, k) for x in [0.000001, 0.0712890625, 0.7, 1.0, 1.4042, 17.77, 1000.0] for m, k in exponents]
+    for x, m, k in edges + spread:
+        print(f"root {m}/{k} of {show(x)} is {tell(root(x, m, k))}")
+
+
+main()

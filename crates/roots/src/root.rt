@@ -76,11 +76,13 @@ fn probe(lo: u64, hi: u64, guess: u64, width: u64) -> u64
             return guess;
         }
     }
-    if width < hi - lo {
+    // width is 1 at the guess and then 2, 4, ..: the steps are 1, 2, ..
+    let step = width - width / 2;
+    if step < hi - lo {
         if guess <= lo {
-            return lo + width;
+            return lo + step;
         }
-        return hi - width;
+        return hi - step;
     }
     lo + (hi - lo) / 2
 }

@@ -13,6 +13,7 @@ use Rattle.numeric.proofs.power.powers_to_28.Reads as powers-to-28
 use Rattle.numeric.proofs.power.whole_power.Reads as whole-power
 use Rattle.numeric.proofs.working.checked.Reads as checked
 use Rattle.numeric.proofs.working.is_finite.Reads as is-finite
+use Rattle.numeric.proofs.working.plain.Reads as plain
 
 -- two answers to one call are equal, whatever else the call left
 abbrev pub OneAnswer : {A S : Type 0} (R : Type 0) → (A → R → S → Type 0) → Type 0
@@ -27,6 +28,9 @@ is-finite-once a r s x y = by-equation
 
 pub checked-once : OneAnswer Worked (checked.Post tt)
 checked-once a r s x y = by-equation
+
+pub plain-once : OneAnswer Float (plain.Post tt)
+plain-once a r s x y = by-equation
 
 pub whole-power-once : OneAnswer Float (whole-power.Post tt)
 whole-power-once a r s x y = by-equation

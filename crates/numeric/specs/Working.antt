@@ -11,6 +11,11 @@ checked nan = Failed
 checked (inf s) = Failed
 checked (fin s m e) = Number (fin s m e)
 
+-- as a plain f64: a failure is a NaN, which +, −, × and ÷ hand on to whatever is worked from it
+abbrev pub plain : Worked → Float
+plain Failed = nan
+plain (Number x) = x
+
 -- what is worked from a number, failed where the number has
 abbrev pub then : Worked → (Float → Worked) → Worked
 then Failed f = Failed

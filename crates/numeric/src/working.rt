@@ -1,7 +1,7 @@
 // A number that was worked is finite, or the working has failed (document 01, refusal 7).
 ghost use mathlib.Core.Path.{_≡_};
 ghost use lib.Ieee.Scale.{finite};
-ghost use Rattle.numeric.specs.Working.{checked};
+ghost use Rattle.numeric.specs.Working.{checked, plain};
 
 pub enum Worked {
     Number(f64),
@@ -23,5 +23,15 @@ pub fn checked(x: f64) -> Worked
         Worked::Number(x)
     } else {
         Worked::Failed
+    }
+}
+
+// For a formula that goes on in plain f64 and is tested at its end.
+pub fn plain(w: Worked) -> f64
+    ensures { λ r. ⌜ r ≡ plain w ⌝ }
+{
+    match w {
+        Worked::Number(x) => x,
+        Worked::Failed => 0.0 / 0.0,
     }
 }

@@ -11,12 +11,12 @@ use lib.Ieee.{Float, nan, inf, fin, binary64}
 use lib.Ieee.Fits.{and-l, and-r}
 use lib.Ieee.Scale.{finite}
 use Rattle.numeric.specs.Number.{whole}
-use Rattle.numeric.specs.Working.{checked, then, pick, both, _+ᵂ_, _-ᵂ_, _*ᵂ_, _/ᵂ_}
+use Rattle.numeric.specs.Working.{checked, plain, then, pick, both, _+ᵂ_, _-ᵂ_, _*ᵂ_, _/ᵂ_}
 use Rattle.numeric.specs.Power.{power, _^ᵂ_}
 use Rattle.numeric.specs.Exponential.{exponential, falling, squared, series}
 use Rattle.roots.specs.Root as Root
 use Rattle.roots.specs.Root.{rootBits, rootOf, searched}
-use Rattle.roots.specs.Formula.{Formula, num, _⊕_, _⊖_, _⊗_, _⊘_, _^^_, minus, size, e^, root, absolute, work}
+use Rattle.roots.specs.Formula.{Formula, num, _⊕_, _⊖_, _⊗_, _⊘_, _^^_, minus, size, e^, root, absolute, value, work}
 use Rattle.numeric.specs.declared.working.Worked.{Worked}
 use Rattle.numeric.specs.declared.working.Worked.the-variants.{Number, Failed}
 use Rattle.numeric.specs.declared.halving.Crossing.{Crossing}
@@ -84,23 +84,6 @@ root-sound e x =
     (pick-sound (Ieee.lt x (whole 0)) _ _ tt
     (pick-sound (Ieee.eq x (whole 0)) _ _ tt (searched-sound (e .m) (e .k) x))) tt) tt
 
--- ---- plain f64: a failure is a NaN
-abbrev pub number : Worked → Float
-number (Number x) = x
-number Failed = nan
-
-unfoldable pub value : Formula → Float
-value (num x) = x
-value (a ⊕ b) = Ieee.add binary64 (value a) (value b)
-value (a ⊖ b) = Ieee.sub binary64 (value a) (value b)
-value (a ⊗ b) = Ieee.mul binary64 (value a) (value b)
-value (a ⊘ b) = Ieee.div binary64 (value a) (value b)
-value (a ^^ n) = power (value a) n
-value (minus a) = Ieee.neg (value a)
-value (size a) = absolute (value a)
-value (e^ a) = number (exponential (value a))
-value (root e a) = number (Root.root e (value a))
-
 -- every divisor is finite
 unfoldable pub steady : Formula → Bool
 steady (num x) = true
@@ -115,11 +98,11 @@ steady (e^ a) = steady a
 steady (root e a) = steady a
 
 -- ---- an operation of one number
-checked-number-of : (w : Worked) → T (sound w) → checked (number w) ≡ w
-checked-number-of Failed s = refl
-checked-number-of (Number nan) s = absurd s
-checked-number-of (Number (inf b)) s = absurd s
-checked-number-of (Number (fin b m e)) s = refl
+checked-plain : (w : Worked) → T (sound w) → checked (plain w) ≡ w
+checked-plain Failed s = refl
+checked-plain (Number nan) s = absurd s
+checked-plain (Number (inf b)) s = absurd s
+checked-plain (Number (fin b m e)) s = refl
 
 checked-neg : (x : Float) → checked (Ieee.neg x) ≡ then (checked x) (λ y. Number (Ieee.neg y))
 unfolding Ieee.neg
@@ -139,12 +122,12 @@ checked-absolute (inf false) = refl
 checked-absolute (fin s m e) = either-finite (Ieee.lt (fin s m e) (whole 0)) s m e
 
 -- an operation that refuses what is not finite, and whose answers are finite
-checked-refusing : (f : Float → Worked) → ((x : Float) → T (sound (f x))) → f nan ≡ Failed → ((s : Bool) → f (inf s) ≡ Failed) → (x : Float) → checked (number (f x)) ≡ then (checked x) f
-checked-refusing f s n i nan = ap (λ (w : Worked). checked (number w)) n
-checked-refusing f s n i (inf b) = ap (λ (w : Worked). checked (number w)) (i b)
-checked-refusing f s n i (fin b m e) = checked-number-of (f (fin b m e)) (s (fin b m e))
+checked-refusing : (f : Float → Worked) → ((x : Float) → T (sound (f x))) → f nan ≡ Failed → ((s : Bool) → f (inf s) ≡ Failed) → (x : Float) → checked (plain (f x)) ≡ then (checked x) f
+checked-refusing f s n i nan = ap (λ (w : Worked). checked (plain w)) n
+checked-refusing f s n i (inf b) = ap (λ (w : Worked). checked (plain w)) (i b)
+checked-refusing f s n i (fin b m e) = checked-plain (f (fin b m e)) (s (fin b m e))
 
-checked-exponential : (x : Float) → checked (number (exponential x)) ≡ then (checked x) exponential
+checked-exponential : (x : Float) → checked (plain (exponential x)) ≡ then (checked x) exponential
 unfolding exponential
 checked-exponential = checked-refusing exponential exponential-sound refl (λ s. refl)
 
@@ -152,7 +135,7 @@ either-failed : (b : Bool) → pick b Failed Failed ≡ Failed
 either-failed true = refl
 either-failed false = refl
 
-checked-root : (e : Exponent) (x : Float) → checked (number (Root.root e x)) ≡ then (checked x) (Root.root e)
+checked-root : (e : Exponent) (x : Float) → checked (plain (Root.root e x)) ≡ then (checked x) (Root.root e)
 unfolding Root.root
 checked-root e = checked-refusing (Root.root e) (root-sound e) (either-failed (ltb (e .m) (2 * e .k))) (λ s. either-failed (ltb (e .m) (2 * e .k)))
 

@@ -20,15 +20,15 @@ use Rattle.numeric.specs.Power.{power}
 use Rattle.numeric.proofs.Numbers.{infinity}
 
 -- not negative, the infinity included
-abbrev pub plain : Float → Bool
-plain nan = false
-plain (inf s) = not s
-plain (fin s m e) = not s
+abbrev pub unsigned : Float → Bool
+unsigned nan = false
+unsigned (inf s) = not s
+unsigned (fin s m e) = not s
 
-pub plain-finite : (x : Float) → T (plain x) → T (finite x) → T (nonneg x)
-plain-finite nan p f = absurd p
-plain-finite (inf s) p f = absurd f
-plain-finite (fin s m e) p f = p
+pub unsigned-finite : (x : Float) → T (unsigned x) → T (finite x) → T (nonneg x)
+unsigned-finite nan p f = absurd p
+unsigned-finite (inf s) p f = absurd f
+unsigned-finite (fin s m e) p f = p
 
 own : (x : Float) → T (nonneg x) → HasValue x false (num x) (den x)
 own nan p = absurd p
@@ -56,7 +56,7 @@ cross (fin false m e) (fin true n d) p q h = absurd q
 cross (fin false m e) (fin false n d) p q h = lt-or-eq (m * up e * down d) (n * up d * down e) h
 
 -- what is at most a finite number is finite
-pub under : (x y : Float) → T (plain x) → T (nonneg y) → T (le x y) → T (nonneg x)
+pub under : (x y : Float) → T (unsigned x) → T (nonneg y) → T (le x y) → T (nonneg x)
 unfolding le
 under nan y p q h = absurd p
 under (inf true) y p q h = absurd p
@@ -66,26 +66,26 @@ under (inf false) (fin t n d) p q h = absurd h
 under (fin s m e) y p q h = p
 
 -- ---- rounding
-odd-plain : (d q k l : ℕ) → T (plain (odd d false q k l))
+odd-unsigned : (d q k l : ℕ) → T (unsigned (odd d false q k l))
 unfolding odd
-odd-plain d zero k l = tt
-odd-plain d (suc q) k l = tt
+odd-unsigned d zero k l = tt
+odd-unsigned d (suc q) k l = tt
 
 odd-nonneg : (d q k l : ℕ) → T (nonneg (odd d false q k l))
 unfolding odd
 odd-nonneg d zero k l = tt
 odd-nonneg d (suc q) k l = tt
 
-units-plain : (f : Format) (q k : ℕ) → T (plain (units f false q k))
+units-unsigned : (f : Format) (q k : ℕ) → T (unsigned (units f false q k))
 unfolding units
-units-plain f q k = go (ltb (q * 2 ^ k) (2 ^ (low f + suc (emax f))))
+units-unsigned f q k = go (ltb (q * 2 ^ k) (2 ^ (low f + suc (emax f))))
   where
-    go : (b : Bool) → T (plain (cond b (odd (suc (prec f)) false q k (low f)) (inf false)))
-    go true = odd-plain (suc (prec f)) q k (low f)
+    go : (b : Bool) → T (unsigned (cond b (odd (suc (prec f)) false q k (low f)) (inf false)))
+    go true = odd-unsigned (suc (prec f)) q k (low f)
     go false = tt
 
-pub round-plain : (f : Format) (a b : ℕ) → T (plain (round f false a b))
-round-plain f a b = subst (λ (z : Float). T (plain z)) (sym (round-is f false a b)) (units-plain f _ _)
+pub round-unsigned : (f : Format) (a b : ℕ) → T (unsigned (round f false a b))
+round-unsigned f a b = subst (λ (z : Float). T (unsigned z)) (sym (round-is f false a b)) (units-unsigned f _ _)
 
 -- ---- the product
 mul-is : (f : Format) (x y : Float) → T (nonneg x) → T (nonneg y) → mul f x y ≡ round f false (num x * num y) (den x * den y)
@@ -98,8 +98,8 @@ mul-is f (fin false m e) (inf t) p q = absurd q
 mul-is f (fin false m e) (fin true n d) p q = absurd q
 mul-is f (fin false m e) (fin false n d) p q = refl
 
-pub mul-plain : (f : Format) (x y : Float) → T (nonneg x) → T (nonneg y) → T (plain (mul f x y))
-mul-plain f x y p q = subst (λ (z : Float). T (plain z)) (sym (mul-is f x y p q)) (round-plain f _ _)
+pub mul-unsigned : (f : Format) (x y : Float) → T (nonneg x) → T (nonneg y) → T (unsigned (mul f x y))
+mul-unsigned f x y p q = subst (λ (z : Float). T (unsigned z)) (sym (mul-is f x y p q)) (round-unsigned f _ _)
 
 pub mul-mono : (f : Format) (x x' y y' : Float) → T (nonneg x) → T (nonneg x') → T (nonneg y) → T (nonneg y') → T (le x x') → T (le y y') → T (le (mul f x y) (mul f x' y'))
 mul-mono f x x' y y' p p' q q' h k =
@@ -136,9 +136,9 @@ power-mono x y zero o f = record { first = tt; second = tt; order = tt }
 power-mono x y (suc zero) o f = o
 power-mono x y (suc (suc k)) o f =
     let i = power-mono x y (suc k) o (finite-left (power y (suc k)) y f) in
-    let p = plain-finite (mul binary64 (power y (suc k)) y) (mul-plain binary64 (power y (suc k)) y (i .second) (o .second)) f in
+    let p = unsigned-finite (mul binary64 (power y (suc k)) y) (mul-unsigned binary64 (power y (suc k)) y (i .second) (o .second)) f in
     let l = mul-mono binary64 (power x (suc k)) (power y (suc k)) x y (i .first) (i .second) (o .first) (o .second) (i .order) (o .order) in
-    record { first = under (mul binary64 (power x (suc k)) x) (mul binary64 (power y (suc k)) y) (mul-plain binary64 (power x (suc k)) x (i .first) (o .first)) p l; second = p; order = l }
+    record { first = under (mul binary64 (power x (suc k)) x) (mul binary64 (power y (suc k)) y) (mul-unsigned binary64 (power x (suc k)) x (i .first) (o .first)) p l; second = p; order = l }
 
 -- ---- the order of the bits, up to the infinity's
 -- the number that a field q and the digits t stand for, in units of 2 ^ -1074
@@ -238,5 +238,5 @@ never-falls t x y p o h k =
     (through (num x) (num y) (num t) (den x) (den y) (den t) (den-pos y) (cross x y (o .first) (o .second) (o .order)) (not-lt-cross t y p (o .second) k))
 
 -- ---- whole powers of a number with no minus sign have none
-pub power-plain : (x : Float) (k : ℕ) → T (nonneg x) → T (finite (power x k)) → T (nonneg (power x k))
-power-plain x k p f = power-mono x x k (record { first = p; second = p; order = le-self x p }) f .second
+pub power-unsigned : (x : Float) (k : ℕ) → T (nonneg x) → T (finite (power x k)) → T (nonneg (power x k))
+power-unsigned x k p f = power-mono x x k (record { first = p; second = p; order = le-self x p }) f .second

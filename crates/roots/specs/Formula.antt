@@ -3,10 +3,10 @@
 use Prim.Native.Nat.{ℕ}
 use mathlib.Core.Bool.{cond}
 use lib.Ieee as Ieee
-use lib.Ieee.{Float}
+use lib.Ieee.{Float, binary64}
 use Rattle.numeric.specs.Number.{whole}
-use Rattle.numeric.specs.Working.{checked, then, _+ᵂ_, _-ᵂ_, _*ᵂ_, _/ᵂ_}
-use Rattle.numeric.specs.Power.{_^ᵂ_}
+use Rattle.numeric.specs.Working.{checked, plain, then, _+ᵂ_, _-ᵂ_, _*ᵂ_, _/ᵂ_}
+use Rattle.numeric.specs.Power.{power, _^ᵂ_}
 use Rattle.numeric.specs.Exponential.{exponential}
 use Rattle.roots.specs.Root as Root
 use Rattle.numeric.specs.declared.working.Worked.{Worked}
@@ -39,3 +39,16 @@ work (minus a) = then (work a) (λ x. Number (Ieee.neg x))
 work (size a) = then (work a) (λ x. Number (absolute x))
 work (e^ a) = then (work a) exponential
 work (root e a) = then (work a) (Root.root e)
+
+-- the same in plain f64, tested nowhere: what code works, and tests once at the end (`once`, proofs/Formulas.antt)
+unfoldable pub value : Formula → Float
+value (num x) = x
+value (a ⊕ b) = Ieee.add binary64 (value a) (value b)
+value (a ⊖ b) = Ieee.sub binary64 (value a) (value b)
+value (a ⊗ b) = Ieee.mul binary64 (value a) (value b)
+value (a ⊘ b) = Ieee.div binary64 (value a) (value b)
+value (a ^^ n) = power (value a) n
+value (minus a) = Ieee.neg (value a)
+value (size a) = absolute (value a)
+value (e^ a) = plain (exponential (value a))
+value (root e a) = plain (Root.root e (value a))

@@ -15,7 +15,7 @@ use Rattle.roots.specs.Root.{searched, rootBits, rootOf}
 use Rattle.numeric.proofs.Numbers.{infinity, no-nan}
 use Rattle.numeric.proofs.Powers.{checked-power}
 use Rattle.numeric.proofs.Workings.{checked-number}
-use Rattle.roots.proofs.Orders.{power-plain}
+use Rattle.roots.proofs.Orders.{power-unsigned}
 use Rattle.roots.proofs.Roots.{crossing-below}
 use Rattle.roots.proofs.root.searched.Statement.{statement}
 use Rattle.roots.proofs.root.searched.Tie as tie
@@ -67,7 +67,7 @@ crossing-requires c κs =
     let a = w .before in
     let n = checked-number (w .whole-power .result) (t .t .given .0 .0) (sym (t .before .before .checked .ensures) ∙ t .t .given .1) in
     let f : T (finite (power (a .args .x) (a .args .m))) = rw (w .whole-power .ensures) at (n .1) in
-    let p = power-plain (a .args .x) (a .args .m) (a .pre .0) f in
+    let p = power-unsigned (a .args .x) (a .args .m) (a .pre .0) f in
     (subst (λ (z : Float). T (nonneg z)) (sym (w .whole-power .ensures) ∙ n .0) p, (omega arith, omega arith))
 
 enum-known-b : tie.Need-enum-known-b

@@ -1,8 +1,8 @@
--- A formula worked in plain f64 and tested once at its end is the formula worked with a test of every number, where the divisors are finite.
+-- A formula worked in plain f64 and tested once at its end is the formula worked with a test of every number, where no divisor is infinite unseen.
 -- Assumes nothing.
 use Prim.Native.Nat.{ℕ, zero, suc, _*_}
 use mathlib.Core.Path.{_≡_, refl, sym, ap, _∙_, subst}
-use mathlib.Core.Bool.{Bool, true, false, not, _&&_, cond}
+use mathlib.Core.Bool.{Bool, true, false, not, _&&_, _||_, cond}
 use native.Mathlib.Omega.{arith}
 use lib.Dec.{T, ltb, eqb}
 use lib.IntN.{ℤ}
@@ -22,7 +22,7 @@ use Rattle.numeric.specs.declared.working.Worked.the-variants.{Number, Failed}
 use Rattle.numeric.specs.declared.halving.Crossing.{Crossing}
 use Rattle.numeric.specs.declared.halving.Crossing.the-variants.{At, Nowhere, Broke}
 use Rattle.roots.specs.declared.exponent.Exponent.{Exponent}
-use Rattle.numeric.proofs.Workings.{checked-add, checked-sub, checked-mul, checked-div}
+use Rattle.numeric.proofs.Workings.{checked-failed, checked-add, checked-sub, checked-mul, checked-div}
 use Rattle.numeric.proofs.Powers.{checked-power}
 use Rattle.roots.proofs.Orders.{bits-finite}
 use Rattle.roots.proofs.Roots.{crossing-below}
@@ -84,13 +84,17 @@ root-sound e x =
     (pick-sound (Ieee.lt x (whole 0)) _ _ tt
     (pick-sound (Ieee.eq x (whole 0)) _ _ tt (searched-sound (e .m) (e .k) x))) tt) tt
 
--- every divisor is finite
+-- a divisor is finite, or its quotient is not either: an infinity must not turn a number into 0 unseen
+unfoldable pub fair : Float → Float → Bool
+fair x y = finite y || not (finite (Ieee.div binary64 x y))
+
+-- every divisor is fair
 unfoldable pub steady : Formula → Bool
 steady (num x) = true
 steady (a ⊕ b) = steady a && steady b
 steady (a ⊖ b) = steady a && steady b
 steady (a ⊗ b) = steady a && steady b
-steady (a ⊘ b) = steady a && (steady b && finite (value b))
+steady (a ⊘ b) = steady a && (steady b && fair (value a) (value b))
 steady (a ^^ n) = steady a
 steady (minus a) = steady a
 steady (size a) = steady a
@@ -135,9 +139,38 @@ either-failed : (b : Bool) → pick b Failed Failed ≡ Failed
 either-failed true = refl
 either-failed false = refl
 
-checked-root : (e : Exponent) (x : Float) → checked (plain (Root.root e x)) ≡ then (checked x) (Root.root e)
+refused : (e : Exponent) → Root.root e nan ≡ Failed
 unfolding Root.root
-checked-root e = checked-refusing (Root.root e) (root-sound e) (either-failed (ltb (e .m) (2 * e .k))) (λ s. either-failed (ltb (e .m) (2 * e .k)))
+refused e = either-failed (ltb (e .m) (2 * e .k))
+
+refused-infinite : (e : Exponent) (s : Bool) → Root.root e (inf s) ≡ Failed
+unfolding Root.root
+refused-infinite e s = either-failed (ltb (e .m) (2 * e .k))
+
+checked-root : (e : Exponent) (x : Float) → checked (plain (Root.root e x)) ≡ then (checked x) (Root.root e)
+checked-root e = checked-refusing (Root.root e) (root-sound e) (refused e) (refused-infinite e)
+
+-- ---- a fair division
+over-failed : (w : Worked) → Failed ≡ w /ᵂ Failed
+unfolding _/ᵂ_
+over-failed Failed = refl
+over-failed (Number x) = refl
+
+fair-div : (x y : Float) → T (fair x y) → checked (Ieee.div binary64 x y) ≡ checked x /ᵂ checked y
+unfolding fair
+fair-div x y t = go (finite y) (finite (Ieee.div binary64 x y)) refl refl t
+  where
+    go : (b c : Bool) → finite y ≡ b → finite (Ieee.div binary64 x y) ≡ c → T (b || not c) → checked (Ieee.div binary64 x y) ≡ checked x /ᵂ checked y
+    go true c e f h = checked-div x y (subst T (sym e) tt)
+    go false true e f h = absurd h
+    go false false e f h = sym (checked-failed (Ieee.div binary64 x y) f) ∙ over-failed (checked x) ∙ ap (λ (w : Worked). checked x /ᵂ w) (checked-failed y e)
+
+-- a root over its own number: where that is not finite the root is refused
+pub root-fair : (e : Exponent) (x : Float) → T (fair (plain (Root.root e x)) x)
+unfolding fair Ieee.div
+root-fair e nan = rw (refused e) tt
+root-fair e (inf s) = rw (refused-infinite e s) tt
+root-fair e (fin s m d) = tt
 
 -- ---- so one test, of the last number, stands for all
 pub once : (e : Formula) → T (steady e) → checked (value e) ≡ work e
@@ -147,10 +180,10 @@ once (a ⊕ b) s = checked-add (value a) (value b) ∙ ap (λ (w : Worked). w +�
 once (a ⊖ b) s = checked-sub (value a) (value b) ∙ ap (λ (w : Worked). w -ᵂ checked (value b)) (once a (and-l (steady a) (steady b) s)) ∙ ap (λ (w : Worked). work a -ᵂ w) (once b (and-r (steady a) (steady b) s))
 once (a ⊗ b) s = checked-mul (value a) (value b) ∙ ap (λ (w : Worked). w *ᵂ checked (value b)) (once a (and-l (steady a) (steady b) s)) ∙ ap (λ (w : Worked). work a *ᵂ w) (once b (and-r (steady a) (steady b) s))
 once (a ⊘ b) s =
-    let r = and-r (steady a) (steady b && finite (value b)) s in
-    checked-div (value a) (value b) (and-r (steady b) (finite (value b)) r)
-    ∙ ap (λ (w : Worked). w /ᵂ checked (value b)) (once a (and-l (steady a) (steady b && finite (value b)) s))
-    ∙ ap (λ (w : Worked). work a /ᵂ w) (once b (and-l (steady b) (finite (value b)) r))
+    let r = and-r (steady a) (steady b && fair (value a) (value b)) s in
+    fair-div (value a) (value b) (and-r (steady b) (fair (value a) (value b)) r)
+    ∙ ap (λ (w : Worked). w /ᵂ checked (value b)) (once a (and-l (steady a) (steady b && fair (value a) (value b)) s))
+    ∙ ap (λ (w : Worked). work a /ᵂ w) (once b (and-l (steady b) (fair (value a) (value b)) r))
 once (a ^^ n) s = checked-power (value a) n ∙ ap (λ (w : Worked). w ^ᵂ n) (once a s)
 once (minus a) s = checked-neg (value a) ∙ ap (λ (w : Worked). then w (λ x. Number (Ieee.neg x))) (once a s)
 once (size a) s = checked-absolute (value a) ∙ ap (λ (w : Worked). then w (λ x. Number (absolute x))) (once a s)

@@ -1,14 +1,16 @@
 -- The shared facts about halving, over whatever figure is probed: what an answer means, "no crossing" exactly when, failure exactly when, and that
 -- 63 halvings are enough. Assumes nothing.
 use mathlib.Core.Path.{_≡_, refl, sym, ap, _∙_}
-use mathlib.Core.Bool.{Bool, true, false, cond}
+use mathlib.Core.Bool.{Bool, true, false, cond, true≢false}
 use Prim.Native.Nat.{ℕ, zero, suc, _+_, _-_, _*_, _/_, _^_, _≤_, _<_}
 use native.Mathlib.Nat.{pow-succ', le-trans}
 use native.Mathlib.Omega.{arith}
 use lib.Dec.{leb, ltb, eqb}
 use borrow.Author.Tests.{eqb-true, eqb-false, eq-eqb, ne-eqb, leb-true, leb-false, le-leb, lt-leb, ltb-true, ltb-false}
-use lib.Ieee.{Float, lt}
-use Rattle.numeric.specs.Halving.{Figure, Side, under, over, broken, side, ifC, half, ends, middle, narrow, halve, NotAbove, Above, Found, NoCrossing, met, first-above, second-not-above, Halves, ended, upper, lower, broke, Breaks, at-first, at-second, at-middle}
+use lib.Ieee.{Float, lt, ofInt}
+use lib.Ieee.Scale.{finite}
+use Rattle.numeric.specs.Number.{whole}
+use Rattle.numeric.specs.Halving.{Figure, Side, under, over, broken, side, ifC, half, ends, middle, narrow, halve, NotAbove, Above, Worthy, worthy, Unworthy, failed, unbounded, Found, NoCrossing, met, first-above, second-not-above, Halves, ended, upper, lower, broke, Breaks, at-first, at-second, at-middle}
 use Rattle.numeric.specs.declared.working.Worked.{Worked}
 use Rattle.numeric.specs.declared.working.Worked.the-variants.{Number, Failed}
 use Rattle.numeric.specs.declared.halving.Crossing.{Crossing}
@@ -31,42 +33,67 @@ lower-width : (lo hi n : ℕ) → hi - lo ≤ 2 ^ suc n → middle lo hi - lo �
 unfolding middle
 lower-width lo hi n w = let e : 2 ^ suc n ≡ 2 * 2 ^ n = pow-succ' 2 n in omega arith
 
--- ---- a side, as a fact about the figure
-not-above : (f : Figure) (t : Float) (k : ℕ) → side t (f k) ≡ under → NotAbove f t k
-not-above f t k = go (f k) refl
-  where
-    num : (x : Float) (b : Bool) → f k ≡ Number x → lt t x ≡ b → cond b over under ≡ under → NotAbove f t k
-    num x true e l h = let z : _≡_ {A = ℕ} 0 1 = cc in absurd (omega arith)
-    num x false e l h = record { number = x; worked = e; stands = l }
+-- ---- a side, as a fact about the figure, and back
+data Stands (f : Figure) (t : Float) (k : ℕ) : Side → Type 0 where
+  is-under : NotAbove f t k → Stands f t k under
+  is-over : Above f t k → Stands f t k over
+  is-broken : Unworthy f k → Stands f t k broken
 
-    go : (w : Worked) → f k ≡ w → side t w ≡ under → NotAbove f t k
-    go (Number x) e h = num x (lt t x) e refl h
-    go Failed e h = let z : _≡_ {A = ℕ} 0 1 = cc in absurd (omega arith)
+stands : (f : Figure) (t : Float) (k : ℕ) → Stands f t k (side t (f k))
+stands f t k = go (f k) refl
+  where
+    num : (x : Float) (b c : Bool) → f k ≡ Number x → finite x ≡ b → lt t x ≡ c → Stands f t k (cond b (cond c over under) broken)
+    num x true true e h l = is-over (record { number = x; worked = e; bounded = h; stands = l })
+    num x true false e h l = is-under (record { number = x; worked = e; bounded = h; stands = l })
+    num x false c e h l = is-broken (unbounded x e h)
+
+    go : (w : Worked) → f k ≡ w → Stands f t k (side t w)
+    go (Number x) e = num x (finite x) (lt t x) e refl refl
+    go Failed e = is-broken (failed e)
+
+not-above-of : (f : Figure) (t : Float) (k : ℕ) (s : Side) → Stands f t k s → s ≡ under → NotAbove f t k
+not-above-of f t k under (is-under a) e = a
+not-above-of f t k over (is-over a) e = let z : _≡_ {A = ℕ} 0 1 = cc in absurd (omega arith)
+not-above-of f t k broken (is-broken a) e = let z : _≡_ {A = ℕ} 0 1 = cc in absurd (omega arith)
+
+is-above-of : (f : Figure) (t : Float) (k : ℕ) (s : Side) → Stands f t k s → s ≡ over → Above f t k
+is-above-of f t k under (is-under a) e = let z : _≡_ {A = ℕ} 0 1 = cc in absurd (omega arith)
+is-above-of f t k over (is-over a) e = a
+is-above-of f t k broken (is-broken a) e = let z : _≡_ {A = ℕ} 0 1 = cc in absurd (omega arith)
+
+is-unworthy-of : (f : Figure) (t : Float) (k : ℕ) (s : Side) → Stands f t k s → s ≡ broken → Unworthy f k
+is-unworthy-of f t k under (is-under a) e = let z : _≡_ {A = ℕ} 0 1 = cc in absurd (omega arith)
+is-unworthy-of f t k over (is-over a) e = let z : _≡_ {A = ℕ} 0 1 = cc in absurd (omega arith)
+is-unworthy-of f t k broken (is-broken a) e = a
+
+not-above : (f : Figure) (t : Float) (k : ℕ) → side t (f k) ≡ under → NotAbove f t k
+not-above f t k e = not-above-of f t k (side t (f k)) (stands f t k) e
 
 is-above : (f : Figure) (t : Float) (k : ℕ) → side t (f k) ≡ over → Above f t k
-is-above f t k = go (f k) refl
-  where
-    num : (x : Float) (b : Bool) → f k ≡ Number x → lt t x ≡ b → cond b over under ≡ over → Above f t k
-    num x true e l h = record { number = x; worked = e; stands = l }
-    num x false e l h = let z : _≡_ {A = ℕ} 0 1 = cc in absurd (omega arith)
+is-above f t k e = is-above-of f t k (side t (f k)) (stands f t k) e
 
-    go : (w : Worked) → f k ≡ w → side t w ≡ over → Above f t k
-    go (Number x) e h = num x (lt t x) e refl h
-    go Failed e h = let z : _≡_ {A = ℕ} 0 1 = cc in absurd (omega arith)
-
-is-failed : (t : Float) (w : Worked) → side t w ≡ broken → w ≡ Failed
-is-failed t Failed h = refl
-is-failed t (Number x) h = go (lt t x) h
-  where
-    go : (b : Bool) → cond b over under ≡ broken → Number x ≡ Failed
-    go true k = let z : _≡_ {A = ℕ} 0 1 = cc in absurd (omega arith)
-    go false k = let z : _≡_ {A = ℕ} 0 1 = cc in absurd (omega arith)
+is-unworthy : (f : Figure) (t : Float) (k : ℕ) → side t (f k) ≡ broken → Unworthy f k
+is-unworthy f t k e = is-unworthy-of f t k (side t (f k)) (stands f t k) e
 
 side-under : (f : Figure) (t : Float) (k : ℕ) → NotAbove f t k → side t (f k) ≡ under
-side-under f t k a = rw (a .worked, a .stands) refl
+side-under f t k a = rw (a .worked, a .bounded, a .stands) refl
 
 side-over : (f : Figure) (t : Float) (k : ℕ) → Above f t k → side t (f k) ≡ over
-side-over f t k a = rw (a .worked, a .stands) refl
+side-over f t k a = rw (a .worked, a .bounded, a .stands) refl
+
+side-broken : (f : Figure) (t : Float) (k : ℕ) → Unworthy f k → side t (f k) ≡ broken
+side-broken f t k (failed e) = rw e refl
+side-broken f t k (unbounded x e h) = rw (e, h) refl
+
+-- a finite figure is on one side or the other
+side-worthy : (f : Figure) (t : Float) (k : ℕ) → Worthy f k → (b : Bool) × (side t (f k) ≡ cond b over under)
+side-worthy f t k (worthy x e h) = (lt t x, rw (e, h) refl)
+
+worthy-under : (f : Figure) (t : Float) (k : ℕ) → NotAbove f t k → Worthy f k
+worthy-under f t k a = worthy (a .number) (a .worked) (a .bounded)
+
+worthy-over : (f : Figure) (t : Float) (k : ℕ) → Above f t k → Worthy f k
+worthy-over f t k a = worthy (a .number) (a .worked) (a .bounded)
 
 -- ---- one halving
 module _ (f : Figure) (t : Float) where
@@ -83,9 +110,9 @@ module _ (f : Figure) (t : Float) where
   unfolding narrow
   narrow-lower n lo hi ne a = rw (ne-eqb hi (lo + 1) ne, side-over f t (middle lo hi) a) refl
 
-  narrow-broke : (n lo hi : ℕ) → (hi ≡ lo + 1 → ⊥) → f (middle lo hi) ≡ Failed → narrow f t (suc n) lo hi ≡ Broke
+  narrow-broke : (n lo hi : ℕ) → (hi ≡ lo + 1 → ⊥) → Unworthy f (middle lo hi) → narrow f t (suc n) lo hi ≡ Broke
   unfolding narrow
-  narrow-broke n lo hi ne e = rw (ne-eqb hi (lo + 1) ne, e) refl
+  narrow-broke n lo hi ne e = rw (ne-eqb hi (lo + 1) ne, side-broken f t (middle lo hi) e) refl
 
   -- ---- 63 halvings are enough: the bounded halving is the halving itself
   HalvedIn : ℕ → Type 0
@@ -105,7 +132,7 @@ module _ (f : Figure) (t : Float) where
           let r = ih lo (middle lo hi) (between lo hi h ne .above) (lower-width lo hi n w) in
           (suc (r .0), omega arith, rw (narrow-lower n lo hi ne a) (lower ne a (r .2)))
       by ne broken q =
-          let e = is-failed t (f (middle lo hi)) q in
+          let e = is-unworthy f t (middle lo hi) q in
           (1, omega arith, rw (narrow-broke n lo hi ne e) (broke ne e))
 
       go : (b : Bool) → eqb hi (lo + 1) ≡ b → (m : ℕ) × (m ≤ suc n) × Halves f t lo hi m (narrow f t (suc n) lo hi)
@@ -171,10 +198,6 @@ any-under : (b : Bool) (c : Crossing) → ends (cond b over under) under c ≡ N
 any-under true c = refl
 any-under false c = refl
 
-any-broken : (b : Bool) (c : Crossing) → ends (cond b over under) broken c ≡ Broke
-any-broken true c = refl
-any-broken false c = refl
-
 either-nowhere : (b : Bool) → ifC b Nowhere Nowhere ≡ Nowhere
 either-nowhere true = refl
 either-nowhere false = refl
@@ -205,11 +228,11 @@ module _ (f : Figure) (t : Float) where
   nowhere lo hi w e = go (leb hi lo) refl e
     where
       by : lo < hi → (a b : Side) → side t (f lo) ≡ a → side t (f hi) ≡ b → ends a b (narrow f t 63 lo hi) ≡ Nowhere → NoCrossing f t lo hi
-      by h under under p q k = second-not-above (not-above f t lo p .number) (not-above f t lo p .worked) (not-above f t hi q)
+      by h under under p q k = second-not-above (worthy-under f t lo (not-above f t lo p)) (not-above f t hi q)
       by h under over p q k = absurd (somewhere f t (at-most-63 f t lo hi h w .2) k)
       by h under broken p q k = let z : _≡_ {A = ℕ} 0 1 = cc in absurd (omega arith)
-      by h over under p q k = second-not-above (is-above f t lo p .number) (is-above f t lo p .worked) (not-above f t hi q)
-      by h over over p q k = first-above (is-above f t hi q .number) (is-above f t lo p) (is-above f t hi q .worked)
+      by h over under p q k = second-not-above (worthy-over f t lo (is-above f t lo p)) (not-above f t hi q)
+      by h over over p q k = first-above (is-above f t lo p) (worthy-over f t hi (is-above f t hi q))
       by h over broken p q k = let z : _≡_ {A = ℕ} 0 1 = cc in absurd (omega arith)
       by h broken b p q k = let z : _≡_ {A = ℕ} 0 1 = cc in absurd (omega arith)
 
@@ -220,8 +243,8 @@ module _ (f : Figure) (t : Float) where
   pub nowhere-back : (lo hi : ℕ) → NoCrossing f t lo hi → halve f t lo hi ≡ Nowhere
   unfolding halve
   nowhere-back lo hi (met h) = rw (le-leb hi lo h) refl
-  nowhere-back lo hi (first-above y a e) = rw (side-over f t lo a, e, over-any (lt t y) _) (either-nowhere (leb hi lo))
-  nowhere-back lo hi (second-not-above x e b) = rw (side-under f t hi b, e, any-under (lt t x) _) (either-nowhere (leb hi lo))
+  nowhere-back lo hi (first-above a w) = let s = side-worthy f t hi w in rw (side-over f t lo a, s .1, over-any (s .0) _) (either-nowhere (leb hi lo))
+  nowhere-back lo hi (second-not-above w b) = let s = side-worthy f t lo w in rw (side-under f t hi b, s .1, any-under (s .0) _) (either-nowhere (leb hi lo))
 
   -- where the ends bracket the target, what is left is to narrow them
   pub bracketed : (lo hi : ℕ) → lo < hi → NotAbove f t lo → Above f t hi → halve f t lo hi ≡ narrow f t 63 lo hi
@@ -236,11 +259,11 @@ module _ (f : Figure) (t : Float) where
       by : lo < hi → (a b : Side) → side t (f lo) ≡ a → side t (f hi) ≡ b → ends a b (narrow f t 63 lo hi) ≡ Broke → Breaks f t lo hi
       by h under under p q k = let z : _≡_ {A = ℕ} 0 1 = cc in absurd (omega arith)
       by h under over p q k = let r = at-most-63 f t lo hi h w in at-middle (r .0) (not-above f t lo p) (is-above f t hi q) (rw k at (r .2))
-      by h under broken p q k = at-second (is-failed t (f hi) q)
+      by h under broken p q k = at-second (is-unworthy f t hi q)
       by h over under p q k = let z : _≡_ {A = ℕ} 0 1 = cc in absurd (omega arith)
       by h over over p q k = let z : _≡_ {A = ℕ} 0 1 = cc in absurd (omega arith)
-      by h over broken p q k = at-second (is-failed t (f hi) q)
-      by h broken b p q k = at-first (is-failed t (f lo) p)
+      by h over broken p q k = at-second (is-unworthy f t hi q)
+      by h broken b p q k = at-first (is-unworthy f t lo p)
 
       go : (x : Bool) → leb hi lo ≡ x → ifC x Nowhere (ends (side t (f lo)) (side t (f hi)) (narrow f t 63 lo hi)) ≡ Broke → (lo < hi) × Breaks f t lo hi
       go true p k = let z : _≡_ {A = ℕ} 0 1 = cc in absurd (omega arith)
@@ -248,12 +271,13 @@ module _ (f : Figure) (t : Float) where
 
   pub breaks-back : (lo hi : ℕ) → lo < hi → hi ≤ 2 ^ 63 → Breaks f t lo hi → halve f t lo hi ≡ Broke
   unfolding halve
-  breaks-back lo hi h w (at-first e) = rw (lt-leb hi lo h, e) refl
-  breaks-back lo hi h w (at-second e) = rw (lt-leb hi lo h, e) (go (f lo))
+  breaks-back lo hi h w (at-first e) = rw (lt-leb hi lo h, side-broken f t lo e) refl
+  breaks-back lo hi h w (at-second e) = rw (lt-leb hi lo h, side-broken f t hi e) (go (side t (f lo)))
     where
-      go : (x : Worked) → ends (side t x) broken (narrow f t 63 lo hi) ≡ Broke
-      go Failed = refl
-      go (Number x) = any-broken (lt t x) _
+      go : (x : Side) → ends x broken (narrow f t 63 lo hi) ≡ Broke
+      go under = refl
+      go over = refl
+      go broken = refl
   breaks-back lo hi h w (at-middle m a b r) = bracketed lo hi h a b ∙ same-halving f t r 63 h (omega arith)
 
 -- ---- a loop that halves: what a turn keeps is that the halving from here is the one asked for
@@ -287,7 +311,7 @@ module _ (f : Figure) (t : Float) where
       pub to-lower : Above f t (middle lo hi) → Narrowing asked lo (middle lo hi)
       to-lower a = record { fuel = turn .0; apart = between lo hi (r .apart) ne .above; wide = lower-width lo hi (turn .0) width; same = next ∙ narrow-lower f t (turn .0) lo hi ne a }
 
-      pub to-broke : f (middle lo hi) ≡ Failed → asked ≡ Broke
+      pub to-broke : Unworthy f (middle lo hi) → asked ≡ Broke
       to-broke e = next ∙ narrow-broke f t (turn .0) lo hi ne e
 
 -- ---- a figure that rises: it passes the target at one place only, however that is come by
@@ -295,7 +319,11 @@ abbrev pub Rises : Figure → Float → ℕ → Type 0
 Rises f t top = (b c : ℕ) → b ≤ c → c ≤ top → Above f t b → NotAbove f t c → ⊥
 
 abbrev pub Works : Figure → ℕ → ℕ → Type 0
-Works f lo hi = (k : ℕ) → lo ≤ k → k ≤ hi → (x : Float) × (f k ≡ Number x)
+Works f lo hi = (k : ℕ) → lo ≤ k → k ≤ hi → Worthy f k
+
+not-both : (f : Figure) (k : ℕ) → Worthy f k → Unworthy f k → ⊥
+not-both f k (worthy x e h) (failed g) = let z : _≡_ {A = ℕ} 0 1 = cc in omega arith
+not-both f k (worthy x e h) (unbounded y g l) = let s : x ≡ y = cc in true≢false (sym h ∙ ap finite s ∙ l)
 
 module _ (f : Figure) (t : Float) where
   one-place : (top r s : ℕ) → Rises f t top → r + 1 ≤ top → s + 1 ≤ top → NotAbove f t r → Above f t (r + 1) → NotAbove f t s → Above f t (s + 1) → r ≡ s
@@ -312,9 +340,7 @@ module _ (f : Figure) (t : Float) where
   reaches {lo} {hi} (lower ne x g) h w = let m = between lo hi h ne in reaches g (m .above) (λ k a b. w k a (omega arith))
   reaches {lo} {hi} (broke ne e) h w =
       let m = between lo hi h ne in
-      let x = w (middle lo hi) (omega arith) (omega arith) in
-      let z : _≡_ {A = ℕ} 0 1 = cc (x .1) in
-      absurd (omega arith)
+      absurd (not-both f (middle lo hi) (w (middle lo hi) (omega arith) (omega arith)) e)
 
   -- a place within the ends where a rising figure passes the target is the halving's answer
   pub unique-crossing : (lo hi r : ℕ) → Rises f t hi → Works f lo hi → hi ≤ 2 ^ 63 → NotAbove f t lo → Above f t hi
@@ -325,3 +351,14 @@ module _ (f : Figure) (t : Float) where
       let g = bracketed f t lo hi h a b ∙ z .1 in
       let u = answer f t lo hi (z .0) d g in
       g ∙ ap At (one-place hi (z .0) r rise (u .to) q (u .here) (u .next) x y)
+
+-- ---- two crossings: the middle is rounded down, so the lower one is found
+two-crossings : Figure
+two-crossings zero = Number (whole 0)
+two-crossings (suc zero) = Number (whole 2)
+two-crossings (suc (suc zero)) = Number (whole 0)
+two-crossings (suc (suc (suc n))) = Number (whole 2)
+
+lower-found : halve two-crossings (whole 1) 0 3 ≡ At 0
+unfolding two-crossings halve narrow middle whole ofInt lt
+lower-found = refl

@@ -10,22 +10,23 @@ use lib.Dec.{T, ltb, eqb}
 use lib.Ieee.{Float, nan, inf, fin, binary64, up, down, isNan, nanBits, ofBits, ofInt, round, lt, eq}
 use lib.Ieee.Bits.{nanBits-above}
 use lib.Ieee.Scale.{finite}
+use Rattle.numeric.specs.Constant.{spanWagner}
 use Rattle.numeric.specs.Number.{fraction, decimal, whole, nonneg}
 
--- ---- decimals as printed, and the bits of the nearest f64 as worked elsewhere, in exact fractions: 304.1282, 467.6, 188.9241, 216.592, 0.1, 350.7, 584.5, 0.05, 1.01,
+-- ---- decimals as printed, and the bits of the nearest f64 as worked elsewhere, in exact fractions: the four constants, 216.592, 0.1, 350.7, 584.5, 0.05, 1.01,
 -- 0.99, and the first coefficient of the residual part
 decimals : List Float
 decimals =
-    decimal 3041282 4 ∷ decimal 4676 1 ∷ decimal 1889241 4 ∷ decimal 216592 3 ∷ decimal 1 1 ∷ decimal 3507 1 ∷ decimal 5845 1 ∷ decimal 5 2 ∷ decimal 101 2 ∷ decimal 99 2
-    ∷ decimal 38856823203161 14 ∷ []
+    spanWagner .temperature ∷ spanWagner .density ∷ spanWagner .gas ∷ spanWagner .pressure ∷ decimal 216592 3 ∷ decimal 1 1 ∷ decimal 3507 1 ∷ decimal 5845 1 ∷ decimal 5 2 ∷ decimal 101 2
+    ∷ decimal 99 2 ∷ decimal 38856823203161 14 ∷ []
 
 worked-elsewhere : List ℕ
 worked-elsewhere =
-    0x4073_020d_1b71_758e ∷ 0x407d_3999_9999_999a ∷ 0x4067_9d92_3a29_c77a ∷ 0x406b_12f1_a9fb_e76d ∷ 0x3fb9_9999_9999_999a ∷ 0x4075_eb33_3333_3333 ∷ 0x4082_4400_0000_0000
+    0x4073_020d_1b71_758e ∷ 0x407d_3999_9999_999a ∷ 0x4067_9d92_3a29_c77a ∷ 0x415c_2465_0000_0000 ∷ 0x406b_12f1_a9fb_e76d ∷ 0x3fb9_9999_9999_999a ∷ 0x4075_eb33_3333_3333 ∷ 0x4082_4400_0000_0000
     ∷ 0x3fa9_9999_9999_999a ∷ 0x3ff0_28f5_c28f_5c29 ∷ 0x3fef_ae14_7ae1_47ae ∷ 0x3fd8_de4d_4a35_c78d ∷ []
 
 decimals-agree : decimals ≡ map (ofBits binary64) worked-elsewhere
-unfolding decimals worked-elsewhere decimal fraction ofBits round
+unfolding decimals worked-elsewhere spanWagner decimal fraction whole ofBits ofInt round
 decimals-agree = refl
 
 -- ---- bits and NaNs

@@ -22,7 +22,7 @@ squared (suc n) s = squared n (s *ᵂ s)
 unfoldable pub falling : Float → Worked
 falling x = squared 10 (series (checked (Ieee.neg x) /ᵂ checked (whole 1024)) 14 (checked (whole 1)))
 
--- "Not finite: refused. x < −700: 0. x > 700: refused. x ≤ 0: .. x > 0: 1 divided by the exponential of −x."
+-- "Not finite: refused. x < −700: 0. x > 700: refused. x ≤ 0: .. x > 0: 1 divided by the exponential of −x", which lies from −700 to 0
 unfoldable pub exponential : Float → Worked
 exponential x =
     pick (finite x)

@@ -4,6 +4,7 @@ use mathlib.Core.Path.{_≡_}
 use mathlib.Core.Bool.{Bool, true, false, cond}
 use lib.Dec.{leb, eqb}
 use lib.Ieee.{Float, lt}
+use lib.Ieee.Scale.{finite}
 use Rattle.numeric.specs.declared.working.Worked.{Worked}
 use Rattle.numeric.specs.declared.working.Worked.the-variants.{Number, Failed}
 use Rattle.numeric.specs.declared.halving.Crossing.{Crossing}
@@ -13,12 +14,12 @@ use Rattle.numeric.specs.declared.halving.Crossing.the-variants.{At, Now
 abbrev pub Figure : Type 0
 Figure = ℕ → Worked
 
--- where a figure stands: not above the target, above it, or "not finite"
+-- where a figure stands: not above the target, above it, or "not finite", whether its working failed or what it worked is not finite
 pub data Side : Type 0 where
   under over broken : Side
 
 abbrev pub side : Float → Worked → Side
-side t (Number x) = cond (lt t x) over under
+side t (Number x) = cond (finite x) (cond (lt t x) over under) broken
 side t Failed = broken
 
 abbrev pub ifC : Bool → Crossing → Crossing → Crossing
@@ -45,7 +46,7 @@ half broken upper lower = Broke
 unfoldable pub middle : ℕ → ℕ → ℕ
 middle lo hi = lo + (hi - lo) / 2
 
--- "While hi is not lo + 1": at most n halvings. Each half is bound by a `let`, so that antt works only the one that is picked.
+-- "While hi is not lo + 1": at most n halvings, of which 63 are always enough (`at-most-63`). Each half is bound by a `let`, so that antt works only the one that is picked.
 unfoldable pub narrow : Figure → Float → ℕ → ℕ → ℕ → Crossing
 narrow f t zero lo hi = At lo
 narrow f t (suc n) lo hi =
@@ -62,16 +63,26 @@ halve f t lo hi =
 
 -- ---- what it means
 
--- the figure at k is a number that is not above the target; that is above it
+-- the figure at k is a finite number that is not above the target; that is above it
 pub record NotAbove (f : Figure) (t : Float) (k : ℕ) : Type 0 where
   pub number : Float
   pub worked : f k ≡ Number number
+  pub bounded : finite number ≡ true
   pub stands : lt t number ≡ false
 
 pub record Above (f : Figure) (t : Float) (k : ℕ) : Type 0 where
   pub number : Float
   pub worked : f k ≡ Number number
+  pub bounded : finite number ≡ true
   pub stands : lt t number ≡ true
+
+-- the figure at k is a finite number, or it is not
+pub data Worthy (f : Figure) (k : ℕ) : Type 0 where
+  worthy : (x : Float) → f k ≡ Number x → finite x ≡ true → Worthy f k
+
+pub data Unworthy (f : Figure) (k : ℕ) : Type 0 where
+  failed : f k ≡ Failed → Unworthy f k
+  unbounded : (x : Float) → f k ≡ Number x → finite x ≡ false → Unworthy f k
 
 -- an answer: r and the next lie within the ends, and the figure passes the target between them
 pub record Found (f : Figure) (t : Float) (lo hi r : ℕ) : Type 0 where
@@ -80,21 +91,21 @@ pub record Found (f : Figure) (t : Float) (lo hi r : ℕ) : Type 0 where
   pub here : NotAbove f t r
   pub next : Above f t (r + 1)
 
--- no crossing: fewer than two numbers, or both ends are worked and the first is above the target or the second is not
+-- no crossing: fewer than two numbers, or both ends are finite and the first is above the target or the second is not
 pub data NoCrossing (f : Figure) (t : Float) (lo hi : ℕ) : Type 0 where
   met : hi ≤ lo → NoCrossing f t lo hi
-  first-above : (y : Float) → Above f t lo → f hi ≡ Number y → NoCrossing f t lo hi
-  second-not-above : (x : Float) → f lo ≡ Number x → NotAbove f t hi → NoCrossing f t lo hi
+  first-above : Above f t lo → Worthy f hi → NoCrossing f t lo hi
+  second-not-above : Worthy f lo → NotAbove f t hi → NoCrossing f t lo hi
 
--- the halving itself, with no bound on its length: from lo and hi it comes to an answer, or to a figure that can't be worked, in n halvings
+-- the halving itself, with no bound on its length: from lo and hi it comes to an answer, or to a figure that is not finite, in n halvings
 pub data Halves (f : Figure) (t : Float) : ℕ → ℕ → ℕ → Crossing → Type 0 where
   ended : {lo hi : ℕ} → hi ≡ lo + 1 → Halves f t lo hi zero (At lo)
   upper : {lo hi n : ℕ} {c : Crossing} → (hi ≡ lo + 1 → ⊥) → NotAbove f t (middle lo hi) → Halves f t (middle lo hi) hi n c → Halves f t lo hi (suc n) c
   lower : {lo hi n : ℕ} {c : Crossing} → (hi ≡ lo + 1 → ⊥) → Above f t (middle lo hi) → Halves f t lo (middle lo hi) n c → Halves f t lo hi (suc n) c
-  broke : {lo hi : ℕ} → (hi ≡ lo + 1 → ⊥) → f (middle lo hi) ≡ Failed → Halves f t lo hi (suc zero) Broke
+  broke : {lo hi : ℕ} → (hi ≡ lo + 1 → ⊥) → Unworthy f (middle lo hi) → Halves f t lo hi (suc zero) Broke
 
--- failure: an end can't be worked, or a middle that the halving comes to
+-- failure: an end is not finite, or a middle that the halving comes to
 pub data Breaks (f : Figure) (t : Float) (lo hi : ℕ) : Type 0 where
-  at-first : f lo ≡ Failed → Breaks f t lo hi
-  at-second : f hi ≡ Failed → Breaks f t lo hi
+  at-first : Unworthy f lo → Breaks f t lo hi
+  at-second : Unworthy f hi → Breaks f t lo hi
   at-middle : (n : ℕ) → NotAbove f t lo → Above f t hi → Halves f t lo hi n Broke → Breaks f t lo hi

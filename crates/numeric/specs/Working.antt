@@ -11,7 +11,7 @@ checked nan = Failed
 checked (inf s) = Failed
 checked (fin s m e) = Number (fin s m e)
 
--- as a plain f64: a failure is a NaN, which +, −, × and ÷ hand on to whatever is worked from it
+-- as a plain f64: a failure is a NaN, which +, −, × and ÷ hand on
 abbrev pub plain : Worked → Float
 plain Failed = nan
 plain (Number x) = x

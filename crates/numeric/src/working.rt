@@ -30,8 +30,8 @@ pub fn checked(x: f64) -> Worked
 pub fn plain(w: Worked) -> f64
     ensures { λ r. ⌜ r ≡ plain w ⌝ }
 {
-    match w {
-        Worked::Number(x) => x,
-        Worked::Failed => 0.0 / 0.0,
-    }
+    let Worked::Number(x) = w else {
+        return 0.0 / 0.0;
+    };
+    x
 }

@@ -6,6 +6,8 @@ use numeric::power::whole_power;
 use numeric::working::Worked;
 use numeric::working::is_finite;
 use roots::exponent::Exponent;
+use roots::exponent::Printed;
+use roots::exponent::worked_as;
 use roots::root::root;
 
 fn say(text: &[u8]) {
@@ -45,6 +47,15 @@ fn root_of(x: f64, m: usize, k: usize) {
     tell(root(x, Exponent { m, k }));
 }
 
+// A root at an exponent as 004 prints it.
+fn printed_root_of(x: f64, name: &[u8], printed: Printed) {
+    say(b"root ");
+    say(name);
+    say(b" of ");
+    show(x);
+    tell(root(x, worked_as(printed)));
+}
+
 fn power_of(x: f64, n: usize) {
     say(b"power ");
     io::print_decimal(STDOUT_FILENO, n as u64);
@@ -58,9 +69,11 @@ fn exponentials() {
     e_to(-0.0);
     e_to(-701.0);
     e_to(-700.0);
+    e_to(-700.0000000000001);
     e_to(700.0);
     e_to(700.0000000000001);
     e_to(1.0 / 0.0);
+    e_to(-1.0 / 0.0);
     e_to(0.0 / 0.0);
     e_to(1.0);
     e_to(-1.0);
@@ -83,6 +96,10 @@ fn roots_of(x: f64) {
     root_of(x, 7, 8);
     root_of(x, 37, 40);
     root_of(x, 17, 50);
+    printed_root_of(x, b"0.34", Printed::Of0_34);
+    printed_root_of(x, b"10/6", Printed::Of10_6);
+    printed_root_of(x, b"0.875", Printed::Of0_875);
+    printed_root_of(x, b"0.925", Printed::Of0_925);
 }
 
 fn edges() {

@@ -102,7 +102,7 @@ steady (e^ a) = steady a
 steady (root e a) = steady a
 
 -- ---- an operation of one number
-checked-plain : (w : Worked) → T (sound w) → checked (plain w) ≡ w
+pub checked-plain : (w : Worked) → T (sound w) → checked (plain w) ≡ w
 checked-plain Failed s = refl
 checked-plain (Number nan) s = absurd s
 checked-plain (Number (inf b)) s = absurd s
@@ -189,3 +189,54 @@ once (minus a) s = checked-neg (value a) ∙ ap (λ (w : Worked). then w (λ x. 
 once (size a) s = checked-absolute (value a) ∙ ap (λ (w : Worked). then w (λ x. Number (absolute x))) (once a s)
 once (e^ a) s = checked-exponential (value a) ∙ ap (λ (w : Worked). then w exponential) (once a s)
 once (root e a) s = checked-root e (value a) ∙ ap (λ (w : Worked). then w (Root.root e)) (once a s)
+
+-- an exponential or a root of a formula, as code calls it
+pub once-e^ : (a : Formula) → T (steady a) → exponential (value a) ≡ work (e^ a)
+unfolding value work steady
+once-e^ a s = sym (checked-plain (exponential (value a)) (exponential-sound (value a))) ∙ once (e^ a) s
+
+pub once-root : (e : Exponent) (a : Formula) → T (steady a) → Root.root e (value a) ≡ work (root e a)
+unfolding value work steady
+once-root e a s = sym (checked-plain (Root.root e (value a)) (root-sound e (value a))) ∙ once (root e a) s
+
+-- ---- what a formula is worked to is finite
+then-sound : (w : Worked) (f : Float → Worked) → ((x : Float) → T (sound (f x))) → T (sound (then w f))
+then-sound Failed f h = tt
+then-sound (Number x) f h = h x
+
+power-sound : (w : Worked) (n : ℕ) → T (sound w) → T (sound (w ^ᵂ n))
+unfolding _^ᵂ_ _*ᵂ_
+power-sound w zero s = checked-sound (whole 1)
+power-sound w (suc zero) s = s
+power-sound w (suc (suc n)) s = both-sound (Ieee.mul binary64) (w ^ᵂ suc n) w
+
+neg-sound : (w : Worked) → T (sound w) → T (sound (then w (λ x. Number (Ieee.neg x))))
+unfolding Ieee.neg
+neg-sound Failed s = tt
+neg-sound (Number nan) s = s
+neg-sound (Number (inf b)) s = s
+neg-sound (Number (fin b m e)) s = tt
+
+either-finite-sound : (b s : Bool) (m : ℕ) (e : ℤ) → T (finite (cond b (fin (not s) m e) (fin s m e)))
+either-finite-sound true s m e = tt
+either-finite-sound false s m e = tt
+
+size-sound : (w : Worked) → T (sound w) → T (sound (then w (λ x. Number (absolute x))))
+unfolding absolute Ieee.neg
+size-sound Failed s = tt
+size-sound (Number nan) s = absurd s
+size-sound (Number (inf b)) s = absurd s
+size-sound (Number (fin b m e)) s = either-finite-sound (Ieee.lt (fin b m e) (whole 0)) b m e
+
+pub work-sound : (f : Formula) → T (sound (work f))
+unfolding work _+ᵂ_ _-ᵂ_ _*ᵂ_ _/ᵂ_
+work-sound (num x) = checked-sound x
+work-sound (a ⊕ b) = both-sound (Ieee.add binary64) (work a) (work b)
+work-sound (a ⊖ b) = both-sound (Ieee.sub binary64) (work a) (work b)
+work-sound (a ⊗ b) = both-sound (Ieee.mul binary64) (work a) (work b)
+work-sound (a ⊘ b) = both-sound (Ieee.div binary64) (work a) (work b)
+work-sound (a ^^ n) = power-sound (work a) n (work-sound a)
+work-sound (minus a) = neg-sound (work a) (work-sound a)
+work-sound (size a) = size-sound (work a) (work-sound a)
+work-sound (e^ a) = then-sound (work a) exponential exponential-sound
+work-sound (root e a) = then-sound (work a) (Root.root e) (root-sound e)

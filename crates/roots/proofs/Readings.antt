@@ -4,13 +4,18 @@ use mathlib.Core.List.{List, map}
 use lib.Ieee as Ieee
 use Rattle.numeric.specs.Number.{whole}
 use Rattle.numeric.specs.Working.{_-ᵂ_, _*ᵂ_, _/ᵂ_}
-use Rattle.numeric.specs.Power.{_^ᵂ_}
+use Rattle.numeric.specs.Power.{power, _^ᵂ_}
 use Rattle.numeric.specs.Exponential.{exponential, falling, series, squared}
 use Rattle.numeric.specs.Halving.{halve, narrow, middle}
 use Rattle.roots.specs.Root.{root, searched, rootBits, powerAt}
-use Rattle.roots.specs.Readings.{Reading, readings}
+use Rattle.roots.specs.Formula.{work, absolute}
+use Rattle.roots.specs.Readings.{Starred, readings, sizes}
 use Rattle.numeric.specs.declared.working.Worked.{Worked}
 
-pub all-read : map (λ (r : Reading). r .worked) readings ≡ map (λ (r : Reading). r .reads) readings
-unfolding readings exponential falling series squared root searched rootBits powerAt halve narrow middle whole _-ᵂ_ _*ᵂ_ _/ᵂ_ _^ᵂ_ Ieee.ofInt Ieee.eq Ieee.lt Ieee.le Ieee.neg Ieee.sub Ieee.mul Ieee.div Ieee.toBits Ieee.ofBits
+pub all-read : map (λ (r : Starred). r .worked) readings ≡ map (λ (r : Starred). r .reads) readings
+unfolding readings exponential falling series squared root searched rootBits powerAt halve narrow middle whole _-ᵂ_ _*ᵂ_ _/ᵂ_ _^ᵂ_ power Ieee.ofInt Ieee.eq Ieee.lt Ieee.le Ieee.neg Ieee.sub Ieee.mul Ieee.div Ieee.toBits Ieee.ofBits
 all-read = refl
+
+sizes-read : map (λ (r : Starred). r .worked) sizes ≡ map (λ (r : Starred). r .reads) sizes
+unfolding sizes work absolute whole Ieee.ofInt Ieee.lt Ieee.neg
+sizes-read = refl

@@ -15,7 +15,7 @@ use Rattle.numeric.specs.declared.halving.Crossing.the-variants.{At, Nowhere, B
 use Rattle.numeric.specs.Number.{whole, nonneg}
 use Rattle.numeric.specs.Working.{checked, then}
 use Rattle.numeric.specs.Power.{power, _^ᵂ_}
-use Rattle.numeric.specs.Halving.{halve, NotAbove, Above, second-not-above, at-second}
+use Rattle.numeric.specs.Halving.{halve, NotAbove, Above, worthy, failed, second-not-above, at-second}
 use Rattle.roots.specs.Root.{powerAt, rootBits, rootOf, searched}
 use Rattle.numeric.proofs.Tables.{at}
 use Rattle.numeric.proofs.Numbers.{infinity}
@@ -72,8 +72,12 @@ unfolding whole ofInt
 at-0 zero h = absurd (omega arith)
 at-0 (suc k) h = power-at-is (suc k) 0 ∙ ap checked (power-of-0 k)
 
+zero-finite : finite (whole 0) ≡ true
+unfolding whole ofInt
+zero-finite = refl
+
 pub first-not-above : (k : ℕ) (t : Float) → 1 ≤ k → T (nonneg t) → NotAbove (powerAt k) t 0
-first-not-above k t h p = record { number = whole 0; worked = at-0 k h; stands = not-below-0 t p }
+first-not-above k t h p = record { number = whole 0; worked = at-0 k h; bounded = zero-finite; stands = not-below-0 t p }
 
 -- up to the 51st a whole power of 2²⁰ is finite, and from the 52nd on it is not
 pub top-finite : (k : ℕ) → k ≤ 51 → T (finite (power (ofBits binary64 top) k))
@@ -91,36 +95,44 @@ top-infinite (suc j) =
 pub works : (k b : ℕ) → k ≤ 51 → b ≤ top → powerAt k b ≡ Number (power (ofBits binary64 b) k)
 works k b h l = power-at-is k b ∙ nonneg-checked _ (figure-mono k b top l (omega arith) (top-finite k h) .first)
 
+nonneg-finite : (x : Float) → T (nonneg x) → finite x ≡ true
+nonneg-finite nan p = absurd p
+nonneg-finite (inf s) p = absurd p
+nonneg-finite (fin s m e) p = refl
+
+bounded-at : (k b : ℕ) → k ≤ 51 → b ≤ top → finite (power (ofBits binary64 b) k) ≡ true
+bounded-at k b h l = nonneg-finite (power (ofBits binary64 b) k) (figure-mono k b top l (omega arith) (top-finite k h) .first)
+
 -- and past it none ever: 2²⁰ has no power to compare with
 pub fails : (k : ℕ) (t : Float) → 52 ≤ k → rootBits k t ≡ Broke
 fails k t h =
     let e : k ≡ k - 52 + 52 = omega arith in
     root-bits-is k t
-    ∙ breaks-back (powerAt k) t 0 top (omega arith) (omega arith) (at-second (power-at-is k top ∙ ap (λ (i : ℕ). checked (power (ofBits binary64 top) i)) e ∙ ap checked (top-infinite (k - 52))))
+    ∙ breaks-back (powerAt k) t 0 top (omega arith) (omega arith) (at-second (failed (power-at-is k top ∙ ap (λ (i : ℕ). checked (power (ofBits binary64 top) i)) e ∙ ap checked (top-infinite (k - 52)))))
 
 -- a figure that code worked, and what it tested of it
 pub above-at : (k b : ℕ) (t x : Float) → k ≤ 51 → b ≤ top → x ≡ power (ofBits binary64 b) k → lt t x ≡ true → Above (powerAt k) t b
-above-at k b t x h l e s = record { number = x; worked = works k b h l ∙ ap Number (sym e); stands = s }
+above-at k b t x h l e s = record { number = x; worked = works k b h l ∙ ap Number (sym e); bounded = ap finite e ∙ bounded-at k b h l; stands = s }
 
 pub not-above-at : (k b : ℕ) (t x : Float) → k ≤ 51 → b ≤ top → x ≡ power (ofBits binary64 b) k → lt t x ≡ false → NotAbove (powerAt k) t b
-not-above-at k b t x h l e s = record { number = x; worked = works k b h l ∙ ap Number (sym e); stands = s }
+not-above-at k b t x h l e s = record { number = x; worked = works k b h l ∙ ap Number (sym e); bounded = ap finite e ∙ bounded-at k b h l; stands = s }
 
 module _ (k : ℕ) (t : Float) (one : 1 ≤ k) (few : k ≤ 51) (p : T (nonneg t)) where
   last-above : (b : ℕ) → b ≤ top → Above (powerAt k) t b → Above (powerAt k) t top
   last-above b h a = go (lt t (power (ofBits binary64 top) k)) refl
     where
       go : (x : Bool) → lt t (power (ofBits binary64 top) k) ≡ x → Above (powerAt k) t top
-      go true e = record { number = power (ofBits binary64 top) k; worked = works k top few (omega arith); stands = e }
-      go false e = absurd (rises k t p b top h (omega arith) a (record { number = power (ofBits binary64 top) k; worked = works k top few (omega arith); stands = e }))
+      go true e = record { number = power (ofBits binary64 top) k; worked = works k top few (omega arith); bounded = bounded-at k top few (omega arith); stands = e }
+      go false e = absurd (rises k t p b top h (omega arith) a (record { number = power (ofBits binary64 top) k; worked = works k top few (omega arith); bounded = bounded-at k top few (omega arith); stands = e }))
 
   -- the place where the power passes t, however it was come by
   pub crossing-is : (r : ℕ) → r + 1 ≤ top → NotAbove (powerAt k) t r → Above (powerAt k) t (r + 1) → rootBits k t ≡ At r
   crossing-is r h a b =
       root-bits-is k t
-      ∙ unique-crossing (powerAt k) t 0 top r (rises k t p) (λ c l u. (power (ofBits binary64 c) k, works k c few u)) (omega arith) (first-not-above k t one p) (last-above (r + 1) h b) (omega arith) h a b
+      ∙ unique-crossing (powerAt k) t 0 top r (rises k t p) (λ c l u. worthy (power (ofBits binary64 c) k) (works k c few u) (bounded-at k c few u)) (omega arith) (first-not-above k t one p) (last-above (r + 1) h b) (omega arith) h a b
 
   pub no-crossing : NotAbove (powerAt k) t top → rootBits k t ≡ Nowhere
-  no-crossing b = root-bits-is k t ∙ nowhere-back (powerAt k) t 0 top (second-not-above (whole 0) (at-0 k one) b)
+  no-crossing b = root-bits-is k t ∙ nowhere-back (powerAt k) t 0 top (second-not-above (worthy (whole 0) (at-0 k one) zero-finite) b)
 
 -- the bits of an answer are those of a number
 pub crossing-below : (k : ℕ) (t : Float) (b : ℕ) → rootBits k t ≡ At b → b < infinity

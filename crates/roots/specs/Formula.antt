@@ -1,5 +1,5 @@
 -- Formulas, and how one is worked: a number that is not finite anywhere on the way, or a root or exponential that is refused, fails the whole
--- (document 01, refusal 7). Definitions only.
+-- (document 01, refusal 7). Of x⁰, which is 1, nothing is worked. Definitions only.
 use Prim.Native.Nat.{ℕ}
 use mathlib.Core.Bool.{cond}
 use lib.Ieee as Ieee

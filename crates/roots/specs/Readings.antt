@@ -2,30 +2,34 @@
 use mathlib.Core.List.{List, [], _∷_}
 use lib.Ieee as Ieee
 use Rattle.numeric.specs.Number.{whole}
-use Rattle.numeric.specs.Working.{checked}
-use Rattle.numeric.specs.Power.{_^ᵂ_}
+use Rattle.numeric.specs.Power.{power}
 use Rattle.numeric.specs.Exponential.{exponential}
 use Rattle.roots.specs.Root.{root}
+use Rattle.roots.specs.Formula.{num, size, work}
 use Rattle.numeric.specs.declared.working.Worked.{Worked}
 use Rattle.numeric.specs.declared.working.Worked.the-variants.{Number}
 use Rattle.roots.specs.declared.exponent.Exponent.{Exponent}
 
-pub record Reading : Type 0 where
+pub record Starred : Type 0 where
   pub worked : Worked
   pub reads : Worked
 
 infix 4 _gives_
-abbrev pub _gives_ : Worked → Worked → Reading
+abbrev pub _gives_ : Worked → Worked → Starred
 w gives r = record { worked = w; reads = r }
 
 abbrev square-root : Exponent
 square-root = record { m = 1; k = 2 }
 
-unfoldable pub readings : List Reading
+unfoldable pub readings : List Starred
 readings =
     (exponential (whole 0) gives Number (whole 1))
     ∷ (exponential (Ieee.neg (whole 701)) gives Number (whole 0))
-    ∷ (checked (whole 2) ^ᵂ 10 gives Number (whole 1024))
+    ∷ (Number (power (whole 2) 10) gives Number (whole 1024))
     ∷ (root square-root (whole 0) gives Number (whole 0))
     ∷ (root square-root (whole 1) gives Number (whole 1))
     ∷ []
+
+-- |−1| and |1|, which no reading of 01 names
+unfoldable pub sizes : List Starred
+sizes = (work (size (num (Ieee.neg (whole 1)))) gives Number (whole 1)) ∷ (work (size (num (whole 1))) gives Number (whole 1)) ∷ []

@@ -65,7 +65,7 @@ fn guess(x: f64, m: u32, k: u32, t: f64) -> u64
     0
 }
 
-// A place strictly between lo and hi to look at next: the guess, or by ever wider steps past it, or the middle.
+// A place strictly between lo and hi to look at next: the guess, then a few ever wider steps past it, then the middle.
 fn probe(lo: u64, hi: u64, guess: u64, width: u64) -> u64
     requires { ⌜ lo + 1 < hi ⌝ }
     requires { ⌜ 0 < width ⌝ }
@@ -75,6 +75,9 @@ fn probe(lo: u64, hi: u64, guess: u64, width: u64) -> u64
         if guess < hi {
             return guess;
         }
+    }
+    if 64 < width {
+        return lo + (hi - lo) / 2;
     }
     // width is 1 at the guess and then 2, 4, ..: the steps are 1, 2, ..
     let step = width - width / 2;

@@ -13,11 +13,11 @@ enum-told : tie.Need-enum-told
 enum-told c = search needs
 
 returns : tie.Need-returns
-returns c = search needs
+unfolding ofBits div
+returns c = sym (ap plain (c .enum-told .given .1))
 
 returns-2 : tie.Need-returns-2
-unfolding ofBits div
-returns-2 c = sym (ap plain (c .enum-told .given .1))
+returns-2 c = search needs
 
 pub plain-spec : {M : Type 1} → statement M
 plain-spec = tie.close (tie.spec enum-known-w enum-told returns returns-2)

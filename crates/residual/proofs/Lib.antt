@@ -1,2 +1,0 @@
-pub mod Fills
-pub mod Isotherms

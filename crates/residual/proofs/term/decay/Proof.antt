@@ -1,0 +1,18 @@
+-- The exponential is the definition's. Assumes nothing.
+use mathlib.Core.Path.{ap, _∙_}
+use borrow.Author.Needs.{needs}
+use Rattle.numeric.specs.Working.{plain}
+use Rattle.residual.proofs.term.decay.Statement.{statement}
+use Rattle.residual.proofs.term.decay.Tie as tie
+
+exponential-requires : tie.Need-exponential-requires
+exponential-requires c κs = search needs
+
+plain-requires : tie.Need-plain-requires
+plain-requires c κs = search needs
+
+returns : tie.Need-returns
+returns c = c .plain .ensures ∙ ap plain (c .before .exponential .ensures)
+
+pub decay-spec : {M : Type 1} → statement M
+decay-spec = tie.close (tie.spec exponential-requires plain-requires returns)

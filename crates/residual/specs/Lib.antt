@@ -1,0 +1,4 @@
+pub mod Row
+pub mod Isotherm
+pub mod Term
+pub mod Critical

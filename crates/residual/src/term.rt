@@ -1,0 +1,68 @@
+// What the residual part's sums are made of: which derivative, and what is worked once for a state at a density.
+ghost use mathlib.Core.Path.{_≡_};
+ghost use lib.Ieee.{neg};
+ghost use Rattle.numeric.specs.Exponential.{exponential};
+ghost use Rattle.numeric.specs.Working.{plain};
+ghost use Rattle.residual.specs.Term.{point};
+use crate::isotherm::Isotherm;
+use numeric::exponential::exponential;
+use numeric::power::powers_to_10;
+use numeric::working::plain;
+
+// The five derivatives that Table 3 needs, each with its factor: δφ_δ, δ²φ_δδ, τφ_τ, τ²φ_ττ, δτφ_δτ.
+pub enum Derivative {
+    Delta,
+    DeltaDelta,
+    Tau,
+    TauTau,
+    DeltaTau,
+}
+
+// The powers of δ, e^(−δᶜ) for c from 1 to 6, and the exponentials of rows 35 to 39.
+pub struct Point {
+    pub delta: f64,
+    pub powers: [f64; 11],
+    pub decays: [f64; 6],
+    pub bells: [f64; 5],
+}
+
+// e⁻ˣ, for a formula that goes on in plain f64.
+fn decay(x: f64) -> f64
+    ensures { λ r. ⌜ r ≡ plain (exponential (neg x)) ⌝ }
+{
+    plain(exponential(-x))
+}
+
+pub fn at_density(iso: Isotherm, delta: f64) -> Point
+    ensures { λ r. ⌜ r ≡ point iso delta ⌝ }
+{
+    let powers = powers_to_10(delta);
+    let x = delta - 1.0;
+    let xx = x * x;
+    let spread = iso.spread;
+    let d2 = delta * delta;
+    let d3 = d2 * delta;
+    let d4 = d3 * delta;
+    let d5 = d4 * delta;
+    let decays = [
+        decay(delta),
+        decay(d2),
+        decay(d3),
+        decay(d4),
+        decay(d5),
+        decay(d5 * delta),
+    ];
+    let bells = [
+        decay(25.0 * xx + spread[0]),
+        decay(25.0 * xx + spread[1]),
+        decay(25.0 * xx + spread[2]),
+        decay(15.0 * xx + spread[3]),
+        decay(20.0 * xx + spread[4]),
+    ];
+    Point {
+        delta,
+        powers,
+        decays,
+        bells,
+    }
+}

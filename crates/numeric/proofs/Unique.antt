@@ -13,6 +13,7 @@ use Rattle.numeric.proofs.power.powers_to_28.Reads as powers-to-28
 use Rattle.numeric.proofs.power.whole_power.Reads as whole-power
 use Rattle.numeric.proofs.working.checked.Reads as checked
 use Rattle.numeric.proofs.working.is_finite.Reads as is-finite
+use Rattle.numeric.proofs.working.over.Reads as over
 use Rattle.numeric.proofs.working.plain.Reads as plain
 
 -- two answers to one call are equal, whatever else the call left
@@ -28,6 +29,9 @@ is-finite-once a r s x y = by-equation
 
 pub checked-once : OneAnswer Worked (checked.Post tt)
 checked-once a r s x y = by-equation
+
+pub over-once : OneAnswer Float (over.Post tt)
+over-once a r s x y = by-equation
 
 pub plain-once : OneAnswer Float (plain.Post tt)
 plain-once a r s x y = by-equation

@@ -16,6 +16,10 @@ abbrev pub plain : Worked → Float
 plain Failed = nan
 plain (Number x) = x
 
+-- a quotient in plain f64: by a divisor that is not finite it is a NaN, since a number over an infinity would be 0, unseen
+abbrev pub over : Float → Float → Float
+over x y = Ieee.div binary64 x (plain (checked y))
+
 -- what is worked from a number, failed where the number has
 abbrev pub then : Worked → (Float → Worked) → Worked
 then Failed f = Failed

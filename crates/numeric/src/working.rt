@@ -1,7 +1,7 @@
 // A number that was worked is finite, or the working has failed (document 01, refusal 7).
 ghost use mathlib.Core.Path.{_≡_};
 ghost use lib.Ieee.Scale.{finite};
-ghost use Rattle.numeric.specs.Working.{checked, plain};
+ghost use Rattle.numeric.specs.Working.{checked, over, plain};
 
 pub enum Worked {
     Number(f64),
@@ -34,4 +34,12 @@ pub fn plain(w: Worked) -> f64
         return 0.0 / 0.0;
     };
     x
+}
+
+// A quotient by a divisor that is not a constant.
+pub fn over(x: f64, y: f64) -> f64
+    ensures { λ r. ⌜ r ≡ over x y ⌝ }
+{
+    let divisor = plain(checked(y));
+    x / divisor
 }

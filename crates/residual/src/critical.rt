@@ -7,6 +7,7 @@ use crate::row::NonAnalytic;
 use numeric::exponential::exponential;
 use numeric::working::Worked;
 use numeric::working::checked;
+use numeric::working::over;
 use roots::exponent::Exponent;
 use roots::exponent::Printed;
 use roots::exponent::worked_as;
@@ -120,7 +121,7 @@ fn edge_power(row: NonAnalytic, n: Near, z: f64, theta: f64, delta: f64) -> Edgi
     let Worked::Number(p0) = root(delta, worked_as(b)) else {
         return Edging::Blunt;
     };
-    let Worked::Number(p1) = checked(p0 / delta) else {
+    let Worked::Number(p1) = checked(over(p0, delta)) else {
         return Edging::Blunt;
     };
     edge_psi(row, n, z, theta, delta, p0, p1)

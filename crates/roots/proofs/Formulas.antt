@@ -1,17 +1,15 @@
--- A formula worked in plain f64 and tested once at its end is the formula worked with a test of every number, where no divisor is infinite unseen.
--- Assumes nothing.
+-- A formula worked in plain f64 and tested once at its end is the formula worked with a test of every number. Assumes nothing.
 use Prim.Native.Nat.{ℕ, zero, suc, _*_}
 use mathlib.Core.Path.{_≡_, refl, sym, ap, _∙_, subst}
-use mathlib.Core.Bool.{Bool, true, false, not, _&&_, _||_, cond}
+use mathlib.Core.Bool.{Bool, true, false, not, cond}
 use native.Mathlib.Omega.{arith}
 use lib.Dec.{T, ltb, eqb}
 use lib.IntN.{ℤ}
 use lib.Ieee as Ieee
 use lib.Ieee.{Float, nan, inf, fin, binary64}
-use lib.Ieee.Fits.{and-l, and-r}
 use lib.Ieee.Scale.{finite}
 use Rattle.numeric.specs.Number.{whole}
-use Rattle.numeric.specs.Working.{checked, plain, then, pick, both, _+ᵂ_, _-ᵂ_, _*ᵂ_, _/ᵂ_}
+use Rattle.numeric.specs.Working.{checked, over, plain, then, pick, both, _+ᵂ_, _-ᵂ_, _*ᵂ_, _/ᵂ_}
 use Rattle.numeric.specs.Power.{power, _^ᵂ_}
 use Rattle.numeric.specs.Exponential.{exponential, falling, squared, series}
 use Rattle.roots.specs.Root as Root
@@ -22,7 +20,7 @@ use Rattle.numeric.specs.declared.working.Worked.the-variants.{Number, Failed}
 use Rattle.numeric.specs.declared.halving.Crossing.{Crossing}
 use Rattle.numeric.specs.declared.halving.Crossing.the-variants.{At, Nowhere, Broke}
 use Rattle.roots.specs.declared.exponent.Exponent.{Exponent}
-use Rattle.numeric.proofs.Workings.{checked-failed, checked-add, checked-sub, checked-mul, checked-div}
+use Rattle.numeric.proofs.Workings.{checked-add, checked-sub, checked-mul, checked-div}
 use Rattle.numeric.proofs.Powers.{checked-power}
 use Rattle.roots.proofs.Orders.{bits-finite}
 use Rattle.roots.proofs.Roots.{crossing-below}
@@ -84,23 +82,6 @@ root-sound e x =
     (pick-sound (Ieee.lt x (whole 0)) _ _ tt
     (pick-sound (Ieee.eq x (whole 0)) _ _ tt (searched-sound (e .m) (e .k) x))) tt) tt
 
--- a divisor is finite, or its quotient is not either: an infinity must not turn a number into 0 unseen
-unfoldable pub fair : Float → Float → Bool
-fair x y = finite y || not (finite (Ieee.div binary64 x y))
-
--- every divisor is fair
-unfoldable pub steady : Formula → Bool
-steady (num x) = true
-steady (a ⊕ b) = steady a && steady b
-steady (a ⊖ b) = steady a && steady b
-steady (a ⊗ b) = steady a && steady b
-steady (a ⊘ b) = steady a && (steady b && fair (value a) (value b))
-steady (a ^^ n) = steady a
-steady (minus a) = steady a
-steady (size a) = steady a
-steady (e^ a) = steady a
-steady (root e a) = steady a
-
 -- ---- an operation of one number
 pub checked-plain : (w : Worked) → T (sound w) → checked (plain w) ≡ w
 checked-plain Failed s = refl
@@ -150,54 +131,45 @@ refused-infinite e s = either-failed (ltb (e .m) (2 * e .k))
 checked-root : (e : Exponent) (x : Float) → checked (plain (Root.root e x)) ≡ then (checked x) (Root.root e)
 checked-root e = checked-refusing (Root.root e) (root-sound e) (refused e) (refused-infinite e)
 
--- ---- a fair division
+-- ---- a quotient
 over-failed : (w : Worked) → Failed ≡ w /ᵂ Failed
 unfolding _/ᵂ_
 over-failed Failed = refl
 over-failed (Number x) = refl
 
-fair-div : (x y : Float) → T (fair x y) → checked (Ieee.div binary64 x y) ≡ checked x /ᵂ checked y
-unfolding fair
-fair-div x y t = go (finite y) (finite (Ieee.div binary64 x y)) refl refl t
-  where
-    go : (b c : Bool) → finite y ≡ b → finite (Ieee.div binary64 x y) ≡ c → T (b || not c) → checked (Ieee.div binary64 x y) ≡ checked x /ᵂ checked y
-    go true c e f h = checked-div x y (subst T (sym e) tt)
-    go false true e f h = absurd h
-    go false false e f h = sym (checked-failed (Ieee.div binary64 x y) f) ∙ over-failed (checked x) ∙ ap (λ (w : Worked). checked x /ᵂ w) (checked-failed y e)
+by-nan : (x : Float) → checked (Ieee.div binary64 x nan) ≡ Failed
+unfolding Ieee.div
+by-nan nan = refl
+by-nan (inf s) = refl
+by-nan (fin s m e) = refl
 
--- a root over its own number: where that is not finite the root is refused
-pub root-fair : (e : Exponent) (x : Float) → T (fair (plain (Root.root e x)) x)
-unfolding fair Ieee.div
-root-fair e nan = rw (refused e) tt
-root-fair e (inf s) = rw (refused-infinite e s) tt
-root-fair e (fin s m d) = tt
+checked-over : (x y : Float) → checked (over x y) ≡ checked x /ᵂ checked y
+checked-over x nan = by-nan x ∙ over-failed (checked x)
+checked-over x (inf s) = by-nan x ∙ over-failed (checked x)
+checked-over x (fin s m e) = checked-div x (fin s m e) tt
 
 -- ---- so one test, of the last number, stands for all
-pub once : (e : Formula) → T (steady e) → checked (value e) ≡ work e
-unfolding value work steady
-once (num x) s = refl
-once (a ⊕ b) s = checked-add (value a) (value b) ∙ ap (λ (w : Worked). w +ᵂ checked (value b)) (once a (and-l (steady a) (steady b) s)) ∙ ap (λ (w : Worked). work a +ᵂ w) (once b (and-r (steady a) (steady b) s))
-once (a ⊖ b) s = checked-sub (value a) (value b) ∙ ap (λ (w : Worked). w -ᵂ checked (value b)) (once a (and-l (steady a) (steady b) s)) ∙ ap (λ (w : Worked). work a -ᵂ w) (once b (and-r (steady a) (steady b) s))
-once (a ⊗ b) s = checked-mul (value a) (value b) ∙ ap (λ (w : Worked). w *ᵂ checked (value b)) (once a (and-l (steady a) (steady b) s)) ∙ ap (λ (w : Worked). work a *ᵂ w) (once b (and-r (steady a) (steady b) s))
-once (a ⊘ b) s =
-    let r = and-r (steady a) (steady b && fair (value a) (value b)) s in
-    fair-div (value a) (value b) (and-r (steady b) (fair (value a) (value b)) r)
-    ∙ ap (λ (w : Worked). w /ᵂ checked (value b)) (once a (and-l (steady a) (steady b && fair (value a) (value b)) s))
-    ∙ ap (λ (w : Worked). work a /ᵂ w) (once b (and-l (steady b) (fair (value a) (value b)) r))
-once (a ^^ n) s = checked-power (value a) n ∙ ap (λ (w : Worked). w ^ᵂ n) (once a s)
-once (minus a) s = checked-neg (value a) ∙ ap (λ (w : Worked). then w (λ x. Number (Ieee.neg x))) (once a s)
-once (size a) s = checked-absolute (value a) ∙ ap (λ (w : Worked). then w (λ x. Number (absolute x))) (once a s)
-once (e^ a) s = checked-exponential (value a) ∙ ap (λ (w : Worked). then w exponential) (once a s)
-once (root e a) s = checked-root e (value a) ∙ ap (λ (w : Worked). then w (Root.root e)) (once a s)
+pub once : (e : Formula) → checked (value e) ≡ work e
+unfolding value work
+once (num x) = refl
+once (a ⊕ b) = checked-add (value a) (value b) ∙ ap (λ (w : Worked). w +ᵂ checked (value b)) (once a) ∙ ap (λ (w : Worked). work a +ᵂ w) (once b)
+once (a ⊖ b) = checked-sub (value a) (value b) ∙ ap (λ (w : Worked). w -ᵂ checked (value b)) (once a) ∙ ap (λ (w : Worked). work a -ᵂ w) (once b)
+once (a ⊗ b) = checked-mul (value a) (value b) ∙ ap (λ (w : Worked). w *ᵂ checked (value b)) (once a) ∙ ap (λ (w : Worked). work a *ᵂ w) (once b)
+once (a ⊘ b) = checked-over (value a) (value b) ∙ ap (λ (w : Worked). w /ᵂ checked (value b)) (once a) ∙ ap (λ (w : Worked). work a /ᵂ w) (once b)
+once (a ^^ n) = checked-power (value a) n ∙ ap (λ (w : Worked). w ^ᵂ n) (once a)
+once (minus a) = checked-neg (value a) ∙ ap (λ (w : Worked). then w (λ x. Number (Ieee.neg x))) (once a)
+once (size a) = checked-absolute (value a) ∙ ap (λ (w : Worked). then w (λ x. Number (absolute x))) (once a)
+once (e^ a) = checked-exponential (value a) ∙ ap (λ (w : Worked). then w exponential) (once a)
+once (root e a) = checked-root e (value a) ∙ ap (λ (w : Worked). then w (Root.root e)) (once a)
 
 -- an exponential or a root of a formula, as code calls it
-pub once-e^ : (a : Formula) → T (steady a) → exponential (value a) ≡ work (e^ a)
-unfolding value work steady
-once-e^ a s = sym (checked-plain (exponential (value a)) (exponential-sound (value a))) ∙ once (e^ a) s
+pub once-e^ : (a : Formula) → exponential (value a) ≡ work (e^ a)
+unfolding value
+once-e^ a = sym (checked-plain (exponential (value a)) (exponential-sound (value a))) ∙ once (e^ a)
 
-pub once-root : (e : Exponent) (a : Formula) → T (steady a) → Root.root e (value a) ≡ work (root e a)
-unfolding value work steady
-once-root e a s = sym (checked-plain (Root.root e (value a)) (root-sound e (value a))) ∙ once (root e a) s
+pub once-root : (e : Exponent) (a : Formula) → Root.root e (value a) ≡ work (root e a)
+unfolding value
+once-root e a = sym (checked-plain (Root.root e (value a)) (root-sound e (value a))) ∙ once (root e a)
 
 -- ---- what a formula is worked to is finite
 then-sound : (w : Worked) (f : Float → Worked) → ((x : Float) → T (sound (f x))) → T (sound (then w f))

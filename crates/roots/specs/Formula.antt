@@ -5,7 +5,7 @@ use mathlib.Core.Bool.{cond}
 use lib.Ieee as Ieee
 use lib.Ieee.{Float, binary64}
 use Rattle.numeric.specs.Number.{whole}
-use Rattle.numeric.specs.Working.{checked, plain, then, _+ᵂ_, _-ᵂ_, _*ᵂ_, _/ᵂ_}
+use Rattle.numeric.specs.Working.{checked, over, plain, then, _+ᵂ_, _-ᵂ_, _*ᵂ_, _/ᵂ_}
 use Rattle.numeric.specs.Power.{power, _^ᵂ_}
 use Rattle.numeric.specs.Exponential.{exponential}
 use Rattle.roots.specs.Root as Root
@@ -46,7 +46,7 @@ value (num x) = x
 value (a ⊕ b) = Ieee.add binary64 (value a) (value b)
 value (a ⊖ b) = Ieee.sub binary64 (value a) (value b)
 value (a ⊗ b) = Ieee.mul binary64 (value a) (value b)
-value (a ⊘ b) = Ieee.div binary64 (value a) (value b)
+value (a ⊘ b) = over (value a) (value b)
 value (a ^^ n) = power (value a) n
 value (minus a) = Ieee.neg (value a)
 value (size a) = absolute (value a)

@@ -3,7 +3,7 @@ use mathlib.Core.Path.{_≡_, sym, ap, _∙_}
 use lib.Ieee.{ofBits, ofInt}
 use Rattle.numeric.specs.Number.{whole}
 use Rattle.roots.specs.Formula.{Formula, num, _⊕_, _⊖_, _⊗_, _⊘_, minus, e^, value, work}
-use Rattle.roots.proofs.Formulas.{steady, once}
+use Rattle.roots.proofs.Formulas.{once}
 use Rattle.residual.specs.Term.{one}
 use Rattle.residual.specs.Critical.{edge}
 use borrow.Author.Needs.{needs}
@@ -12,22 +12,22 @@ use Rattle.residual.proofs.critical.edge_of.Tie as tie
 
 theta-is : (c : tie.After-checked)
     → (let a = c .before .before .before .args in work ((one ⊖ num (a .tau)) ⊕ num (a .row .ka) ⊗ num (a .n .r))) ≡ c .checked .result
-unfolding value steady ofBits ofInt whole
+unfolding value ofBits ofInt whole
 theta-is c =
     let a = c .before .before .before .args in
-    sym (c .checked .ensures ∙ once ((one ⊖ num (a .tau)) ⊕ num (a .row .ka) ⊗ num (a .n .r)) tt)
+    sym (c .checked .ensures ∙ once ((one ⊖ num (a .tau)) ⊕ num (a .row .ka) ⊗ num (a .n .r)))
 
 delta-is : (c : tie.After-checked2)
     → (let u = c .before .before .before in
-       let t = u .before .before .before .before in
-       let a = t .before .before .before .before .before .args in
-       work (num (t .theta .given .0 .0) ⊗ num (t .theta .given .0 .0) ⊕ num (a .row .kb) ⊗ num (u .up .given .0 .0))) ≡ c .checked2 .result
-unfolding value steady
+    let t = u .before .before .before .before in
+    let a = t .before .before .before .before .before .args in
+    work (num (t .theta .given .0 .0) ⊗ num (t .theta .given .0 .0) ⊕ num (a .row .kb) ⊗ num (u .up .given .0 .0))) ≡ c .checked2 .result
+unfolding value
 delta-is c =
     let u = c .before .before .before in
     let t = u .before .before .before .before in
     let a = t .before .before .before .before .before .args in
-    sym (c .checked2 .ensures ∙ once (num (t .theta .given .0 .0) ⊗ num (t .theta .given .0 .0) ⊕ num (a .row .kb) ⊗ num (u .up .given .0 .0)) tt)
+    sym (c .checked2 .ensures ∙ once (num (t .theta .given .0 .0) ⊗ num (t .theta .given .0 .0) ⊕ num (a .row .kb) ⊗ num (u .up .given .0 .0)))
 
 checked-requires : tie.Need-checked-requires
 checked-requires c κs = search needs
@@ -53,7 +53,7 @@ enum-told-2 c = search needs
 
 returns-2 : tie.Need-returns-2
 unfolding edge
-returns-2 c = 
+returns-2 c =
     let u = c .before .before in
     let t = u .before .before in
     simp (edge, theta-is (t .before .before) ∙ t .theta .given .1, sym (u .raise .ensures) ∙ c .enum-told2 .given .1)
@@ -69,7 +69,7 @@ enum-told-3 c = search needs
 
 returns-3 : tie.Need-returns-3
 unfolding edge
-returns-3 c = 
+returns-3 c =
     let d = c .before .before in
     let u = d .before .before .before in
     let r = u .before .before in
@@ -81,7 +81,7 @@ edge-power-requires c κs = search needs
 
 returns-4 : tie.Need-returns-4
 unfolding edge
-returns-4 c = 
+returns-4 c =
     let k = c .before .before in
     let d = k .before .before in
     let u = d .before .before .before in

@@ -1,14 +1,11 @@
--- Each step is the definition's; Δ is a fair divisor of its own root. Assumes nothing.
-use mathlib.Core.Path.{_≡_, sym, ap, subst, _∙_}
+-- Each step is the definition's. Assumes nothing.
+use mathlib.Core.Path.{_≡_, sym, ap, _∙_}
 use lib.Ieee.{ofBits, ofInt}
 use Rattle.numeric.specs.Number.{whole}
 use Rattle.roots.specs.Formula.{Formula, num, _⊕_, _⊖_, _⊗_, _⊘_, minus, e^, value, work}
-use Rattle.roots.proofs.Formulas.{steady, fair, once, root-fair}
+use Rattle.roots.proofs.Formulas.{once}
 use Rattle.residual.specs.Term.{one}
-use lib.Dec.{T}
-use lib.Ieee.{Float}
-use Rattle.numeric.specs.Working.{plain}
-use Rattle.numeric.specs.declared.working.Worked.{Worked}
+use Rattle.numeric.specs.Working.{checked}
 use Rattle.roots.specs.declared.exponent.Exponent.{Exponent}
 use Rattle.roots.specs.Exponent.{workedAs}
 use Rattle.roots.specs.Root.{root}
@@ -21,15 +18,12 @@ p0-is : (c : tie.After-root) → root (workedAs (c .before .before .args .row .r
 p0-is c = sym (c .root .ensures ∙ ap (λ (e : Exponent). root e (c .before .before .args .delta)) (c .before .worked-as .ensures))
 
 p1-is : (c : tie.After-checked)
-    → work (num (c .before .before .p0 .given .0 .0) ⊘ num (c .before .before .before .before .before .before .args .delta)) ≡ c .checked .result
-unfolding value steady
+    → work (num (c .before .before .before .p0 .given .0 .0) ⊘ num (c .before .before .before .before .before .before .before .args .delta)) ≡ c .checked .result
+unfolding value
 p1-is c =
-    let p = c .before .before in
-    let r = p .before .before in
-    let a = r .before .before .args in
-    let p0 = p .p0 .given .0 .0 in
-    let f : T (fair p0 (a .delta)) = subst (λ (w : Worked). T (fair (plain w) (a .delta))) (p0-is r ∙ p .p0 .given .1) (root-fair (workedAs (a .row .root)) (a .delta)) in
-    sym (c .checked .ensures ∙ once (num p0 ⊘ num (a .delta)) f)
+    let p0 = c .before .before .before .p0 .given .0 .0 in
+    let delta = c .before .before .before .before .before .before .before .args .delta in
+    sym (c .checked .ensures ∙ ap checked (c .before .over .ensures) ∙ once (num p0 ⊘ num delta))
 
 worked-as-requires : tie.Need-worked-as-requires
 worked-as-requires c κs = search needs
@@ -47,6 +41,9 @@ returns : tie.Need-returns
 unfolding edgePower
 returns c = simp (edgePower, p0-is (c .before .before) ∙ c .enum-told .given .1)
 
+over-requires : tie.Need-over-requires
+over-requires c κs = search needs
+
 checked-requires : tie.Need-checked-requires
 checked-requires c κs = search needs
 
@@ -58,9 +55,9 @@ enum-told-2 c = search needs
 
 returns-2 : tie.Need-returns-2
 unfolding edgePower
-returns-2 c = 
+returns-2 c =
     let k = c .before .before in
-    let p = k .before .before in
+    let p = k .before .before .before in
     simp (edgePower, p0-is (p .before .before) ∙ p .p0 .given .1, p1-is k ∙ c .enum-told2 .given .1)
 
 edge-psi-requires : tie.Need-edge-psi-requires
@@ -68,10 +65,10 @@ edge-psi-requires c κs = search needs
 
 returns-3 : tie.Need-returns-3
 unfolding edgePower
-returns-3 c = 
+returns-3 c =
     let t = c .before .before in
     let k = t .before .before in
-    let p = k .before .before in
+    let p = k .before .before .before in
     c .edge-psi .ensures ∙ simp (edgePower, p0-is (p .before .before) ∙ p .p0 .given .1, p1-is k ∙ t .p1 .given .1)
 
 pub edge-power-spec : {M : Type 1} → statement M
@@ -83,6 +80,7 @@ edge-power-spec =
     enum-known-p0
     enum-told
     returns
+    over-requires
     checked-requires
     enum-known-p1
     enum-told-2

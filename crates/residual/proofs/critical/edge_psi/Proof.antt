@@ -3,7 +3,7 @@ use mathlib.Core.Path.{_≡_, sym, ap, _∙_}
 use lib.Ieee.{ofBits, ofInt}
 use Rattle.numeric.specs.Number.{whole}
 use Rattle.roots.specs.Formula.{Formula, num, _⊕_, _⊖_, _⊗_, _⊘_, minus, e^, value, work}
-use Rattle.roots.proofs.Formulas.{steady, once-e^}
+use Rattle.roots.proofs.Formulas.{once-e^}
 use Rattle.residual.specs.Term.{one}
 use Rattle.residual.specs.Critical.{edgePsi}
 use borrow.Author.Needs.{needs}
@@ -12,10 +12,10 @@ use Rattle.residual.proofs.critical.edge_psi.Tie as tie
 
 psi-is : (c : tie.After-exponential)
     → (let a = c .before .before .before .before .before .before .before .args in work (e^ (minus (num (a .row .kc) ⊗ num (a .n .x) ⊕ num (a .z))))) ≡ c .exponential .result
-unfolding value steady
+unfolding value
 psi-is c =
     let a = c .before .before .before .before .before .before .before .args in
-    sym (c .exponential .ensures ∙ once-e^ (minus (num (a .row .kc) ⊗ num (a .n .x) ⊕ num (a .z))) tt)
+    sym (c .exponential .ensures ∙ once-e^ (minus (num (a .row .kc) ⊗ num (a .n .x) ⊕ num (a .z))))
 
 lower-requires : tie.Need-lower-requires
 lower-requires c κs = search needs
@@ -41,14 +41,14 @@ enum-told-2 c = search needs
 
 returns-2 : tie.Need-returns-2
 unfolding edgePsi
-returns-2 c = 
+returns-2 c =
     let e = c .before .before in
     let l = e .before .before .before .before in
     simp (edgePsi, sym (l .before .before .lower .ensures) ∙ l .low .given .1, psi-is e ∙ c .enum-told2 .given .1)
 
 returns-3 : tie.Need-returns-3
 unfolding edgePsi
-returns-3 c = 
+returns-3 c =
     let p = c .before in
     let e = p .before .before in
     let l = e .before .before .before .before in

@@ -3,7 +3,7 @@ use mathlib.Core.Path.{_≡_, sym, ap, _∙_}
 use lib.Ieee.{ofBits, ofInt}
 use Rattle.numeric.specs.Number.{whole}
 use Rattle.roots.specs.Formula.{Formula, num, _⊕_, _⊖_, _⊗_, _⊘_, minus, e^, value, work}
-use Rattle.roots.proofs.Formulas.{steady, once}
+use Rattle.roots.proofs.Formulas.{once}
 use Rattle.residual.specs.Term.{one}
 use Rattle.residual.specs.Critical.{near}
 use borrow.Author.Needs.{needs}
@@ -11,12 +11,12 @@ use Rattle.residual.proofs.critical.near_critical.Statement.{statement}
 use Rattle.residual.proofs.critical.near_critical.Tie as tie
 
 e-is : (c : tie.After-checked) → work (num (c .before .args .delta) ⊖ one) ≡ c .checked .result
-unfolding value steady ofBits ofInt whole
-e-is c = sym (c .checked .ensures ∙ once (num (c .before .args .delta) ⊖ one) tt)
+unfolding value ofBits ofInt whole
+e-is c = sym (c .checked .ensures ∙ once (num (c .before .args .delta) ⊖ one))
 
 x-is : (c : tie.After-checked2) → work (num (c .before .before .e .given .0 .0) ⊗ num (c .before .before .e .given .0 .0)) ≡ c .checked2 .result
-unfolding value steady
-x-is c = let e = num (c .before .before .e .given .0 .0) in sym (c .checked2 .ensures ∙ once (e ⊗ e) tt)
+unfolding value
+x-is c = let e = num (c .before .before .e .given .0 .0) in sym (c .checked2 .ensures ∙ once (e ⊗ e))
 
 checked-requires : tie.Need-checked-requires
 checked-requires c κs = search needs
@@ -42,7 +42,7 @@ enum-told-2 c = search needs
 
 returns-2 : tie.Need-returns-2
 unfolding near
-returns-2 c = 
+returns-2 c =
     let x = c .before .before in
     let e = x .before .before in
     simp (near, e-is (e .before .before) ∙ e .e .given .1, x-is x ∙ c .enum-told2 .given .1)
@@ -52,7 +52,7 @@ near-x-requires c κs = search needs
 
 returns-3 : tie.Need-returns-3
 unfolding near
-returns-3 c = 
+returns-3 c =
     let t = c .before .before in
     let x = t .before .before in
     let e = x .before .before in

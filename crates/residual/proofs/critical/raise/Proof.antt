@@ -4,7 +4,7 @@ use mathlib.Core.Bool.{true, false}
 use Rattle.numeric.specs.Power.{power}
 use Rattle.numeric.specs.Working.{checked}
 use Rattle.roots.specs.Formula.{num, _⊗_, _^^_, size, value, work}
-use Rattle.roots.proofs.Formulas.{steady, once}
+use Rattle.roots.proofs.Formulas.{once}
 use Rattle.residual.specs.Critical.{raised}
 use borrow.Author.Needs.{needs}
 use Rattle.residual.proofs.critical.raise.Statement.{statement}
@@ -20,18 +20,18 @@ checked-requires-2 : tie.Need-checked-requires-2
 checked-requires-2 c κs = search needs
 
 returns : tie.Need-returns
-unfolding raised value power steady
-returns c = 
+unfolding raised value power
+returns c =
     let a = c .before .before .before .args in
     let n = a .n in
-    c .checked .ensures ∙ rw (c .before .size-of .ensures, c .before .before .if1 .taken) (once (num (n .x) ^^ 3 ⊗ size (num (n .e))) tt)
+    c .checked .ensures ∙ rw (c .before .size-of .ensures, c .before .before .if1 .taken) (once (num (n .x) ^^ 3 ⊗ size (num (n .e))))
 
 returns-2 : tie.Need-returns-2
-unfolding raised value power steady
-returns-2 c = 
+unfolding raised value power
+returns-2 c =
     let a = c .before .before .args in
     let n = a .n in
-    c .checked2 .ensures ∙ rw (c .before .if1 .left) (once (num (n .x) ^^ 3) tt)
+    c .checked2 .ensures ∙ rw (c .before .if1 .left) (once (num (n .x) ^^ 3))
 
 pub raise-spec : {M : Type 1} → statement M
 raise-spec =

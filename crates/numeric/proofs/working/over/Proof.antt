@@ -1,0 +1,19 @@
+-- The divisor is what is left of y after the test. Assumes nothing.
+use mathlib.Core.Path.{ap, _∙_}
+use borrow.Author.Needs.{needs}
+use lib.Ieee.{Float, binary64, div}
+use Rattle.numeric.specs.Working.{checked, plain}
+use Rattle.numeric.proofs.working.over.Statement.{statement}
+use Rattle.numeric.proofs.working.over.Tie as tie
+
+checked-requires : tie.Need-checked-requires
+checked-requires c κs = search needs
+
+plain-requires : tie.Need-plain-requires
+plain-requires c κs = search needs
+
+returns : tie.Need-returns
+returns c = ap (λ (d : Float). div binary64 (c .before .before .args .x) d) (c .plain .ensures ∙ ap plain (c .before .checked .ensures))
+
+pub over-spec : {M : Type 1} → statement M
+over-spec = tie.close (tie.spec checked-requires plain-requires returns)

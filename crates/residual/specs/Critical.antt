@@ -70,6 +70,10 @@ edge row n tau z =
     thenEdge (raised (row .half) n) (λ up.
     thenEdge (work (num theta ⊗ num theta ⊕ num (row .kb) ⊗ num up)) (edgePower row n z theta)))
 
+-- P₂ = P₁/Δ, "only where a second derivative is worked"
+abbrev pub p2 : Edge → Formula
+p2 g = num (g .p1) ⊘ num (g .delta)
+
 -- ---- the derivatives
 module _ (row : NonAnalytic) (n : Near) (g : Edge) where
   -- m = Δ_δ/e, Δ_δ and Δ_δδ
@@ -151,13 +155,9 @@ module _ (row : NonAnalytic) (n : Near) (g : Edge) where
     abbrev pub sharpTerm : Formula
     sharpTerm = num (row .n) ⊗ num delta ⊗ num (g .psi)
 
-    -- P₂ = P₁/Δ, "only where a second derivative is worked"
-    abbrev pub p2 : Formula
-    p2 = num (g .p1) ⊘ num (g .delta)
-
     unfoldable pub sharpFigure : Derivative → Worked
     sharpFigure Delta = work (sharpTerm ⊗ bracketD)
-    sharpFigure DeltaDelta = then (work p2) (λ p. work (sharpTerm ⊗ bracketDD p))
+    sharpFigure DeltaDelta = then (work (p2 g)) (λ p. work (sharpTerm ⊗ bracketDD p))
     sharpFigure Tau = work (sharpTerm ⊗ bracketT)
-    sharpFigure TauTau = then (work p2) (λ p. work (sharpTerm ⊗ bracketTT p))
-    sharpFigure DeltaTau = then (work p2) (λ p. work (sharpTerm ⊗ bracketDT p))
+    sharpFigure TauTau = then (work (p2 g)) (λ p. work (sharpTerm ⊗ bracketTT p))
+    sharpFigure DeltaTau = then (work (p2 g)) (λ p. work (sharpTerm ⊗ bracketDT p))

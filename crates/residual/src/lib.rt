@@ -2,4 +2,5 @@
 pub mod critical;
 pub mod isotherm;
 pub mod row;
+pub mod sharp;
 pub mod term;

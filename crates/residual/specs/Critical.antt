@@ -1,17 +1,25 @@
 -- Rows 40 to 42, the non-analytic ones (docs/ARRANGEMENT.md, section 6; 004, Tables 31 and 32). Each named number is worked in turn, and the first
 -- that fails fails the rest. Definitions only.
+use Prim.Native.Nat.{ℕ}
 use mathlib.Core.Bool.{Bool, true, false}
-use lib.Ieee.{Float}
+use mathlib.Core.List.{List, [], _∷_}
+use lib.ListN.{getD}
+use lib.Ieee.{Float, nan}
 use Rattle.numeric.specs.Number.{whole, fraction}
 use Rattle.numeric.specs.Working.{then}
 use Rattle.numeric.specs.declared.working.Worked.{Worked}
 use Rattle.numeric.specs.declared.working.Worked.the-variants.{Number, Failed}
-use Rattle.roots.specs.declared.exponent.Printed.the-variants.{Of10_6}
+use Rattle.roots.specs.declared.exponent.Printed.the-variants.{Of0_34, Of10_6}
 use Rattle.roots.specs.declared.exponent.Exponent.{Exponent}
 use Rattle.roots.specs.Exponent.{workedAs}
 use Rattle.roots.specs.Root.{root}
 use Rattle.roots.specs.Formula.{Formula, num, _⊕_, _⊖_, _⊗_, _⊘_, _^^_, minus, size, e^, work}
+use Rattle.residual.specs.Row.{nonAnalytics}
 use Rattle.residual.specs.Term.{one, two}
+use Rattle.residual.specs.declared.isotherm.Isotherm.{Isotherm}
+use Rattle.residual.specs.declared.critical.Critical.{Critical}
+use Rattle.residual.specs.declared.critical.Criticality.{Criticality}
+use Rattle.residual.specs.declared.critical.Criticality.the-variants.{Known, Unknown}
 use Rattle.residual.specs.declared.row.NonAnalytic.{NonAnalytic}
 use Rattle.residual.specs.declared.critical.Near.{Near}
 use Rattle.residual.specs.declared.critical.Nearing.{Nearing}
@@ -161,3 +169,37 @@ module _ (row : NonAnalytic) (n : Near) (g : Edge) where
     sharpFigure Tau = work (sharpTerm ⊗ bracketT)
     sharpFigure TauTau = then (work (p2 g)) (λ p. work (sharpTerm ⊗ bracketTT p))
     sharpFigure DeltaTau = then (work (p2 g)) (λ p. work (sharpTerm ⊗ bracketDT p))
+
+-- ---- the three rows together
+abbrev pub blank : NonAnalytic
+blank = record { n = nan; a = nan; half = false; b = nan; root = Of0_34; ka = nan; kb = nan; kc = nan; kd = nan }
+
+abbrev pub thenClose : Nearing → (Near → Criticality) → Criticality
+thenClose Lost f = Unknown
+thenClose (Close n) f = f n
+
+abbrev pub thenSharp : Edging → (Edge → Criticality) → Criticality
+thenSharp Blunt f = Unknown
+thenSharp (Sharp g) f = f g
+
+-- row 40 and those after it
+abbrev pub row : ℕ → NonAnalytic
+row i = getD nonAnalytics i blank
+
+unfoldable pub edges : Near → Float → List Float → Criticality
+edges n tau cold =
+    thenSharp (edge (row 0) n tau (getD cold 0 nan)) (λ g40.
+    thenSharp (edge (row 1) n tau (getD cold 1 nan)) (λ g41.
+    thenSharp (edge (row 2) n tau (getD cold 2 nan)) (λ g42.
+    Known (record { near = n; first = g40; second = g41; third = g42 }))))
+
+unfoldable pub critical : Isotherm → Float → Criticality
+critical iso delta = thenClose (near delta) (λ n. edges n (iso .tau) (iso .cold))
+
+-- the figures of rows 40 to 42
+unfoldable pub sharpFigures : Critical → Float → Float → Derivative → List Worked
+sharpFigures c delta tau k =
+    sharpFigure (row 0) (c .near) (c .first) delta tau k
+    ∷ sharpFigure (row 1) (c .near) (c .second) delta tau k
+    ∷ sharpFigure (row 2) (c .near) (c .third) delta tau k
+    ∷ []

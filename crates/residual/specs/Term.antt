@@ -48,19 +48,19 @@ decay delta c = e^ (minus (num delta ^^ c))
 unfoldable pub exponentialTerm : Float → Float → Exponential → Formula
 exponentialTerm delta y r = num (r .n) ⊗ num delta ^^ r .d ⊗ num y ⊗ decay delta (r .c)
 
--- c·δᶜ, and d − c·δᶜ
-abbrev pub damping : Float → Exponential → Formula
-damping delta r = num (whole (r .c)) ⊗ num delta ^^ r .c
+-- with z for δᶜ: c·δᶜ, and d − c·δᶜ
+abbrev pub damping : Formula → Exponential → Formula
+damping z r = num (whole (r .c)) ⊗ z
 
-abbrev pub slope : Float → Exponential → Formula
-slope delta r = num (whole (r .d)) ⊖ damping delta r
+abbrev pub slope : Formula → Exponential → Formula
+slope z r = num (whole (r .d)) ⊖ damping z r
 
-unfoldable pub exponentialBracket : Float → Exponential → Derivative → Formula
-exponentialBracket delta r Delta = slope delta r
-exponentialBracket delta r DeltaDelta = slope delta r ⊗ ((num (whole (r .d)) ⊖ one) ⊖ damping delta r) ⊖ num (whole (r .c)) ⊗ damping delta r
-exponentialBracket delta r Tau = quarters (r .q)
-exponentialBracket delta r TauTau = quarters (r .q) ⊗ (quarters (r .q) ⊖ one)
-exponentialBracket delta r DeltaTau = quarters (r .q) ⊗ slope delta r
+unfoldable pub exponentialBracket : Formula → Exponential → Derivative → Formula
+exponentialBracket z r Delta = slope z r
+exponentialBracket z r DeltaDelta = slope z r ⊗ (num (whole (r .d)) ⊖ one ⊖ damping z r) ⊖ num (whole (r .c)) ⊗ damping z r
+exponentialBracket z r Tau = quarters (r .q)
+exponentialBracket z r TauTau = quarters (r .q) ⊗ (quarters (r .q) ⊖ one)
+exponentialBracket z r DeltaTau = quarters (r .q) ⊗ slope z r
 
 -- ---- rows 35 to 39, with z for β·(τ−γ)²: the term is ((n·δᵈ)·τᵗ)·e^(−(α·(δ−ε)² + β·(τ−γ)²))
 unfoldable pub bell : Float → Float → Gaussian → Formula

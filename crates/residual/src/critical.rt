@@ -2,8 +2,10 @@
 // (specs/Critical.antt) and a function of the same shape.
 ghost use mathlib.Core.Path.{_≡_};
 ghost use Rattle.roots.specs.Formula.{absolute};
-ghost use Rattle.residual.specs.Critical.{nearX, near, raised, lowered, edgePsi, edgePower, edge};
+ghost use Rattle.residual.specs.Critical.{nearX, near, raised, lowered, edgePsi, edgePower, edge, edges, critical};
+use crate::isotherm::Isotherm;
 use crate::row::NonAnalytic;
+use crate::row::non_analytics;
 use numeric::exponential::exponential;
 use numeric::working::Worked;
 use numeric::working::checked;
@@ -39,6 +41,19 @@ pub struct Edge {
 pub enum Edging {
     Sharp(Edge),
     Blunt,
+}
+
+// All of it.
+pub struct Critical {
+    pub near: Near,
+    pub first: Edge,
+    pub second: Edge,
+    pub third: Edge,
+}
+
+pub enum Criticality {
+    Known(Critical),
+    Unknown,
 }
 
 fn near_x(e: f64, x: f64) -> Nearing
@@ -140,4 +155,35 @@ pub fn edge_of(row: NonAnalytic, n: Near, tau: f64, z: f64) -> Edging
         return Edging::Blunt;
     };
     edge_power(row, n, z, theta, delta)
+}
+
+fn edges_of(n: Near, tau: f64, cold: [f64; 3]) -> Criticality
+    ensures { λ r. ⌜ r ≡ edges n tau cold ⌝ }
+{
+    let rows = non_analytics();
+    let Edging::Sharp(first) = edge_of(rows[0], n, tau, cold[0]) else {
+        return Criticality::Unknown;
+    };
+    let Edging::Sharp(second) = edge_of(rows[1], n, tau, cold[1]) else {
+        return Criticality::Unknown;
+    };
+    let Edging::Sharp(third) = edge_of(rows[2], n, tau, cold[2]) else {
+        return Criticality::Unknown;
+    };
+    Criticality::Known(Critical {
+        near: n,
+        first,
+        second,
+        third,
+    })
+}
+
+pub fn at_critical(iso: Isotherm, delta: f64) -> Criticality
+    ensures { λ r. ⌜ r ≡ critical iso delta ⌝ }
+{
+    let Nearing::Close(n) = near_critical(delta) else {
+        return Criticality::Unknown;
+    };
+    let cold = iso.cold;
+    edges_of(n, iso.tau, cold)
 }

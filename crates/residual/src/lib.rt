@@ -3,4 +3,5 @@ pub mod critical;
 pub mod isotherm;
 pub mod row;
 pub mod sharp;
+pub mod sum;
 pub mod term;

@@ -104,4 +104,5 @@ def main():
         print(f"root {name} of {show(x)} is {tell(root(x, m, k))}")
 
 
-main()
+if __name__ == "__main__":
+    main()

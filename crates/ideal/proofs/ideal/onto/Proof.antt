@@ -1,0 +1,28 @@
+-- The row's exponential is the same in both formulas, and all else is theirs, operation by operation. Assumes nothing.
+use lib.Ieee.{ofBits, ofInt}
+use Rattle.numeric.specs.Number.{whole}
+use Rattle.roots.specs.Formula.{value}
+use Rattle.ideal.specs.Ideal.{slope, bend}
+use borrow.Author.Needs.{needs}
+use Rattle.ideal.proofs.ideal.onto.Statement.{statement}
+use Rattle.ideal.proofs.ideal.onto.Tie as tie
+
+exponential-requires : tie.Need-exponential-requires
+exponential-requires c κs = search needs
+
+plain-requires : tie.Need-plain-requires
+plain-requires c κs = search needs
+
+over-requires : tie.Need-over-requires
+over-requires c κs = search needs
+
+over-requires-2 : tie.Need-over-requires-2
+over-requires-2 c κs = search needs
+
+returns : tie.Need-returns
+unfolding slope bend value whole ofInt ofBits
+returns c = simp (c .before .over2 .ensures, c .before .before .before .over .ensures, c .before .before .before .before .plain .ensures, c .before .before .before .before .before .exponential .ensures)
+
+pub onto-spec : {M : Type 1} → statement M
+onto-spec =
+    tie.close (tie.spec exponential-requires plain-requires over-requires over-requires-2 returns)

@@ -1,0 +1,2 @@
+pub mod Saturations
+pub mod Unique

@@ -1,0 +1,57 @@
+-- The density is the definition's, and each return is the arm that its tests lead to. Assumes nothing.
+use mathlib.Core.Path.{_≡_, sym, ap, _∙_}
+use lib.Ieee.{ofBits, ofInt}
+use Rattle.numeric.specs.Number.{whole}
+use Rattle.numeric.specs.Working.{checked}
+use Rattle.roots.specs.Formula.{num, value}
+use Rattle.saturation.specs.Saturation.{densityOf, aboveZero}
+use borrow.Author.Needs.{needs}
+use Rattle.saturation.proofs.saturation.density_of.Statement.{statement}
+use Rattle.saturation.proofs.saturation.density_of.Tie as tie
+
+told : (c : tie.After-checked) → aboveZero (c .checked .result) ≡ aboveZero (checked (value (densityOf (num (c .before .before .before .before .before .args .sum)))))
+unfolding densityOf value
+told c = ap aboveZero (simp (c .before .before .before .before .span-wagner .ensures, c .before .before .plain .ensures, c .before .before .before .exponential .ensures) at (c .checked .ensures))
+
+span-wagner-requires : tie.Need-span-wagner-requires
+span-wagner-requires c κs = search needs
+
+exponential-requires : tie.Need-exponential-requires
+exponential-requires c κs = search needs
+
+plain-requires : tie.Need-plain-requires
+plain-requires c κs = search needs
+
+checked-requires : tie.Need-checked-requires
+checked-requires c κs = search needs
+
+enum-known-x : tie.Need-enum-known-x
+enum-known-x c = search needs
+
+enum-told : tie.Need-enum-told
+enum-told c = search needs
+
+returns : tie.Need-returns
+returns c = sym (ap aboveZero (c .enum-told .given .1)) ∙ told (c .before .before)
+
+returns-2 : tie.Need-returns-2
+unfolding ofBits ofInt whole
+returns-2 c = (simp (c .if1 .taken) at (sym (ap aboveZero (c .before .before .x .given .1)))) ∙ told (c .before .before .before .before)
+
+returns-3 : tie.Need-returns-3
+unfolding ofBits ofInt whole
+returns-3 c = (simp (c .if1 .left) at (sym (ap aboveZero (c .before .before .x .given .1)))) ∙ told (c .before .before .before .before)
+
+pub density-of-spec : {M : Type 1} → statement M
+density-of-spec =
+    tie.close
+    (tie.spec
+    span-wagner-requires
+    exponential-requires
+    plain-requires
+    checked-requires
+    enum-known-x
+    enum-told
+    returns
+    returns-2
+    returns-3)

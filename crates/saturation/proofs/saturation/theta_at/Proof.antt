@@ -1,0 +1,24 @@
+-- One test at the end stands for all; the divisor is a finite constant, so the quotient is a plain one. Assumes nothing.
+use mathlib.Core.Path.{_∙_}
+use lib.Ieee.{ofBits, ofInt, round}
+use Rattle.numeric.specs.Number.{whole, fraction, decimal}
+use Rattle.numeric.specs.Constant.{spanWagner}
+use Rattle.roots.specs.Formula.{value}
+use Rattle.roots.proofs.Formulas.{once}
+use Rattle.saturation.specs.Saturation.{theta}
+use borrow.Author.Needs.{needs}
+use Rattle.saturation.proofs.saturation.theta_at.Statement.{statement}
+use Rattle.saturation.proofs.saturation.theta_at.Tie as tie
+
+span-wagner-requires : tie.Need-span-wagner-requires
+span-wagner-requires c κs = search needs
+
+checked-requires : tie.Need-checked-requires
+checked-requires c κs = search needs
+
+returns : tie.Need-returns
+unfolding value ofBits spanWagner decimal fraction whole ofInt round
+returns c = (rw (c .before .before .span-wagner .ensures) at (c .checked .ensures)) ∙ once (theta (c .before .before .before .args .t))
+
+pub theta-at-spec : {M : Type 1} → statement M
+theta-at-spec = tie.close (tie.spec span-wagner-requires checked-requires returns)

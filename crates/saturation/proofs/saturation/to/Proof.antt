@@ -1,0 +1,18 @@
+-- A root that is refused is a NaN. Assumes nothing.
+use mathlib.Core.Path.{ap, _∙_}
+use Rattle.numeric.specs.Working.{plain}
+use borrow.Author.Needs.{needs}
+use Rattle.saturation.proofs.saturation.to.Statement.{statement}
+use Rattle.saturation.proofs.saturation.to.Tie as tie
+
+root-requires : tie.Need-root-requires
+root-requires c κs = search needs
+
+plain-requires : tie.Need-plain-requires
+plain-requires c κs = search needs
+
+returns : tie.Need-returns
+returns c = c .plain .ensures ∙ ap plain (c .before .root .ensures)
+
+pub to-spec : {M : Type 1} → statement M
+to-spec = tie.close (tie.spec root-requires plain-requires returns)

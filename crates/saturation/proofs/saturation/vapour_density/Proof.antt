@@ -1,0 +1,45 @@
+-- The refusal is a θ that failed; past it one test of the density stands for all. Assumes nothing.
+use mathlib.Core.Path.{sym, ap, _∙_}
+use Rattle.saturation.specs.Saturation.{vapourSum, vapourDensity}
+use Rattle.saturation.proofs.Saturations.{dense, from-theta}
+use borrow.Author.Needs.{needs}
+use Rattle.saturation.proofs.saturation.vapour_density.Statement.{statement}
+use Rattle.saturation.proofs.saturation.vapour_density.Tie as tie
+
+theta-at-requires : tie.Need-theta-at-requires
+theta-at-requires c κs = search needs
+
+enum-known-theta : tie.Need-enum-known-theta
+enum-known-theta c = search needs
+
+enum-told : tie.Need-enum-told
+enum-told c = search needs
+
+returns : tie.Need-returns
+unfolding vapourDensity
+returns c = ap (from-theta vapourSum) (sym (c .enum-told .given .1) ∙ c .before .before .theta-at .ensures)
+
+vapour-sum-requires : tie.Need-vapour-sum-requires
+vapour-sum-requires c κs = search needs
+
+density-of-requires : tie.Need-density-of-requires
+density-of-requires c κs = search needs
+
+returns-2 : tie.Need-returns-2
+unfolding vapourDensity
+returns-2 c =
+    c .density-of .ensures
+    ∙ dense (vapourSum (c .before .before .before .theta .given .0 .0)) (c .before .vapour-sum .result) (c .before .vapour-sum .ensures)
+    ∙ ap (from-theta vapourSum) (sym (c .before .before .before .theta .given .1) ∙ c .before .before .before .before .before .theta-at .ensures)
+
+pub vapour-density-spec : {M : Type 1} → statement M
+vapour-density-spec =
+    tie.close
+    (tie.spec
+    theta-at-requires
+    enum-known-theta
+    enum-told
+    returns
+    vapour-sum-requires
+    density-of-requires
+    returns-2)

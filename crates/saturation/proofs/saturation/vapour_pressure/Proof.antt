@@ -1,0 +1,91 @@
+-- Each refusal is a step that failed; past both steps one test at the end stands for all. Assumes nothing.
+use mathlib.Core.Path.{_≡_, sym, ap, _∙_}
+use lib.Ieee.{Float}
+use Rattle.numeric.specs.declared.working.Worked.{Worked}
+use Rattle.numeric.specs.Working.{then}
+use Rattle.roots.specs.Formula.{value, work}
+use Rattle.roots.proofs.Formulas.{once}
+use Rattle.saturation.specs.Saturation.{theta, tau, pressureSum, pressureOf, vapourPressure}
+use borrow.Author.Needs.{needs}
+use Rattle.saturation.proofs.saturation.vapour_pressure.Statement.{statement}
+use Rattle.saturation.proofs.saturation.vapour_pressure.Tie as tie
+
+abbrev from-tau : Float → Worked → Worked
+from-tau θ w = then w (λ τ. work (pressureOf τ (pressureSum θ)))
+
+abbrev from-theta : Float → Worked → Worked
+from-theta t w = then w (λ θ. from-tau θ (work (tau t)))
+
+-- past the first step
+past-theta : (c : tie.After-theta) → from-tau (c .theta .given .0 .0) (work (tau (c .before .before .before .args .t))) ≡ vapourPressure (c .before .before .before .args .t)
+unfolding vapourPressure
+past-theta c = ap (from-theta (c .before .before .before .args .t)) (sym (c .theta .given .1) ∙ c .before .before .theta-at .ensures)
+
+theta-at-requires : tie.Need-theta-at-requires
+theta-at-requires c κs = search needs
+
+enum-known-theta : tie.Need-enum-known-theta
+enum-known-theta c = search needs
+
+enum-told : tie.Need-enum-told
+enum-told c = search needs
+
+returns : tie.Need-returns
+unfolding vapourPressure
+returns c = ap (from-theta (c .before .before .before .args .t)) (sym (c .enum-told .given .1) ∙ c .before .before .theta-at .ensures)
+
+tau-at-requires : tie.Need-tau-at-requires
+tau-at-requires c κs = search needs
+
+enum-known-tau : tie.Need-enum-known-tau
+enum-known-tau c = search needs
+
+enum-told-2 : tie.Need-enum-told-2
+enum-told-2 c = search needs
+
+returns-2 : tie.Need-returns-2
+returns-2 c = ap (from-tau (c .before .before .before .before .theta .given .0 .0)) (sym (c .enum-told2 .given .1) ∙ c .before .before .tau-at .ensures) ∙ past-theta (c .before .before .before .before)
+
+span-wagner-requires : tie.Need-span-wagner-requires
+span-wagner-requires c κs = search needs
+
+pressure-sum-requires : tie.Need-pressure-sum-requires
+pressure-sum-requires c κs = search needs
+
+exponential-requires : tie.Need-exponential-requires
+exponential-requires c κs = search needs
+
+plain-requires : tie.Need-plain-requires
+plain-requires c κs = search needs
+
+checked-requires : tie.Need-checked-requires
+checked-requires c κs = search needs
+
+returns-3 : tie.Need-returns-3
+unfolding pressureOf value
+returns-3 c =
+    let θ = c .before .before .before .before .before .before .before .before .before .before .before .theta .given .0 .0 in
+    let τ = c .before .before .before .before .before .before .before .tau .given .0 .0 in
+    (simp (c .before .before .before .before .before .span-wagner .ensures, c .before .before .plain .ensures, c .before .before .before .exponential .ensures, c .before .before .before .before .pressure-sum .ensures) at (c .checked .ensures))
+    ∙ once (pressureOf τ (pressureSum θ))
+    ∙ ap (from-tau θ) (sym (c .before .before .before .before .before .before .before .tau .given .1) ∙ c .before .before .before .before .before .before .before .before .before .tau-at .ensures)
+    ∙ past-theta (c .before .before .before .before .before .before .before .before .before .before .before)
+
+pub vapour-pressure-spec : {M : Type 1} → statement M
+vapour-pressure-spec =
+    tie.close
+    (tie.spec
+    theta-at-requires
+    enum-known-theta
+    enum-told
+    returns
+    tau-at-requires
+    enum-known-tau
+    enum-told-2
+    returns-2
+    span-wagner-requires
+    pressure-sum-requires
+    exponential-requires
+    plain-requires
+    checked-requires
+    returns-3)

@@ -1,2 +1,5 @@
 pub mod Fills
 pub mod Isotherms
+pub mod Sums
+pub mod Figures
+pub mod Criticals

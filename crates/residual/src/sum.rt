@@ -70,3 +70,83 @@ fn gaussian_bracket(k: Derivative, r: Gaussian, delta: f64, tau: f64) -> f64
         Derivative::DeltaTau => b * s,
     }
 }
+
+fn polynomial_figure(k: Derivative, r: Polynomial, x: f64, y: f64) -> f64
+    ensures { λ v. ⌜ v ≡ Ieee.mul binary64 (Ieee.mul binary64 (Ieee.mul binary64 (r .n) x) y) (value (polynomialBracket r k)) ⌝ }
+{
+    r.n * x * y * polynomial_bracket(k, r)
+}
+
+// Rows 1 to 7, from the first.
+fn polynomial_sum(k: Derivative, iso: Isotherm, p: Point) -> Worked
+    requires { ⌜ p ≡ point iso (p .delta) ⌝ }
+    ensures { λ v. ⌜ v ≡ total (polynomialFigures iso (p .delta) k) ⌝ }
+{
+    let rows = polynomials();
+    let ds = p.powers;
+    let ys = iso.powers;
+    let mut s = polynomial_figure(k, rows[0], ds[1], ys[0]);
+    let mut i = 1;
+    while i < 7 {
+        let r = rows[i];
+        let d = r.d as usize;
+        s = s + polynomial_figure(k, r, ds[d], ys[i]);
+        i += 1;
+    }
+    checked(s)
+}
+
+// Rows 8 to 34 onto the sum so far.
+fn exponential_sum(start: f64, k: Derivative, iso: Isotherm, p: Point) -> Worked
+    requires { ⌜ p ≡ point iso (p .delta) ⌝ }
+    ensures { λ v. ⌜ v ≡ onto (checked start) (exponentialFigures iso (p .delta) k) ⌝ }
+{
+    let rows = exponentials();
+    let ds = p.powers;
+    let es = p.decays;
+    let ys = iso.powers;
+    let mut s = start;
+    let mut i = 0;
+    while i < 27 {
+        let r = rows[i];
+        let d = r.d as usize;
+        let c = r.c as usize;
+        s = s + r.n * ds[d] * ys[7 + i] * es[c - 1] * exponential_bracket(k, r, ds[c]);
+        i += 1;
+    }
+    checked(s)
+}
+
+// Rows 35 to 39.
+fn gaussian_sum(start: f64, k: Derivative, iso: Isotherm, p: Point) -> Worked
+    requires { ⌜ p ≡ point iso (p .delta) ⌝ }
+    ensures { λ v. ⌜ v ≡ onto (checked start) (gaussianFigures iso (p .delta) k) ⌝ }
+{
+    let rows = gaussians();
+    let ds = p.powers;
+    let bs = p.bells;
+    let ys = iso.powers;
+    let mut s = start;
+    let mut i = 0;
+    while i < 5 {
+        let r = rows[i];
+        let d = r.d as usize;
+        s = s + r.n * ds[d] * ys[34 + i] * bs[i] * gaussian_bracket(k, r, p.delta, iso.tau);
+        i += 1;
+    }
+    checked(s)
+}
+
+// Rows 40 to 42.
+fn sharp_sum(start: f64, k: Derivative, c: Critical, delta: f64, tau: f64) -> Worked
+    ensures { λ v. ⌜ v ≡ onto (checked start) (sharpFigures c delta tau k) ⌝ }
+{
+    let rows = non_analytics();
+    let n = c.near;
+    let g40 = c.first;
+    let g41 = c.second;
+    let g42 = c.third;
+    let s40 = start + plain(sharp_figure(k, rows[0], n, g40, delta, tau));
+    let s41 = s40 + plain(sharp_figure(k, rows[1], n, g41, delta, tau));
+    checked(s41 + plain(sharp_figure(k, rows[2], n, g42, delta, tau)))
+}

@@ -172,7 +172,7 @@ unfolding value
 once-root e a = sym (checked-plain (Root.root e (value a)) (root-sound e (value a))) ∙ once (root e a)
 
 -- ---- what a formula is worked to is finite
-then-sound : (w : Worked) (f : Float → Worked) → ((x : Float) → T (sound (f x))) → T (sound (then w f))
+pub then-sound : (w : Worked) (f : Float → Worked) → ((x : Float) → T (sound (f x))) → T (sound (then w f))
 then-sound Failed f h = tt
 then-sound (Number x) f h = h x
 

@@ -1,56 +1,65 @@
+-- Each arm is the bracket's formula at the derivative that was matched. Assumes nothing.
+use mathlib.Core.Path.{sym, ap}
+use lib.Ieee.{Float, ofBits, ofInt}
+use Rattle.numeric.specs.Number.{whole}
+use Rattle.numeric.specs.Power.{power}
+use Rattle.roots.specs.Formula.{num, value}
+use Rattle.residual.specs.declared.term.Derivative.{Derivative}
+use Rattle.residual.specs.Term.{gaussianBracket}
 use borrow.Author.Needs.{needs}
 use Rattle.residual.proofs.sum.gaussian_bracket.Statement.{statement}
 use Rattle.residual.proofs.sum.gaussian_bracket.Tie as tie
-use Rattle.residual.proofs.sum.gaussian_bracket.Reads as reads
-use Rattle.residual.proofs.sum.gaussian_bracket.Lts as lts
 
--- src/sum.rt:61:13
 int-to-float-d : tie.Need-int-to-float-d
 int-to-float-d c = search needs
 
--- src/sum.rt:62:13
 int-to-float-t : tie.Need-int-to-float-t
 int-to-float-t c = search needs
 
--- src/sum.rt:66:30
 enum-told : tie.Need-enum-told
 enum-told c = search needs
 
--- src/sum.rt:67:35
 enum-told-2 : tie.Need-enum-told-2
 enum-told-2 c = search needs
 
--- src/sum.rt:68:28
 enum-told-3 : tie.Need-enum-told-3
 enum-told-3 c = search needs
 
--- src/sum.rt:69:31
 enum-told-4 : tie.Need-enum-told-4
 enum-told-4 c = search needs
 
--- src/sum.rt:70:33
 enum-told-5 : tie.Need-enum-told-5
 enum-told-5 c = search needs
 
--- src/sum.rt:58:1
 returns : tie.Need-returns
-returns c = ?
+unfolding gaussianBracket value power whole ofBits ofInt
+returns c = 
+    let a = c .before .before .before .before .before .before .before .before .args in
+    sym (ap (λ (k : Derivative). value (gaussianBracket (a .delta) (a .tau) (a .r) k)) (c .enum-told .given .1))
 
--- src/sum.rt:58:1
 returns-2 : tie.Need-returns-2
-returns-2 c = ?
+unfolding gaussianBracket value power whole ofBits ofInt
+returns-2 c = 
+    let a = c .before .before .before .before .before .before .before .before .before .args in
+    sym (ap (λ (k : Derivative). value (gaussianBracket (a .delta) (a .tau) (a .r) k)) (c .before .enum-told2 .given .1))
 
--- src/sum.rt:58:1
 returns-3 : tie.Need-returns-3
-returns-3 c = ?
+unfolding gaussianBracket value power whole ofBits ofInt
+returns-3 c = 
+    let a = c .before .before .before .before .before .before .before .before .args in
+    sym (ap (λ (k : Derivative). value (gaussianBracket (a .delta) (a .tau) (a .r) k)) (c .enum-told3 .given .1))
 
--- src/sum.rt:58:1
 returns-4 : tie.Need-returns-4
-returns-4 c = ?
+unfolding gaussianBracket value power whole ofBits ofInt
+returns-4 c = 
+    let a = c .before .before .before .before .before .before .before .before .before .args in
+    sym (ap (λ (k : Derivative). value (gaussianBracket (a .delta) (a .tau) (a .r) k)) (c .before .enum-told4 .given .1))
 
--- src/sum.rt:58:1
 returns-5 : tie.Need-returns-5
-returns-5 c = ?
+unfolding gaussianBracket value power whole ofBits ofInt
+returns-5 c = 
+    let a = c .before .before .before .before .before .before .before .before .args in
+    sym (ap (λ (k : Derivative). value (gaussianBracket (a .delta) (a .tau) (a .r) k)) (c .enum-told5 .given .1))
 
 pub gaussian-bracket-spec : {M : Type 1} → statement M
 gaussian-bracket-spec =

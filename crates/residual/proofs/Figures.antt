@@ -127,8 +127,8 @@ module _ (iso : Isotherm) (delta : Float) (k : Derivative) where
 
   pub exponential-there : (i : ℕ) → i < 27 → (let r = getD exponentials i no-exponential in
       checked (mul binary64
-          (mul binary64 (mul binary64 (mul binary64 (r .n) (getD (powers 10 delta) (r .d) nan)) (getD (iso .powers) (7 + i) nan)) (getD (decays delta) (r .c - 1) nan))
-          (value (exponentialBracket (num (getD (powers 10 delta) (r .c) nan)) r k)))
+      (mul binary64 (mul binary64 (mul binary64 (r .n) (getD (powers 10 delta) (r .d) nan)) (getD (iso .powers) (7 + i) nan)) (getD (decays delta) (r .c - 1) nan))
+      (value (exponentialBracket (num (getD (powers 10 delta) (r .c) nan)) r k)))
       ≡ getD (exponentialFigures iso delta k) i Failed)
   unfolding exponentialFigures exponentialTerm value
   exponential-there i h =
@@ -154,8 +154,8 @@ module _ (iso : Isotherm) (delta : Float) (k : Derivative) where
 
   pub gaussian-there : (i : ℕ) → i < 5 → (let r = getD gaussians i no-gaussian in
       checked (mul binary64
-          (mul binary64 (mul binary64 (mul binary64 (r .n) (getD (powers 10 delta) (r .d) nan)) (getD (iso .powers) (34 + i) nan)) (getD (bells (iso .spread) delta) i nan))
-          (value (gaussianBracket delta (iso .tau) r k)))
+      (mul binary64 (mul binary64 (mul binary64 (r .n) (getD (powers 10 delta) (r .d) nan)) (getD (iso .powers) (34 + i) nan)) (getD (bells (iso .spread) delta) i nan))
+      (value (gaussianBracket delta (iso .tau) r k)))
       ≡ getD (gaussianFigures iso delta k) i Failed)
   unfolding gaussianFigures gaussianTerm value
   gaussian-there i h =

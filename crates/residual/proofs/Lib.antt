@@ -3,3 +3,4 @@ pub mod Isotherms
 pub mod Sums
 pub mod Figures
 pub mod Criticals
+pub mod Totals

@@ -11,9 +11,9 @@ use lib.Seq.{drop-cons}
 use lib.Ieee.{Float, binary64, add}
 use Rattle.numeric.specs.Working.{checked, plain, _+ᵂ_}
 use Rattle.numeric.specs.declared.working.Worked.{Worked}
-use Rattle.numeric.specs.declared.working.Worked.the-variants.{Failed}
+use Rattle.numeric.specs.declared.working.Worked.the-variants.{Number, Failed}
 use Rattle.numeric.proofs.Workings.{checked-add}
-use Rattle.roots.proofs.Formulas.{sound, checked-plain}
+use Rattle.roots.proofs.Formulas.{sound, both-sound, checked-plain}
 use Rattle.residual.specs.Term.{numbered}
 use Rattle.residual.specs.Sum.{onto, total}
 
@@ -66,3 +66,18 @@ pub getD-numbered : {A B : Type 0} (f : ℕ → A → B) (j : ℕ) (rs : List A)
 getD-numbered f j [] i d e h = absurd (not-suc-le-zero h)
 getD-numbered f j (r ∷ rs) zero d e h = let p : j ≡ j + 0 = omega arith in ap (λ (n : ℕ). f n r) p
 getD-numbered f j (r ∷ rs) (suc i) d e h = let p : suc j + i ≡ j + suc i = omega arith in getD-numbered f (suc j) rs i d e (le-of-suc-le-suc h) ∙ ap (λ (n : ℕ). f n (getD rs i d)) p
+
+-- ---- what was summed is finite, or has failed
+pub onto-sound : (w : Worked) (fs : List Worked) → T (sound w) → T (sound (onto w fs))
+unfolding onto _+ᵂ_
+onto-sound w [] h = h
+onto-sound w (f ∷ fs) h = onto-sound (w +ᵂ f) fs (both-sound (add binary64) w f)
+
+pub total-sound : (fs : List Worked) → T (sound (getD fs 0 Failed)) → T (sound (total fs))
+unfolding total
+total-sound [] h = tt
+total-sound (f ∷ fs) h = onto-sound f fs h
+
+-- a number that was summed, as the next loop starts from it
+pub settled : (w : Worked) (x : Float) → T (sound w) → w ≡ Number x → checked x ≡ w
+settled w x s e = ap checked (sym (ap plain e)) ∙ checked-plain w s

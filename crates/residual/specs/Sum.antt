@@ -5,7 +5,7 @@ use lib.ListN.{getD}
 use lib.Ieee.{Float, nan}
 use Rattle.numeric.specs.Working.{_+ᵂ_}
 use Rattle.numeric.specs.declared.working.Worked.{Worked}
-use Rattle.numeric.specs.declared.working.Worked.the-variants.{Failed}
+use Rattle.numeric.specs.declared.working.Worked.the-variants.{Number, Failed}
 use Rattle.roots.specs.Formula.{num, _⊗_, _^^_, work}
 use Rattle.residual.specs.Row.{polynomials, exponentials, gaussians}
 use Rattle.residual.specs.Term.{numbered, polynomialTerm, polynomialBracket, exponentialTerm, exponentialBracket, gaussianTerm, gaussianBracket}
@@ -17,7 +17,10 @@ use Rattle.residual.specs.declared.isotherm.Isotherm.{Isotherm}
 use Rattle.residual.specs.declared.critical.Critical.{Critical}
 use Rattle.residual.specs.declared.critical.Criticality.{Criticality}
 use Rattle.residual.specs.declared.critical.Criticality.the-variants.{Known, Unknown}
+use Rattle.residual.specs.declared.sum.Five.{Five}
+use Rattle.residual.specs.declared.sum.Five.the-variants.{Summed, Broken}
 use Rattle.residual.specs.declared.term.Derivative.{Derivative}
+use Rattle.residual.specs.declared.term.Derivative.the-variants.{Delta, DeltaDelta, Tau, TauTau, DeltaTau}
 
 -- w, and then each figure added to it, in order
 unfoldable pub onto : Worked → List Worked → Worked
@@ -60,3 +63,17 @@ thenKnown (Known c) f = f c
 -- δφ_δ, δ²φ_δδ, τφ_τ, τ²φ_ττ or δτφ_δτ of the residual part
 unfoldable pub residual : Isotherm → Float → Derivative → Worked
 residual iso delta k = thenKnown (critical iso delta) (λ c. total (figures iso delta k c))
+
+-- the five together
+abbrev pub thenFive : Worked → (Float → Five) → Five
+thenFive Failed f = Broken
+thenFive (Number x) f = f x
+
+unfoldable pub fiveSums : Isotherm → Float → Five
+fiveSums iso delta =
+    thenFive (residual iso delta Delta) (λ d.
+    thenFive (residual iso delta DeltaDelta) (λ dd.
+    thenFive (residual iso delta Tau) (λ t.
+    thenFive (residual iso delta TauTau) (λ tt.
+    thenFive (residual iso delta DeltaTau) (λ dt.
+    Summed (record { d = d; dd = dd; t = t; tt = tt; dt = dt }))))))

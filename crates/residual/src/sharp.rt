@@ -52,7 +52,9 @@ fn sharp_dd(row: NonAnalytic, n: Near, g: Edge, delta: f64, tau: f64) -> Worked
     let k = delta * -(2.0 * row.kc * n.e);
     let squared = delta * delta;
     checked(
-        row.n * delta * g.psi
+        row.n
+            * delta
+            * g.psi
             * (g.p0 * (2.0 * k + squared * psi) + 2.0 * l * (1.0 + k) + squared * pdd),
     )
 }
@@ -97,7 +99,14 @@ fn sharp_dt(row: NonAnalytic, n: Near, g: Edge, delta: f64, tau: f64) -> Worked
     )
 }
 
-pub fn sharp_figure(k: Derivative, row: NonAnalytic, n: Near, g: Edge, delta: f64, tau: f64) -> Worked
+pub fn sharp_figure(
+    k: Derivative,
+    row: NonAnalytic,
+    n: Near,
+    g: Edge,
+    delta: f64,
+    tau: f64,
+) -> Worked
     ensures { λ r. ⌜ r ≡ sharpFigure row n g delta tau k ⌝ }
 {
     match k {

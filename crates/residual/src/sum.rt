@@ -6,9 +6,12 @@ ghost use lib.Ieee.{binary64};
 ghost use Rattle.numeric.specs.Working.{checked};
 ghost use Rattle.roots.specs.Formula.{num, value};
 ghost use Rattle.residual.specs.Term.{point, polynomialBracket, exponentialBracket, gaussianBracket};
-ghost use Rattle.residual.specs.Critical.{sharpFigures};
-ghost use Rattle.residual.specs.Sum.{onto, total, polynomialFigures, exponentialFigures, gaussianFigures};
+ghost use Rattle.residual.specs.Critical.{critical, sharpFigures};
+ghost use Rattle.residual.specs.declared.term.Derivative.the-variants.{Delta};
+ghost use Rattle.residual.specs.Sum.{onto, total, polynomialFigures, exponentialFigures, gaussianFigures, figures, residual, fiveSums};
 use crate::critical::Critical;
+use crate::critical::Criticality;
+use crate::critical::at_critical;
 use crate::isotherm::Isotherm;
 use crate::row::Exponential;
 use crate::row::Gaussian;
@@ -20,9 +23,24 @@ use crate::row::polynomials;
 use crate::sharp::sharp_figure;
 use crate::term::Derivative;
 use crate::term::Point;
+use crate::term::at_density;
 use numeric::working::Worked;
 use numeric::working::checked;
 use numeric::working::plain;
+
+// The five: δφ_δ, δ²φ_δδ, τφ_τ, τ²φ_ττ, δτφ_δτ.
+pub struct Sums {
+    pub d: f64,
+    pub dd: f64,
+    pub t: f64,
+    pub tt: f64,
+    pub dt: f64,
+}
+
+pub enum Five {
+    Summed(Sums),
+    Broken,
+}
 
 fn polynomial_bracket(k: Derivative, r: Polynomial) -> f64
     ensures { λ v. ⌜ v ≡ value (polynomialBracket r k) ⌝ }
@@ -149,4 +167,63 @@ fn sharp_sum(start: f64, k: Derivative, c: Critical, delta: f64, tau: f64) -> Wo
     let s40 = start + plain(sharp_figure(k, rows[0], n, g40, delta, tau));
     let s41 = s40 + plain(sharp_figure(k, rows[1], n, g41, delta, tau));
     checked(s41 + plain(sharp_figure(k, rows[2], n, g42, delta, tau)))
+}
+
+// One sum over all 42 rows.
+fn sum_at(k: Derivative, iso: Isotherm, p: Point, c: Critical) -> Worked
+    requires { ⌜ p ≡ point iso (p .delta) ⌝ }
+    ensures { λ v. ⌜ v ≡ total (figures iso (p .delta) k c) ⌝ }
+{
+    let Worked::Number(s7) = polynomial_sum(k, iso, p) else {
+        return Worked::Failed;
+    };
+    let Worked::Number(s34) = exponential_sum(s7, k, iso, p) else {
+        return Worked::Failed;
+    };
+    let Worked::Number(s39) = gaussian_sum(s34, k, iso, p) else {
+        return Worked::Failed;
+    };
+    sharp_sum(s39, k, c, p.delta, iso.tau)
+}
+
+// δφ_δ, which a pressure needs.
+pub fn slope_at(iso: Isotherm, delta: f64) -> Worked
+    ensures { λ v. ⌜ v ≡ residual iso delta Delta ⌝ }
+{
+    let Criticality::Known(c) = at_critical(iso, delta) else {
+        return Worked::Failed;
+    };
+    sum_at(Derivative::Delta, iso, at_density(iso, delta), c)
+}
+
+fn five_at(iso: Isotherm, p: Point, c: Critical) -> Five
+    requires { ⌜ p ≡ point iso (p .delta) ⌝ }
+    requires { ⌜ critical iso (p .delta) ≡ Criticality.Known c ⌝ }
+    ensures { λ v. ⌜ v ≡ fiveSums iso (p .delta) ⌝ }
+{
+    let Worked::Number(d) = sum_at(Derivative::Delta, iso, p, c) else {
+        return Five::Broken;
+    };
+    let Worked::Number(dd) = sum_at(Derivative::DeltaDelta, iso, p, c) else {
+        return Five::Broken;
+    };
+    let Worked::Number(t) = sum_at(Derivative::Tau, iso, p, c) else {
+        return Five::Broken;
+    };
+    let Worked::Number(tt) = sum_at(Derivative::TauTau, iso, p, c) else {
+        return Five::Broken;
+    };
+    let Worked::Number(dt) = sum_at(Derivative::DeltaTau, iso, p, c) else {
+        return Five::Broken;
+    };
+    Five::Summed(Sums { d, dd, t, tt, dt })
+}
+
+pub fn five_sums(iso: Isotherm, delta: f64) -> Five
+    ensures { λ v. ⌜ v ≡ fiveSums iso delta ⌝ }
+{
+    let Criticality::Known(c) = at_critical(iso, delta) else {
+        return Five::Broken;
+    };
+    five_at(iso, at_density(iso, delta), c)
 }

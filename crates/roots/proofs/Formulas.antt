@@ -35,7 +35,7 @@ checked-sound nan = tt
 checked-sound (inf s) = tt
 checked-sound (fin s m e) = tt
 
-both-sound : (op : Float → Float → Float) (v w : Worked) → T (sound (both op v w))
+pub both-sound : (op : Float → Float → Float) (v w : Worked) → T (sound (both op v w))
 both-sound op Failed w = tt
 both-sound op (Number x) Failed = tt
 both-sound op (Number x) (Number y) = checked-sound (op x y)

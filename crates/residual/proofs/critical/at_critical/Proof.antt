@@ -23,7 +23,7 @@ edges-of-requires c κs = search needs
 
 returns-2 : tie.Need-returns-2
 unfolding critical
-returns-2 c = 
+returns-2 c =
     let n = c .before .before .before in
     c .edges-of .ensures ∙ simp (critical, sym (n .before .before .near-critical .ensures) ∙ n .n .given .1)
 

@@ -63,7 +63,7 @@ enum-told-2 c = search needs
 
 returns-2 : tie.Need-returns-2
 unfolding edges
-returns-2 c = 
+returns-2 c =
     let e = c .before .before in
     let f = e .before .before .before in
     simp (edges, row-0 (f .before .before) ∙ f .first .given .1, row-1 e ∙ c .enum-told2 .given .1)
@@ -85,7 +85,7 @@ enum-told-3 c = search needs
 
 returns-3 : tie.Need-returns-3
 unfolding edges
-returns-3 c = 
+returns-3 c =
     let e = c .before .before in
     let s = e .before .before .before in
     let f = s .before .before .before .before .before in
@@ -93,7 +93,7 @@ returns-3 c =
 
 returns-4 : tie.Need-returns-4
 unfolding edges
-returns-4 c = 
+returns-4 c =
     let t = c .before in
     let s = t .before .before .before .before .before in
     let f = s .before .before .before .before .before in

@@ -32,7 +32,7 @@ checked-requires c κs = search needs
 
 returns-2 : tie.Need-returns-2
 unfolding sharpFigure value power fraction whole ofBits ofInt round div
-returns-2 c = 
+returns-2 c =
     let k = c .before .before .before .before .before .before .before .before .before .before .before .before .before .before .before .before .before .before .before .before .before .before in
     let a = k .before .before .before .args in
     let p : work (p2 (a .g)) ≡ Number (k .p .given .0 .0) = sym (k .before .before .ratio .ensures) ∙ k .p .given .1 in

@@ -15,7 +15,7 @@ checked-requires c κs = search needs
 
 returns : tie.Need-returns
 unfolding sharpFigure value power fraction whole ofBits ofInt round div
-returns c = 
+returns c =
     let a = c .before .before .before .before .before .before .before .before .args in
     c .checked .ensures ∙ once (sharpTerm (a .row) (a .n) (a .g) (a .delta) (a .tau) ⊗ bracketT (a .row) (a .n) (a .g) (a .delta) (a .tau))
 

@@ -31,7 +31,6 @@ abbrev μ-loop : tie.MeasureT-loop
 low : (c : tie.At-loop Inv-loop μ-loop) → c .loop .i < 27 → Small (getD (c .before .before .before .before .exponentials .result) (c .loop .i) no-exponential)
 low c h = subst (λ (l : List Exponential). Small (getD l (c .loop .i) no-exponential)) (sym (c .before .before .before .before .exponentials .ensures)) (exponential-small (c .loop .i) h)
 
-
 exponentials-requires : tie.Need-exponentials-requires Inv-loop μ-loop
 exponentials-requires c κs = search needs
 
@@ -90,7 +89,7 @@ loop-less : tie.Need-loop-less Inv-loop μ-loop
 loop-less c = omega arith
 
 loop-again : tie.Need-loop-again Inv-loop μ-loop
-loop-again c = 
+loop-again c =
     let l = c .before .before .before .before .before .before in
     let t = l .before .before .before .before in
     let a = t .before .args in
@@ -101,7 +100,7 @@ loop-again c =
       λ iso delta y d e.
           let figures = exponentialFigures iso delta (a .k) in
           let v : checked x ≡ getD figures i Failed =
-              rw (c .exponential-bracket .ensures, t .exponentials .ensures, ← d, ← e, ← y) (exponential-there iso delta (a .k) i (omega arith))
+          rw (c .exponential-bracket .ensures, t .exponentials .ensures, ← d, ← e, ← y) (exponential-there iso delta (a .k) i (omega arith))
           in
           due-more figures (onto (checked (a .start)) figures) i (l .loop .s) x (rw (exponential-length iso delta (a .k)) (omega arith)) v (l .loop .inv .1 iso delta y d e),
     )
@@ -111,7 +110,7 @@ checked-requires c κs = search needs
 
 returns : tie.Need-returns Inv-loop μ-loop
 unfolding point
-returns c = 
+returns c =
     let l = c .before .before in
     let b = l .before .before .before .before .before in
     let a = b .args in

@@ -30,7 +30,6 @@ abbrev μ-loop : tie.MeasureT-loop
 low : (c : tie.At-loop Inv-loop μ-loop) → c .loop .i < 5 → getD (c .before .before .before .before .gaussians .result) (c .loop .i) no-gaussian .d < 11
 low c h = subst (λ (l : List Gaussian). getD l (c .loop .i) no-gaussian .d < 11) (sym (c .before .before .before .before .gaussians .ensures)) (gaussian-small (c .loop .i) h)
 
-
 gaussians-requires : tie.Need-gaussians-requires Inv-loop μ-loop
 gaussians-requires c κs = search needs
 
@@ -78,7 +77,7 @@ loop-less c = omega arith
 
 loop-again : tie.Need-loop-again Inv-loop μ-loop
 unfolding point
-loop-again c = 
+loop-again c =
     let l = c .before .before .before .before .before in
     let t = l .before .before .before .before in
     let a = t .before .args in
@@ -96,7 +95,7 @@ checked-requires : tie.Need-checked-requires Inv-loop μ-loop
 checked-requires c κs = search needs
 
 returns : tie.Need-returns Inv-loop μ-loop
-returns c = 
+returns c =
     let l = c .before .before in
     let a = l .before .before .before .before .before .args in
     let figures = gaussianFigures (a .iso) (a .p .delta) (a .k) in

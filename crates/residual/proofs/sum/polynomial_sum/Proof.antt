@@ -31,7 +31,6 @@ abbrev μ-loop : tie.MeasureT-loop
 low : (c : tie.At-loop Inv-loop μ-loop) → c .loop .i < 7 → getD (c .before .before .before .before .before .polynomials .result) (c .loop .i) no-polynomial .d < 11
 low c h = subst (λ (l : List Polynomial). getD l (c .loop .i) no-polynomial .d < 11) (sym (c .before .before .before .before .before .polynomials .ensures)) (polynomial-small (c .loop .i) h)
 
-
 polynomials-requires : tie.Need-polynomials-requires Inv-loop μ-loop
 polynomials-requires c κs = search needs
 
@@ -49,14 +48,14 @@ polynomial-figure-requires c κs = search needs
 
 loop-holds : tie.Need-loop-holds Inv-loop μ-loop
 unfolding polynomials
-loop-holds c = 
+loop-holds c =
     let t = c .before .before .before .before in
     let a = t .before .args in (
       omega arith,
       λ iso delta y d.
           let figures = polynomialFigures iso delta (a .k) in
           let v : checked (c .polynomial-figure .result) ≡ getD figures 0 Failed =
-              rw (c .polynomial-figure .ensures, t .polynomials .ensures, ← d, ← y) (polynomial-there iso delta (a .k) 0 (omega arith))
+          rw (c .polynomial-figure .ensures, t .polynomials .ensures, ← d, ← y) (polynomial-there iso delta (a .k) 0 (omega arith))
           in
           due-first figures (c .polynomial-figure .result) (rw (polynomial-length iso delta (a .k)) (omega arith)) v,
     )
@@ -92,7 +91,7 @@ loop-less : tie.Need-loop-less Inv-loop μ-loop
 loop-less c = omega arith
 
 loop-again : tie.Need-loop-again Inv-loop μ-loop
-loop-again c = 
+loop-again c =
     let l = c .before .before .before .before in
     let t = l .before .before .before .before .before in
     let a = t .before .args in
@@ -102,7 +101,7 @@ loop-again c =
       λ iso delta y d.
           let figures = polynomialFigures iso delta (a .k) in
           let v : checked x ≡ getD figures i Failed =
-              rw (c .polynomial-figure2 .ensures, t .polynomials .ensures, ← d, ← y) (polynomial-there iso delta (a .k) i (omega arith))
+          rw (c .polynomial-figure2 .ensures, t .polynomials .ensures, ← d, ← y) (polynomial-there iso delta (a .k) i (omega arith))
           in
           due-more figures (total figures) i (l .loop .s) x (rw (polynomial-length iso delta (a .k)) (omega arith)) v (l .loop .inv .1 iso delta y d),
     )
@@ -112,7 +111,7 @@ checked-requires c κs = search needs
 
 returns : tie.Need-returns Inv-loop μ-loop
 unfolding point
-returns c = 
+returns c =
     let l = c .before .before in
     let b = l .before .before .before .before .before .before in
     let a = b .args in

@@ -58,7 +58,7 @@ checked-requires c κs = search needs
 
 returns : tie.Need-returns
 unfolding onto sharpFigures
-returns c = 
+returns c =
     let f3 = c .before in
     let f2 = f3 .before .before .before in
     let f1 = f2 .before .before .before in

@@ -16,13 +16,13 @@ use Rattle.numeric.specs.declared.working.Worked.the-variants.{Failed}
 use Rattle.numeric.proofs.Powers.{powers-at}
 use Rattle.roots.specs.Formula.{Formula, num, _⊗_, _^^_, value, work}
 use Rattle.roots.proofs.Formulas.{once}
-use Rattle.residual.specs.declared.row.Polynomial.{Polynomial}
-use Rattle.residual.specs.declared.row.Exponential.{Exponential}
-use Rattle.residual.specs.declared.row.Gaussian.{Gaussian}
-use Rattle.residual.specs.declared.isotherm.Isotherm.{Isotherm}
-use Rattle.residual.specs.declared.term.Derivative.{Derivative}
-use Rattle.residual.specs.declared.term.Derivative.the-variants.{Delta, DeltaDelta, Tau, TauTau, DeltaTau}
-use Rattle.residual.specs.Row.{polynomials, exponentials, gaussians}
+use Rattle.rows.specs.declared.row.Polynomial.{Polynomial}
+use Rattle.rows.specs.declared.row.Exponential.{Exponential}
+use Rattle.rows.specs.declared.row.Gaussian.{Gaussian}
+use Rattle.rows.specs.declared.isotherm.Isotherm.{Isotherm}
+use Rattle.rows.specs.declared.derivative.Derivative.{Derivative}
+use Rattle.rows.specs.declared.derivative.Derivative.the-variants.{Delta, DeltaDelta, Tau, TauTau, DeltaTau}
+use Rattle.rows.specs.Row.{polynomials, exponentials, gaussians}
 use Rattle.residual.specs.Term.{polynomialTerm, polynomialBracket, exponentialTerm, exponentialBracket, decay, decays, gaussianTerm, gaussianBracket, bell, bells}
 use Rattle.residual.specs.Sum.{polynomialFigure, polynomialFigures, exponentialFigure, exponentialFigures, gaussianFigure, gaussianFigures}
 use Rattle.residual.proofs.Sums.{length-numbered, getD-numbered}

@@ -11,13 +11,13 @@ use Rattle.numeric.specs.declared.working.Worked.{Worked}
 use Rattle.numeric.specs.declared.working.Worked.the-variants.{Number, Failed}
 use Rattle.roots.specs.Formula.{_⊗_, work}
 use Rattle.roots.proofs.Formulas.{sound, work-sound}
-use Rattle.residual.specs.declared.isotherm.Isotherm.{Isotherm}
-use Rattle.residual.specs.declared.critical.Critical.{Critical}
-use Rattle.residual.specs.declared.critical.Criticality.the-variants.{Known}
-use Rattle.residual.specs.declared.term.Derivative.{Derivative}
-use Rattle.residual.specs.Row.{polynomials}
+use Rattle.rows.specs.declared.isotherm.Isotherm.{Isotherm}
+use Rattle.critical.specs.declared.critical.Critical.{Critical}
+use Rattle.critical.specs.declared.critical.Criticality.the-variants.{Known}
+use Rattle.rows.specs.declared.derivative.Derivative.{Derivative}
+use Rattle.rows.specs.Row.{polynomials}
 use Rattle.residual.specs.Term.{polynomialTerm, polynomialBracket}
-use Rattle.residual.specs.Critical.{critical, sharpFigures}
+use Rattle.critical.specs.Critical.{critical, sharpFigures}
 use Rattle.residual.specs.Sum.{onto, total, polynomialFigures, exponentialFigures, gaussianFigures, figures, residual}
 use Rattle.residual.proofs.Sums.{onto-append, onto-failed, total-append, onto-sound, total-sound, settled}
 use Rattle.residual.proofs.Figures.{no-polynomial, polynomial-length}

@@ -7,20 +7,20 @@ use Rattle.numeric.specs.Working.{_+ᵂ_}
 use Rattle.numeric.specs.declared.working.Worked.{Worked}
 use Rattle.numeric.specs.declared.working.Worked.the-variants.{Number, Failed}
 use Rattle.roots.specs.Formula.{num, _⊗_, _^^_, work}
-use Rattle.residual.specs.Row.{polynomials, exponentials, gaussians}
+use Rattle.rows.specs.Row.{polynomials, exponentials, gaussians}
 use Rattle.residual.specs.Term.{numbered, polynomialTerm, polynomialBracket, exponentialTerm, exponentialBracket, gaussianTerm, gaussianBracket}
-use Rattle.residual.specs.Critical.{critical, sharpFigures}
-use Rattle.residual.specs.declared.row.Polynomial.{Polynomial}
-use Rattle.residual.specs.declared.row.Exponential.{Exponential}
-use Rattle.residual.specs.declared.row.Gaussian.{Gaussian}
-use Rattle.residual.specs.declared.isotherm.Isotherm.{Isotherm}
-use Rattle.residual.specs.declared.critical.Critical.{Critical}
-use Rattle.residual.specs.declared.critical.Criticality.{Criticality}
-use Rattle.residual.specs.declared.critical.Criticality.the-variants.{Known, Unknown}
+use Rattle.critical.specs.Critical.{critical, sharpFigures}
+use Rattle.rows.specs.declared.row.Polynomial.{Polynomial}
+use Rattle.rows.specs.declared.row.Exponential.{Exponential}
+use Rattle.rows.specs.declared.row.Gaussian.{Gaussian}
+use Rattle.rows.specs.declared.isotherm.Isotherm.{Isotherm}
+use Rattle.critical.specs.declared.critical.Critical.{Critical}
+use Rattle.critical.specs.declared.critical.Criticality.{Criticality}
+use Rattle.critical.specs.declared.critical.Criticality.the-variants.{Known, Unknown}
 use Rattle.residual.specs.declared.sum.Five.{Five}
 use Rattle.residual.specs.declared.sum.Five.the-variants.{Summed, Broken}
-use Rattle.residual.specs.declared.term.Derivative.{Derivative}
-use Rattle.residual.specs.declared.term.Derivative.the-variants.{Delta, DeltaDelta, Tau, TauTau, DeltaTau}
+use Rattle.rows.specs.declared.derivative.Derivative.{Derivative}
+use Rattle.rows.specs.declared.derivative.Derivative.the-variants.{Delta, DeltaDelta, Tau, TauTau, DeltaTau}
 
 -- w, and then each figure added to it, in order
 unfoldable pub onto : Worked → List Worked → Worked

@@ -5,21 +5,15 @@ use lib.ListN.{getD}
 use lib.Ieee.{Float, nan}
 use Rattle.numeric.specs.Number.{whole}
 use Rattle.numeric.specs.Power.{powers}
-use Rattle.roots.specs.Formula.{Formula, num, _⊕_, _⊖_, _⊗_, _⊘_, _^^_, minus, e^, value}
-use Rattle.residual.specs.declared.row.Polynomial.{Polynomial}
-use Rattle.residual.specs.declared.row.Exponential.{Exponential}
-use Rattle.residual.specs.declared.row.Gaussian.{Gaussian}
-use Rattle.residual.specs.Row.{gaussians}
-use Rattle.residual.specs.declared.isotherm.Isotherm.{Isotherm}
+use Rattle.roots.specs.Formula.{Formula, num, one, two, _⊕_, _⊖_, _⊗_, _⊘_, _^^_, minus, e^, value}
+use Rattle.rows.specs.declared.row.Polynomial.{Polynomial}
+use Rattle.rows.specs.declared.row.Exponential.{Exponential}
+use Rattle.rows.specs.declared.row.Gaussian.{Gaussian}
+use Rattle.rows.specs.Row.{gaussians}
+use Rattle.rows.specs.declared.isotherm.Isotherm.{Isotherm}
 use Rattle.residual.specs.declared.term.Point.{Point}
-use Rattle.residual.specs.declared.term.Derivative.{Derivative}
-use Rattle.residual.specs.declared.term.Derivative.the-variants.{Delta, DeltaDelta, Tau, TauTau, DeltaTau}
-
-abbrev pub one : Formula
-one = num (whole 1)
-
-abbrev pub two : Formula
-two = num (whole 2)
+use Rattle.rows.specs.declared.derivative.Derivative.{Derivative}
+use Rattle.rows.specs.declared.derivative.Derivative.the-variants.{Delta, DeltaDelta, Tau, TauTau, DeltaTau}
 
 -- t = j/4
 abbrev pub quarters : ℕ → Formula

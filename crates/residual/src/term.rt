@@ -1,22 +1,13 @@
-// What the residual part's sums are made of: which derivative, and what is worked once for a state at a density.
+// What the residual part's sums are made of: what is worked once for a state at a density.
 ghost use mathlib.Core.Path.{_≡_};
 ghost use lib.Ieee.{neg};
 ghost use Rattle.numeric.specs.Exponential.{exponential};
 ghost use Rattle.numeric.specs.Working.{plain};
 ghost use Rattle.residual.specs.Term.{point};
-use crate::isotherm::Isotherm;
+use rows::isotherm::Isotherm;
 use numeric::exponential::exponential;
 use numeric::power::powers_to_10;
 use numeric::working::plain;
-
-// The five derivatives that Table 3 needs, each with its factor: δφ_δ, δ²φ_δδ, τφ_τ, τ²φ_ττ, δτφ_δτ.
-pub enum Derivative {
-    Delta,
-    DeltaDelta,
-    Tau,
-    TauTau,
-    DeltaTau,
-}
 
 // The powers of δ, e^(−δᶜ) for c from 1 to 6, and the exponentials of rows 35 to 39.
 pub struct Point {

@@ -23,6 +23,12 @@ pub data Formula : Type 0 where
   minus size e^ : Formula → Formula
   root : Exponent → Formula → Formula
 
+abbrev pub one : Formula
+one = num (whole 1)
+
+abbrev pub two : Formula
+two = num (whole 2)
+
 -- |x|: x, or −x where x is below 0
 unfoldable pub absolute : Float → Float
 absolute x = cond (Ieee.lt x (whole 0)) (Ieee.neg x) x

@@ -4,7 +4,7 @@ use lib.Ieee.{Float, ofBits, ofInt}
 use Rattle.numeric.specs.Number.{whole}
 use Rattle.numeric.specs.Power.{power}
 use Rattle.roots.specs.Formula.{num, value}
-use Rattle.residual.specs.declared.term.Derivative.{Derivative}
+use Rattle.rows.specs.declared.derivative.Derivative.{Derivative}
 use Rattle.residual.specs.Term.{exponentialBracket}
 use borrow.Author.Needs.{needs}
 use Rattle.residual.proofs.sum.exponential_bracket.Statement.{statement}

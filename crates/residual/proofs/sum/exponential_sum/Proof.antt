@@ -9,10 +9,10 @@ use lib.Ieee.{Float, nan, binary64, mul}
 use Rattle.numeric.specs.Power.{powers}
 use Rattle.numeric.specs.Working.{checked}
 use Rattle.numeric.specs.declared.working.Worked.the-variants.{Failed}
-use Rattle.residual.specs.declared.row.Exponential.{Exponential}
-use Rattle.residual.specs.declared.isotherm.Isotherm.{Isotherm}
+use Rattle.rows.specs.declared.row.Exponential.{Exponential}
+use Rattle.rows.specs.declared.isotherm.Isotherm.{Isotherm}
 use Rattle.residual.specs.declared.term.Point.{Point}
-use Rattle.residual.specs.Row.{exponentials}
+use Rattle.rows.specs.Row.{exponentials}
 use Rattle.residual.specs.Term.{point, decays}
 use Rattle.residual.specs.Sum.{onto, exponentialFigures}
 use Rattle.residual.proofs.Sums.{Due, due-more, due-none}

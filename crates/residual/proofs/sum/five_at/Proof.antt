@@ -1,6 +1,6 @@
 -- Each sum is the definition's, in its order. Assumes nothing.
 use mathlib.Core.Path.{_≡_, sym, _∙_}
-use Rattle.residual.specs.declared.term.Derivative.the-variants.{Delta, DeltaDelta, Tau, TauTau, DeltaTau}
+use Rattle.rows.specs.declared.derivative.Derivative.the-variants.{Delta, DeltaDelta, Tau, TauTau, DeltaTau}
 use Rattle.residual.specs.Sum.{residual, fiveSums}
 use Rattle.residual.proofs.Totals.{known}
 use borrow.Author.Needs.{needs}

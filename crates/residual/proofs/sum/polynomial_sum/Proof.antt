@@ -9,10 +9,10 @@ use lib.Ieee.{Float, nan, binary64, mul}
 use Rattle.numeric.specs.Power.{powers}
 use Rattle.numeric.specs.Working.{checked}
 use Rattle.numeric.specs.declared.working.Worked.the-variants.{Failed}
-use Rattle.residual.specs.declared.row.Polynomial.{Polynomial}
-use Rattle.residual.specs.declared.isotherm.Isotherm.{Isotherm}
+use Rattle.rows.specs.declared.row.Polynomial.{Polynomial}
+use Rattle.rows.specs.declared.isotherm.Isotherm.{Isotherm}
 use Rattle.residual.specs.declared.term.Point.{Point}
-use Rattle.residual.specs.Row.{polynomials}
+use Rattle.rows.specs.Row.{polynomials}
 use Rattle.residual.specs.Term.{point}
 use Rattle.residual.specs.Sum.{total, polynomialFigures}
 use Rattle.residual.proofs.Sums.{Due, due-first, due-more, due-none}

@@ -7,11 +7,11 @@ use lib.Ieee.{Float, binary64, add}
 use Rattle.numeric.specs.Working.{checked, plain, _+ᵂ_}
 use Rattle.numeric.specs.declared.working.Worked.{Worked}
 use Rattle.roots.proofs.Formulas.{sound}
-use Rattle.residual.specs.declared.row.NonAnalytic.{NonAnalytic}
-use Rattle.residual.specs.Critical.{row, blank, sharpFigure, sharpFigures}
+use Rattle.rows.specs.declared.row.NonAnalytic.{NonAnalytic}
+use Rattle.critical.specs.Critical.{row, blank, sharpFigure, sharpFigures}
 use Rattle.residual.specs.Sum.{onto}
 use Rattle.residual.proofs.Sums.{add-figure}
-use Rattle.residual.proofs.Criticals.{sharp-sound}
+use Rattle.critical.proofs.Criticals.{sharp-sound}
 use borrow.Author.Needs.{needs}
 use Rattle.residual.proofs.sum.sharp_sum.Statement.{statement}
 use Rattle.residual.proofs.sum.sharp_sum.Tie as tie

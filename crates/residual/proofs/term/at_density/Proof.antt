@@ -4,7 +4,7 @@ use lib.Ieee.{ofBits, ofInt, round}
 use Rattle.numeric.specs.Number.{decimal, fraction, whole}
 use Rattle.numeric.specs.Power.{power}
 use Rattle.roots.specs.Formula.{value}
-use Rattle.residual.specs.Row.{gaussians}
+use Rattle.rows.specs.Row.{gaussians}
 use Rattle.residual.specs.Term.{point, decays, decay, bells, bell}
 use borrow.Author.Needs.{needs}
 use Rattle.residual.proofs.term.at_density.Statement.{statement}

@@ -1,0 +1,2 @@
+pub mod Criticals
+pub mod Unique

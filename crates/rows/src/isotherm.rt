@@ -1,0 +1,103 @@
+// What hangs on the temperature alone, worked once for a search and handed on by value.
+ghost use mathlib.Core.Path.{_≡_};
+ghost use Rattle.rows.specs.Isotherm.{quarters, tauPowers, isotherm};
+use numeric::power::powers_to_3;
+use numeric::power::powers_to_28;
+
+pub struct Isotherm {
+    pub tau: f64,
+    // τᵗ of rows 1 to 39
+    pub powers: [f64; 39],
+    // β·(τ−γ)² of rows 35 to 39
+    pub spread: [f64; 5],
+    // D·(τ−1)² of rows 40 to 42
+    pub cold: [f64; 3],
+}
+
+const QUARTERS: [u8; 39] = [
+    0,
+    3,
+    4,
+    8,
+    3,
+    8,
+    3,
+    6,
+    6,
+    10,
+    0,
+    6,
+    8,
+    0,
+    4,
+    8,
+    12,
+    24,
+    12,
+    24,
+    32,
+    24,
+    0,
+    28,
+    48,
+    64,
+    88,
+    96,
+    64,
+    96,
+    32,
+    8,
+    112,
+    56,
+    4,
+    0,
+    4,
+    12,
+    12,
+];
+
+// The exponents of τ in rows 1 to 39, in quarters.
+fn tau_quarters() -> [u8; 39]
+    ensures { λ r. ⌜ r ≡ quarters ⌝ }
+{
+    QUARTERS
+}
+
+// τᵗ of rows 1 to 39: always the one product of a whole power of τ and one of its quarter root.
+fn tau_powers(tau: f64, quarter: f64) -> [f64; 39]
+    ensures { λ r. ⌜ r ≡ tauPowers tau quarter ⌝ }
+{
+    let t = powers_to_28(tau);
+    let q = powers_to_3(quarter);
+    let js = tau_quarters();
+    let mut a = [0.0; 39];
+    let mut i = 0;
+    while i < 39 {
+        let j = js[i] as usize;
+        a[i] = t[j / 4] * q[j % 4];
+        i += 1;
+    }
+    a
+}
+
+// From τ and its quarter root.
+pub fn at_temperature(tau: f64, quarter: f64) -> Isotherm
+    ensures { λ r. ⌜ r ≡ isotherm tau quarter ⌝ }
+{
+    let powers = tau_powers(tau, quarter);
+    let spread = [
+        325.0 * ((tau - 1.16) * (tau - 1.16)),
+        300.0 * ((tau - 1.19) * (tau - 1.19)),
+        300.0 * ((tau - 1.19) * (tau - 1.19)),
+        275.0 * ((tau - 1.25) * (tau - 1.25)),
+        275.0 * ((tau - 1.22) * (tau - 1.22)),
+    ];
+    let f = tau - 1.0;
+    let cold = [275.0 * (f * f), 275.0 * (f * f), 275.0 * (f * f)];
+    Isotherm {
+        tau,
+        powers,
+        spread,
+        cold,
+    }
+}

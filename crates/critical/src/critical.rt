@@ -3,9 +3,6 @@
 ghost use mathlib.Core.Path.{_≡_};
 ghost use Rattle.roots.specs.Formula.{absolute};
 ghost use Rattle.critical.specs.Critical.{nearX, near, raised, lowered, edgePsi, edgePower, edge, edges, critical};
-use rows::isotherm::Isotherm;
-use rows::row::NonAnalytic;
-use rows::row::non_analytics;
 use numeric::exponential::exponential;
 use numeric::working::Worked;
 use numeric::working::checked;
@@ -14,6 +11,9 @@ use roots::exponent::Exponent;
 use roots::exponent::Printed;
 use roots::exponent::worked_as;
 use roots::root::root;
+use rows::isotherm::Isotherm;
+use rows::row::NonAnalytic;
+use rows::row::non_analytics;
 
 // What the three rows share: e = δ − 1, X = e·e, r = root 5/3 of X, v = root 2/3 of X.
 pub struct Near {

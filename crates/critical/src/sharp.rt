@@ -5,11 +5,11 @@ ghost use Rattle.critical.specs.Critical.{bend, p2, sharpFigure};
 ghost use Rattle.rows.specs.declared.derivative.Derivative.the-variants.{Delta, DeltaDelta, Tau, TauTau, DeltaTau};
 use crate::critical::Edge;
 use crate::critical::Near;
-use rows::row::NonAnalytic;
-use rows::derivative::Derivative;
 use numeric::working::Worked;
 use numeric::working::checked;
 use numeric::working::over;
+use rows::derivative::Derivative;
+use rows::row::NonAnalytic;
 
 // m = Δ_δ/(δ−1)
 fn bend_of(row: NonAnalytic, n: Near, g: Edge) -> f64

@@ -9,9 +9,16 @@ ghost use Rattle.residual.specs.Term.{point, polynomialBracket, exponent
 ghost use Rattle.critical.specs.Critical.{critical, sharpFigures};
 ghost use Rattle.rows.specs.declared.derivative.Derivative.the-variants.{Delta};
 ghost use Rattle.residual.specs.Sum.{onto, total, polynomialFigures, exponentialFigures, gaussianFigures, figures, residual, fiveSums};
+use crate::term::Point;
+use crate::term::at_density;
 use critical::critical::Critical;
 use critical::critical::Criticality;
 use critical::critical::at_critical;
+use critical::sharp::sharp_figure;
+use numeric::working::Worked;
+use numeric::working::checked;
+use numeric::working::plain;
+use rows::derivative::Derivative;
 use rows::isotherm::Isotherm;
 use rows::row::Exponential;
 use rows::row::Gaussian;
@@ -20,13 +27,6 @@ use rows::row::exponentials;
 use rows::row::gaussians;
 use rows::row::non_analytics;
 use rows::row::polynomials;
-use critical::sharp::sharp_figure;
-use rows::derivative::Derivative;
-use crate::term::Point;
-use crate::term::at_density;
-use numeric::working::Worked;
-use numeric::working::checked;
-use numeric::working::plain;
 
 // The five: δφ_δ, δ²φ_δδ, τφ_τ, τ²φ_ττ, δτφ_δτ.
 pub struct Sums {

@@ -1,0 +1,2 @@
+pub mod Pressure
+pub mod State

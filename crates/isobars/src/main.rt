@@ -1,0 +1,102 @@
+// 004's tables of states against the library: the isobars that document 01 asks for, and saturation. The tables,
+// data/isobars.csv and data/saturation.csv, are as read from the scan (docs/READING.md). A line for each failure, the
+// counts, and last how many failures there are.
+mod decimal;
+mod isobar;
+mod saturated;
+mod table;
+mod tally;
+mod tell;
+
+use isobar::isobars;
+use saturated::saturations;
+use tally::Tally;
+use tell::count;
+use tell::say;
+
+fn tell_isobars(tally: Tally) {
+    count(b"isobars", tally.rows, b" rows");
+    count(b"isobars", tally.in_range, b" in range");
+    count(
+        b"isobars",
+        tally.on_saturation_line,
+        b" of them on the saturation line",
+    );
+    count(b"isobars", tally.on_melting_line, b" on the melting line");
+    count(b"isobars", tally.in_critical_box, b" in the critical box");
+    count(b"isobars", tally.compared, b" compared");
+    count(b"isobars", tally.cells, b" cells compared");
+    count(
+        b"isobars",
+        tally.damaged,
+        b" cells left out, damaged in the scan",
+    );
+    count(
+        b"isobars",
+        tally.without_density,
+        b" cells left out, the row's density damaged",
+    );
+    count(b"isobars", tally.differences, b" compared in h - u = p/rho");
+    count(
+        b"isobars",
+        tally.differences_left_out,
+        b" left out of it, a cell damaged in the scan",
+    );
+    count(b"isobars", tally.failures, b" failures");
+}
+
+fn tell_saturations(tally: Tally) {
+    count(b"saturation", tally.rows, b" rows");
+    count(b"saturation", tally.in_range, b" up to 303 K");
+    count(b"saturation", tally.cells, b" cells compared");
+    count(
+        b"saturation",
+        tally.damaged,
+        b" cells left out, damaged in the scan",
+    );
+    count(b"saturation", tally.failures, b" failures");
+}
+
+// The row at 5 MPa and 300 K with its density, 128.40, moved by three units: the comparison must be able to fail.
+fn wrong_row() {
+    say(b"a wrong row:\n");
+    let tally = isobars(
+        b"isobar_MPa,T_K,rho,u,h,s,cv,cp,w\n5.00,300,128.43,-99.772,-60.830,-0.88811,0.85258,1.8025,223.25\n",
+    );
+    if 0 < tally.failures {
+        say(b"a wrong row is found: yes\n");
+    } else {
+        say(b"a wrong row is found: no\n");
+    }
+}
+
+// 131,072 bytes hold either table.
+fn compare_isobars() {
+    let mut space = [0u8; 131072];
+    let fd = os::open_read(b"isobars.csv");
+    if fd < 0 {
+        os::fail(b"isobars.csv");
+        return;
+    }
+    let n = io::read_full(fd, &mut space);
+    libc::close(fd);
+    tell_isobars(isobars(&space[..n]));
+}
+
+fn compare_saturations() {
+    let mut space = [0u8; 131072];
+    let fd = os::open_read(b"saturation.csv");
+    if fd < 0 {
+        os::fail(b"saturation.csv");
+        return;
+    }
+    let n = io::read_full(fd, &mut space);
+    libc::close(fd);
+    tell_saturations(saturations(&space[..n]));
+}
+
+fn main() {
+    wrong_row();
+    compare_isobars();
+    compare_saturations();
+}

@@ -1,0 +1,100 @@
+-- The pressure of a state is bit for bit the pressure alone, and the state's temperature and density are those asked for. Assumes nothing.
+use mathlib.Core.Path.{_≡_, refl, sym, ap, _∙_}
+use Prim.Native.Nat.{ℕ}
+use native.Mathlib.Omega.{arith}
+use lib.Ieee.{Float}
+use Rattle.numeric.specs.Working.{then}
+use Rattle.numeric.specs.declared.working.Worked.{Worked}
+use Rattle.numeric.specs.declared.working.Worked.the-variants.{Number, Failed}
+use Rattle.roots.specs.Formula.{work}
+use Rattle.rows.specs.declared.isotherm.Isotherm.{Isotherm}
+use Rattle.rows.specs.declared.derivative.Derivative.the-variants.{Delta, DeltaDelta, Tau, TauTau, DeltaTau}
+use Rattle.rows.specs.Isotherm.{isotherm}
+use Rattle.residual.specs.Sum.{residual, fiveSums, thenFive}
+use Rattle.residual.specs.declared.sum.Sums.{Sums}
+use Rattle.residual.specs.declared.sum.Five.{Five}
+use Rattle.residual.specs.declared.sum.Five.the-variants.{Summed, Broken}
+use Rattle.ideal.specs.Ideal.{idealPart}
+use Rattle.equation.specs.Pressure.{deltaOf, tauOf, quarterOf, pressureFormula, pressureOn, pressure}
+use Rattle.equation.specs.State.{heatV, heatP, sound, energy, enthalpy, thenState, thenSums, stateWith, stateOf, stateIdeal, stateOn, state}
+use Rattle.equation.specs.declared.state.State.{State}
+use Rattle.equation.specs.declared.state.Stated.{Stated}
+use Rattle.equation.specs.declared.state.Stated.the-variants.{Known, Unknown}
+
+-- a step that came to a state took a number
+data Took (w : Worked) (f : Float → Stated) (x : State) : Type 0 where
+  took : (n : Float) → w ≡ Number n → f n ≡ Known x → Took w f x
+
+step : (w : Worked) (f : Float → Stated) (x : State) → thenState w f ≡ Known x → Took w f x
+step Failed f x e = let z : _≡_ {A = ℕ} 0 1 = cc in absurd (omega arith)
+step (Number n) f x e = took n refl e
+
+-- what the last two steps leave as it was
+module _ (t : Float) (s : Sums) (i1 i2 : Float) where
+  kept : (rho p u h : Float) (x : State) → stateWith t s i1 i2 rho p u h ≡ Known x → (x .p ≡ p) × (x .t ≡ t) × (x .rho ≡ rho)
+  unfolding stateWith
+  kept rho p u h x e = elim (step (work (heatV t s i1 i2)) _ x e) [
+    took cv a f ↦ elim (step (work (heatP t s i1 i2)) _ x f) [
+      took cp b g ↦ elim (step (work (sound t s i1 i2)) _ x g) [
+        took w c k ↦ (cc, cc, cc)
+      ]
+    ]
+  ]
+
+-- the first of the five sums is the one that a pressure needs
+data TookFive (w : Worked) (f : Float → Five) (s : Sums) : Type 0 where
+  took-five : (n : Float) → w ≡ Number n → f n ≡ Summed s → TookFive w f s
+
+step-five : (w : Worked) (f : Float → Five) (s : Sums) → thenFive w f ≡ Summed s → TookFive w f s
+step-five Failed f s e = let z : _≡_ {A = ℕ} 0 1 = cc in absurd (omega arith)
+step-five (Number n) f s e = took-five n refl e
+
+first-sum : (iso : Isotherm) (delta : Float) (s : Sums) → fiveSums iso delta ≡ Summed s → residual iso delta Delta ≡ Number (s .d)
+unfolding fiveSums
+first-sum iso delta s e = elim (step-five (residual iso delta Delta) _ s e) [
+  took-five d a f ↦ elim (step-five (residual iso delta DeltaDelta) _ s f) [
+    took-five dd b g ↦ elim (step-five (residual iso delta Tau) _ s g) [
+      took-five t c h ↦ elim (step-five (residual iso delta TauTau) _ s h) [
+        took-five tt i j ↦ elim (step-five (residual iso delta DeltaTau) _ s j) [
+          took-five dt k l ↦ let m : d ≡ s .d = cc in a ∙ ap Number m
+        ]
+      ]
+    ]
+  ]
+]
+
+-- from the sums on
+from-sums : (t tau rho : Float) (s : Sums) (x : State) → stateIdeal t tau rho s ≡ Known x → (work (pressureFormula t rho (s .d)) ≡ Number (x .p)) × (x .t ≡ t) × (x .rho ≡ rho)
+unfolding stateIdeal stateOf
+from-sums t tau rho s x e = elim (step (idealPart tau .first) _ x e) [
+  took i1 a f ↦ elim (step (idealPart tau .second) _ x f) [
+    took i2 b g ↦ elim (step (work (pressureFormula t rho (s .d))) _ x g) [
+      took p c h ↦ elim (step (work (energy t s i1 i2)) _ x h) [
+        took u d j ↦ elim (step (work (enthalpy t s i1 i2)) _ x j) [
+          took k l m ↦ let y = kept t s i1 i2 rho p u k x m in (c ∙ ap Number (sym (y .0)), y .1, y .2)
+        ]
+      ]
+    ]
+  ]
+]
+
+-- on an isotherm
+pub pressure-of-state-on : (t : Float) (iso : Isotherm) (rho : Float) (x : State) → stateOn t iso rho ≡ Known x → (pressureOn t iso rho ≡ Number (x .p)) × (x .t ≡ t) × (x .rho ≡ rho)
+unfolding stateOn pressureOn
+pressure-of-state-on t iso rho x e = elim (step (deltaOf rho) _ x e) [
+  took delta a f ↦ go delta a (fiveSums iso delta) refl f
+]
+  where
+    go : (delta : Float) → deltaOf rho ≡ Number delta → (v : Five) → fiveSums iso delta ≡ v → thenSums v (stateIdeal t (iso .tau) rho) ≡ Known x
+        → (then (deltaOf rho) (λ d. then (residual iso d Delta) (λ a. work (pressureFormula t rho a))) ≡ Number (x .p)) × (x .t ≡ t) × (x .rho ≡ rho)
+    go delta a Broken q f = let z : _≡_ {A = ℕ} 0 1 = cc in absurd (omega arith)
+    go delta a (Summed s) q f = let y = from-sums t (iso .tau) rho s x f in (rw (a, first-sum iso delta s q) (y .0), y .1, y .2)
+
+-- THE PRESSURE OF A STATE IS THE PRESSURE ALONE, bit for bit
+pub pressure-of-state : (t rho : Float) (x : State) → state t rho ≡ Known x → (pressure t rho ≡ Number (x .p)) × (x .t ≡ t) × (x .rho ≡ rho)
+unfolding state pressure
+pressure-of-state t rho x e = elim (step (tauOf t) _ x e) [
+  took tau a f ↦ elim (step (quarterOf tau) _ x f) [
+    took quarter b g ↦ let y = pressure-of-state-on t (isotherm tau quarter) rho x g in (rw (a, b) (y .0), y .1, y .2)
+  ]
+]

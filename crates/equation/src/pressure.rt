@@ -12,7 +12,7 @@ use roots::root::root;
 use rows::isotherm::Isotherm;
 use rows::isotherm::at_temperature;
 
-pub fn delta_at(rho: f64) -> Worked
+pub(crate) fn delta_at(rho: f64) -> Worked
     ensures { λ r. ⌜ r ≡ deltaOf rho ⌝ }
 {
     checked(rho / span_wagner().density)

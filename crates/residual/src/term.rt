@@ -24,7 +24,7 @@ fn decay(x: f64) -> f64
     plain(exponential(-x))
 }
 
-pub fn at_density(iso: Isotherm, delta: f64) -> Point
+pub(crate) fn at_density(iso: Isotherm, delta: f64) -> Point
     ensures { λ r. ⌜ r ≡ point iso delta ⌝ }
 {
     let powers = powers_to_10(delta);

@@ -1,9 +1,7 @@
-#!/usr/bin/env python3
-"""Saturation and the ideal part worked a second time, from 004 and document 01 (docs/ARRANGEMENT.md, sections 8 and 10): prints what the program `figures`
-must print.
+"""Saturation and the ideal part worked a second time, from 004 and document 01 (docs/ARRANGEMENT.md, sections 8 and 10): the first part of what the program `figures`
+must print. The rest, and all of it together, is equation.py's.
 
 Each operation is one Python float operation, which is the same f64 operation. Each number is tested as it is worked, where the code tests at the end.
-    crosscheck/figures.py | diff - crates/figures/stdout
 """
 import math
 import sys
@@ -133,7 +131,3 @@ def main():
         for x in xs:
             for name, f in figures:
                 print(f"{name} at {numerics.show(x)} is {numerics.tell(worked(f, x))}")
-
-
-if __name__ == "__main__":
-    main()

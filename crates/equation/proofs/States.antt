@@ -34,9 +34,9 @@ module _ (t : Float) (s : Sums) (i1 i2 : Float) where
   kept : (rho p u h : Float) (x : State) → stateWith t s i1 i2 rho p u h ≡ Known x → (x .p ≡ p) × (x .t ≡ t) × (x .rho ≡ rho)
   unfolding stateWith
   kept rho p u h x e = elim (step (work (heatV t s i1 i2)) _ x e) [
-    took cv a f ↦ elim (step (work (heatP t s i1 i2)) _ x f) [
-      took cp b g ↦ elim (step (work (sound t s i1 i2)) _ x g) [
-        took w c k ↦ (cc, cc, cc)
+    | took cv a f ↦ elim (step (work (heatP t s i1 i2)) _ x f) [
+      | took cp b g ↦ elim (step (work (sound t s i1 i2)) _ x g) [
+        | took w c k ↦ (cc, cc, cc)
       ]
     ]
   ]
@@ -52,11 +52,11 @@ step-five (Number n) f s e = took-five n refl e
 first-sum : (iso : Isotherm) (delta : Float) (s : Sums) → fiveSums iso delta ≡ Summed s → residual iso delta Delta ≡ Number (s .d)
 unfolding fiveSums
 first-sum iso delta s e = elim (step-five (residual iso delta Delta) _ s e) [
-  took-five d a f ↦ elim (step-five (residual iso delta DeltaDelta) _ s f) [
-    took-five dd b g ↦ elim (step-five (residual iso delta Tau) _ s g) [
-      took-five t c h ↦ elim (step-five (residual iso delta TauTau) _ s h) [
-        took-five tt i j ↦ elim (step-five (residual iso delta DeltaTau) _ s j) [
-          took-five dt k l ↦ let m : d ≡ s .d = cc in a ∙ ap Number m
+  | took-five d a f ↦ elim (step-five (residual iso delta DeltaDelta) _ s f) [
+    | took-five dd b g ↦ elim (step-five (residual iso delta Tau) _ s g) [
+      | took-five t c h ↦ elim (step-five (residual iso delta TauTau) _ s h) [
+        | took-five tt i j ↦ elim (step-five (residual iso delta DeltaTau) _ s j) [
+          | took-five dt k l ↦ let m : d ≡ s .d = cc in a ∙ ap Number m
         ]
       ]
     ]
@@ -67,11 +67,11 @@ first-sum iso delta s e = elim (step-five (residual iso delta Delta) _ s e) [
 from-sums : (t tau rho : Float) (s : Sums) (x : State) → stateIdeal t tau rho s ≡ Known x → (work (pressureFormula t rho (s .d)) ≡ Number (x .p)) × (x .t ≡ t) × (x .rho ≡ rho)
 unfolding stateIdeal stateOf
 from-sums t tau rho s x e = elim (step (idealPart tau .first) _ x e) [
-  took i1 a f ↦ elim (step (idealPart tau .second) _ x f) [
-    took i2 b g ↦ elim (step (work (pressureFormula t rho (s .d))) _ x g) [
-      took p c h ↦ elim (step (work (energy t s i1 i2)) _ x h) [
-        took u d j ↦ elim (step (work (enthalpy t s i1 i2)) _ x j) [
-          took k l m ↦ let y = kept t s i1 i2 rho p u k x m in (c ∙ ap Number (sym (y .0)), y .1, y .2)
+  | took i1 a f ↦ elim (step (idealPart tau .second) _ x f) [
+    | took i2 b g ↦ elim (step (work (pressureFormula t rho (s .d))) _ x g) [
+      | took p c h ↦ elim (step (work (energy t s i1 i2)) _ x h) [
+        | took u d j ↦ elim (step (work (enthalpy t s i1 i2)) _ x j) [
+          | took k l m ↦ let y = kept t s i1 i2 rho p u k x m in (c ∙ ap Number (sym (y .0)), y .1, y .2)
         ]
       ]
     ]
@@ -82,7 +82,7 @@ from-sums t tau rho s x e = elim (step (idealPart tau .first) _ x e) [
 pub pressure-of-state-on : (t : Float) (iso : Isotherm) (rho : Float) (x : State) → stateOn t iso rho ≡ Known x → (pressureOn t iso rho ≡ Number (x .p)) × (x .t ≡ t) × (x .rho ≡ rho)
 unfolding stateOn pressureOn
 pressure-of-state-on t iso rho x e = elim (step (deltaOf rho) _ x e) [
-  took delta a f ↦ go delta a (fiveSums iso delta) refl f
+  | took delta a f ↦ go delta a (fiveSums iso delta) refl f
 ]
   where
     go : (delta : Float) → deltaOf rho ≡ Number delta → (v : Five) → fiveSums iso delta ≡ v → thenSums v (stateIdeal t (iso .tau) rho) ≡ Known x
@@ -94,7 +94,7 @@ pressure-of-state-on t iso rho x e = elim (step (deltaOf rho) _ x e) [
 pub pressure-of-state : (t rho : Float) (x : State) → state t rho ≡ Known x → (pressure t rho ≡ Number (x .p)) × (x .t ≡ t) × (x .rho ≡ rho)
 unfolding state pressure
 pressure-of-state t rho x e = elim (step (tauOf t) _ x e) [
-  took tau a f ↦ elim (step (quarterOf tau) _ x f) [
-    took quarter b g ↦ let y = pressure-of-state-on t (isotherm tau quarter) rho x g in (rw (a, b) (y .0), y .1, y .2)
+  | took tau a f ↦ elim (step (quarterOf tau) _ x f) [
+    | took quarter b g ↦ let y = pressure-of-state-on t (isotherm tau quarter) rho x g in (rw (a, b) (y .0), y .1, y .2)
   ]
 ]

@@ -1,49 +1,72 @@
-// The saturation figures at temperatures, and I₁ and I₂ of the ideal part at values of τ; their bits were worked
-// elsewhere (crosscheck/figures.py). One figure a line, numbers as the sixteen hexadecimal digits of their bits.
+// The saturation figures at temperatures, I₁ and I₂ of the ideal part at values of τ, and pressures and states; their
+// bits were worked elsewhere (crosscheck/equation.py). One figure a line.
+use equation::pressure::pressure_at;
+use equation::state::State;
+use equation::state::Stated;
+use equation::state::state_at;
 use ideal::ideal::ideal_part;
-use libc::STDOUT_FILENO;
 use numeric::working::Worked;
-use numeric::working::is_finite;
 use saturation::saturation::liquid_density;
 use saturation::saturation::vapour_density;
 use saturation::saturation::vapour_pressure;
+use telling::say;
+use telling::show;
+use telling::tell;
 
-fn say(text: &[u8]) {
-    io::write_all(STDOUT_FILENO, text);
-}
-
-fn show(x: f64) {
-    if is_finite(x) {
-        io::print_hex(STDOUT_FILENO, f64::to_bits(x), 16);
-    } else {
-        say(b"not finite");
-    }
-}
-
-fn tell(name: &[u8], x: f64, w: Worked) {
+fn figure(name: &[u8], x: f64, w: Worked) {
     say(name);
     say(b" at ");
     show(x);
-    say(b" is ");
-    match w {
-        Worked::Number(y) => show(y),
-        Worked::Failed => say(b"refused"),
+    tell(w);
+}
+
+// The eight numbers, or that there is no state.
+fn state(t: f64, rho: f64) {
+    say(b"pressure at ");
+    show(t);
+    say(b" ");
+    show(rho);
+    tell(pressure_at(t, rho));
+    say(b"state at ");
+    show(t);
+    say(b" ");
+    show(rho);
+    say(b" is");
+    match state_at(t, rho) {
+        Stated::Known(s) => eight(s),
+        Stated::Unknown => say(b" refused"),
     }
     say(b"\n");
 }
 
+fn also(x: f64) {
+    say(b" ");
+    show(x);
+}
+
+fn eight(s: State) {
+    also(s.t);
+    also(s.p);
+    also(s.rho);
+    also(s.u);
+    also(s.h);
+    also(s.cv);
+    also(s.cp);
+    also(s.w);
+}
+
 fn saturated(t: f64) {
-    tell(b"vapour pressure", t, vapour_pressure(t));
-    tell(b"liquid density", t, liquid_density(t));
-    tell(b"vapour density", t, vapour_density(t));
+    figure(b"vapour pressure", t, vapour_pressure(t));
+    figure(b"liquid density", t, liquid_density(t));
+    figure(b"vapour density", t, vapour_density(t));
 }
 
 fn ideal_gas(tau: f64) {
     let i = ideal_part(tau);
     let first = i.first;
     let second = i.second;
-    tell(b"I1", tau, first);
-    tell(b"I2", tau, second);
+    figure(b"I1", tau, first);
+    figure(b"I2", tau, second);
 }
 
 // From the triple point to the critical one.
@@ -118,9 +141,47 @@ fn off_the_ideal_line() {
     ideal_gas(0.0 / 0.0);
 }
 
+// Vapour, liquid, supercritical, near the critical point, at δ = 1, and at the corners of the ranges.
+fn states() {
+    state(216.592, 0.1);
+    state(216.592, 1178.46);
+    state(250.0, 1058.86);
+    state(250.0, 46.644);
+    state(273.15, 500.0);
+    state(300.0, 128.4);
+    state(300.0, 1300.0);
+    state(303.9, 420.3);
+    state(304.1282, 467.5);
+    state(304.2, 467.6);
+    state(305.0, 467.6);
+    state(306.5, 530.25);
+    state(330.0, 701.2);
+    state(400.0, 72.804);
+    state(450.0, 467.6);
+    state(523.0, 0.05);
+    state(523.0, 1400.0);
+}
+
+// Where a working fails: δ = τ = 1, densities and temperatures that are no state's.
+fn no_states() {
+    state(304.1282, 467.6);
+    state(300.0, 0.0);
+    state(300.0, -1.0);
+    state(0.0, 100.0);
+    state(-300.0, 100.0);
+    state(1e-300, 100.0);
+    state(300.0, 1e300);
+    state(300.0, 1.0 / 0.0);
+    state(1.0 / 0.0, 100.0);
+    state(0.0 / 0.0, 100.0);
+    state(300.0, 0.0 / 0.0);
+}
+
 fn main() {
     saturation_line();
     off_the_line();
     ideal_line();
     off_the_ideal_line();
+    states();
+    no_states();
 }

@@ -4,32 +4,13 @@ use libc::STDOUT_FILENO;
 use numeric::exponential::exponential;
 use numeric::power::whole_power;
 use numeric::working::Worked;
-use numeric::working::is_finite;
 use roots::exponent::Exponent;
 use roots::exponent::Printed;
 use roots::exponent::worked_as;
 use roots::root::root;
-
-fn say(text: &[u8]) {
-    io::write_all(STDOUT_FILENO, text);
-}
-
-fn show(x: f64) {
-    if is_finite(x) {
-        io::print_hex(STDOUT_FILENO, f64::to_bits(x), 16);
-    } else {
-        say(b"not finite");
-    }
-}
-
-fn tell(w: Worked) {
-    say(b" is ");
-    match w {
-        Worked::Number(x) => show(x),
-        Worked::Failed => say(b"refused"),
-    }
-    say(b"\n");
-}
+use telling::say;
+use telling::show;
+use telling::tell;
 
 fn e_to(x: f64) {
     say(b"e to ");

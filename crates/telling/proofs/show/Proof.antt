@@ -2,8 +2,8 @@
 use mathlib.Core.Path.{sym, _∙_}
 use borrow.Author.Needs.{needs}
 use Rattle.numeric.proofs.Numbers.{finite-no-nan}
-use Rattle.figures.proofs.show.Statement.{statement}
-use Rattle.figures.proofs.show.Tie as tie
+use Rattle.telling.proofs.show.Statement.{statement}
+use Rattle.telling.proofs.show.Tie as tie
 
 is-finite-requires : tie.Need-is-finite-requires
 is-finite-requires c κs = search needs

@@ -1,0 +1,164 @@
+#!/usr/bin/env python3
+"""The pressure and the state worked a second time, from 004 and docs/ARRANGEMENT.md, sections 2 to 9: prints what the program `figures` must print.
+
+Each operation is one Python float operation, which is the same f64 operation. Each number is tested as it is worked, where the code tests at the end.
+    crosscheck/equation.py | diff - crates/figures/stdout
+"""
+import sys
+
+sys.dont_write_bytecode = True
+import figures
+import numerics
+from figures import DENSITY, TEMPERATURE, Failure, Num, e_to, first, root, second
+
+GAS = 188.9241
+# Table 31, rows 1 to 34: n, d, t in quarters, c (0: no exponential)
+ROWS = [
+    (0.38856823203161e0, 1, 0, 0), (0.29385475942740e1, 1, 3, 0), (-0.55867188534934e1, 1, 4, 0), (-0.76753199592477e0, 1, 8, 0), (0.31729005580416e0, 2, 3, 0),
+    (0.54803315897767e0, 2, 8, 0), (0.12279411220335e0, 3, 3, 0), (0.21658961543220e1, 1, 6, 1), (0.15841735109724e1, 2, 6, 1), (-0.23132705405503e0, 4, 10, 1),
+    (0.58116916431436e-1, 5, 0, 1), (-0.55369137205382e0, 5, 6, 1), (0.48946615909422e0, 5, 8, 1), (-0.24275739843501e-1, 6, 0, 1), (0.62494790501678e-1, 6, 4, 1),
+    (-0.12175860225246e0, 6, 8, 1), (-0.37055685270086e0, 1, 12, 2), (-0.16775879700426e-1, 1, 24, 2), (-0.11960736637987e0, 4, 12, 2), (-0.45619362508778e-1, 4, 24, 2),
+    (0.35612789270346e-1, 4, 32, 2), (-0.74427727132052e-2, 7, 24, 2), (-0.17395704902432e-2, 8, 0, 2), (-0.21810121289527e-1, 2, 28, 3), (0.24332166559236e-1, 3, 48, 3),
+    (-0.37440133423463e-1, 3, 64, 3), (0.14338715756878e0, 5, 88, 4), (-0.13491969083286e0, 5, 96, 4), (-0.23151225053480e-1, 6, 64, 4), (0.12363125492901e-1, 7, 96, 4),
+    (0.21058321972940e-2, 8, 32, 4), (-0.33958519026368e-3, 10, 8, 4), (0.55993651771592e-2, 4, 112, 5), (-0.30335118055646e-3, 8, 56, 6)]
+# rows 35 to 39: n, d, t in quarters, alpha, beta, gamma, epsilon
+GAUSSIAN = [
+    (-0.21365488688320e3, 2, 4, 25.0, 325.0, 1.16, 1.0), (0.26641569149272e5, 2, 0, 25.0, 300.0, 1.19, 1.0), (-0.24027212204557e5, 2, 4, 25.0, 300.0, 1.19, 1.0),
+    (-0.28341603423999e3, 3, 12, 15.0, 275.0, 1.25, 1.0), (0.21247284400179e3, 3, 12, 20.0, 275.0, 1.22, 1.0)]
+# rows 40 to 42: n, a, b, b as m and k, A, B, C, D
+NON_ANALYTIC = [
+    (-0.66642276540751e0, 3.5, 0.875, (7, 8), 0.7, 0.3, 10.0, 275.0), (0.72608632349897e0, 3.5, 0.925, (37, 40), 0.7, 0.3, 10.0, 275.0),
+    (0.55068668612842e-1, 3.0, 0.875, (7, 8), 0.7, 1.0, 12.5, 275.0)]
+ONE, TWO, FOUR = Num(1.0), Num(2.0), Num(4.0)
+
+
+def power(x, n):
+    """xⁿ; of x⁰ nothing is worked."""
+    return ONE if n == 0 else x**n
+
+
+class Point:
+    def __init__(self, t, rho):
+        self.delta, self.tau = Num(rho) / Num(DENSITY), Num(TEMPERATURE) / Num(t)
+        self.q = root(root(self.tau, 1, 2), 1, 2)
+
+    def tau_to(self, j):
+        return power(self.tau, j // 4) * power(self.q, j % 4)
+
+
+def rows_1_34(at, row):
+    n, d, j, c = row
+    term = Num(n) * power(at.delta, d) * at.tau_to(j)
+    dn, t = Num(float(d)), Num(j / 4)
+    if c == 0:
+        return term, [lambda: dn, lambda: dn * (dn - ONE), lambda: t, lambda: t * (t - ONE), lambda: t * dn]
+    z = power(at.delta, c)
+    term = term * e_to(-z)
+    g = Num(float(c)) * z
+    b = dn - g
+    return term, [lambda: b, lambda: b * ((dn - ONE) - g) - Num(float(c)) * g, lambda: t, lambda: t * (t - ONE), lambda: t * b]
+
+
+def rows_35_39(at, row):
+    n, d, j, alpha, beta, gamma, epsilon = row
+    delta, tau = at.delta, at.tau
+    dn, t, alpha, beta = Num(float(d)), Num(j / 4), Num(alpha), Num(beta)
+    x, y = delta - Num(epsilon), tau - Num(gamma)
+    term = Num(n) * power(delta, d) * at.tau_to(j) * e_to(-(alpha * (x * x) + beta * (y * y)))
+
+    def b():
+        return dn - TWO * alpha * delta * x
+
+    def s():
+        return t - TWO * beta * tau * y
+    return term, [b, lambda: b() * b() - dn - TWO * alpha * power(delta, 2), s, lambda: s() * s() - t - TWO * beta * power(tau, 2), lambda: b() * s()]
+
+
+def rows_40_42(at, row):
+    n, a, b, exponent, ka, kb, kc, kd = [x if isinstance(x, tuple) else Num(x) for x in row]
+    delta, tau = at.delta, at.tau
+    e, f = delta - ONE, tau - ONE
+    x, y = e * e, f * f
+    size = -e if e.x < 0.0 else e
+    cube, square = power(x, 3), power(x, 2)
+    up, low = (cube * size, square * size) if row[1] == 3.5 else (cube, square)
+    r, v = root(x, 5, 3), root(x, 2, 3)
+    theta = (ONE - tau) + ka * r
+    d = theta * theta + kb * up
+    psi = e_to(-(kc * x + kd * y))
+    p0 = root(d, *exponent)
+    p1 = p0 / d
+    term = n * delta * psi
+    m = ka * theta * Num(20 / 3) * v + TWO * kb * a * low
+    dd = e * m
+    k = delta * -(TWO * kc * e)
+    g = ONE + k
+    rise = delta * (b * p1 * dd)
+
+    def p2():
+        return p1 / d
+
+    def psi_t():
+        return -(TWO * kd * f)
+
+    def p_t():
+        return -(TWO * theta * b * p1)
+
+    def by_delta_delta():
+        curve = m + FOUR * kb * a * (a - ONE) * low + TWO * (ka * ka) * Num(100 / 9) * x * (v * v) + ka * theta * Num(40 / 3) * Num(2 / 3) * v
+        pdd = b * (p1 * curve + (b - ONE) * p2() * (dd * dd))
+        psi_dd = (TWO * kc * x - ONE) * (TWO * kc)
+        return p0 * (TWO * k + power(delta, 2) * psi_dd) + TWO * rise * g + power(delta, 2) * pdd
+
+    def by_tau_tau():
+        ptt = TWO * b * p1 + FOUR * (theta * theta) * (b * (b - ONE)) * p2()
+        psi_tt = (TWO * kd * y - ONE) * (TWO * kd)
+        return power(tau, 2) * (ptt + TWO * p_t() * psi_t() + p0 * psi_tt)
+
+    def by_delta_tau():
+        pdt = -(ka * b * Num(20 / 3) * p1 * e * v) - TWO * theta * (b * (b - ONE)) * p2() * dd
+        return tau * (p0 * psi_t() * g + rise * psi_t() + p_t() * g + delta * pdt)
+    return term, [lambda: p0 * g + rise, by_delta_delta, lambda: tau * (p_t() + p0 * psi_t()), by_tau_tau, by_delta_tau]
+
+
+def residual(at, which):
+    """One of the five sums, in row order from the first row's product."""
+    total = None
+    for work, table in [(rows_1_34, ROWS), (rows_35_39, GAUSSIAN), (rows_40_42, NON_ANALYTIC)]:
+        for row in table:
+            term, brackets = work(at, row)
+            figure = term * brackets[which]()
+            total = figure if total is None else total + figure
+    return total
+
+
+def pressure(t, rho):
+    return Num(rho) * Num(GAS) * Num(t) * (ONE + residual(Point(t, rho), 0))
+
+
+def state(t, rho):
+    at = Point(t, rho)
+    s1, s2, s3, s4, s5 = [residual(at, k) for k in range(5)]
+    i1, i2 = first(at.tau.x), second(at.tau.x)
+    t, rho, gas = Num(t), Num(rho), Num(GAS)
+    s, z, g, k = i1 + s3, i2 + s4, ONE + s1 - s5, ONE + TWO * s1 + s2
+    return [t, rho * gas * t * (ONE + s1), rho, gas * t * s, gas * t * (ONE + s + s1), gas * -z, gas * (-z + g * g / k), root(gas * t * (k - g * g / z), 1, 2)]
+
+
+def states():
+    inf, nan = float("inf"), float("nan")
+    points = [(216.592, 0.1), (216.592, 1178.46), (250.0, 1058.86), (250.0, 46.644), (273.15, 500.0), (300.0, 128.4), (300.0, 1300.0), (303.9, 420.3), (304.1282, 467.5),
+              (304.2, 467.6), (305.0, 467.6), (306.5, 530.25), (330.0, 701.2), (400.0, 72.804), (450.0, 467.6), (523.0, 0.05), (523.0, 1400.0),
+              (304.1282, 467.6), (300.0, 0.0), (300.0, -1.0), (0.0, 100.0), (-300.0, 100.0), (1e-300, 100.0), (300.0, 1e300), (300.0, inf), (inf, 100.0), (nan, 100.0), (300.0, nan)]
+    for t, rho in points:
+        where = f"at {numerics.show(t)} {numerics.show(rho)} is"
+        print(f"pressure {where} {numerics.tell(figures.worked(lambda _: pressure(t, rho), t))}")
+        try:
+            print(f"state {where} {' '.join(numerics.show(x.x) for x in state(t, rho))}")
+        except Failure:
+            print(f"state {where} refused")
+
+
+if __name__ == "__main__":
+    figures.main()
+    states()

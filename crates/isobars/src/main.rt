@@ -1,18 +1,11 @@
 // 004's tables of states against the library: the isobars that document 01 asks for, and saturation. The tables,
 // data/isobars.csv and data/saturation.csv, are as read from the scan (docs/READING.md). A line for each failure, the
 // counts, and last how many failures there are.
-mod decimal;
-mod isobar;
-mod saturated;
-mod table;
-mod tally;
-mod tell;
-
-use isobar::isobars;
-use saturated::saturations;
-use tally::Tally;
-use tell::count;
-use tell::say;
+use findings::tally::Tally;
+use findings::tell::count;
+use findings::tell::say;
+use table34::saturated::saturations;
+use table35::isobar::isobars;
 
 fn tell_isobars(tally: Tally) {
     count(b"isobars", tally.rows, b" rows");

@@ -1,0 +1,3 @@
+// What a comparison of a printed table finds: the counts, and lines of standard output.
+pub mod tally;
+pub mod tell;

@@ -1,0 +1,2 @@
+// 004's Table 34, saturation, against the auxiliary equations.
+pub mod saturated;

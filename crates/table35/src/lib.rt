@@ -1,0 +1,2 @@
+// 004's Table 35, its isobars, against the equation.
+pub mod isobar;

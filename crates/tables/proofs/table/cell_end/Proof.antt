@@ -1,0 +1,59 @@
+-- The place lies between `at` and the end. The measure is what is left of the text. Assumes nothing.
+use Prim.Native.Nat.{_≤_, _-_}
+use lib.ListN.{length}
+use borrow.Author.Needs.{needs}
+use Rattle.tables.proofs.table.cell_end.Statement.{statement}
+use Rattle.tables.proofs.table.cell_end.Tie as tie
+
+abbrev Inv-loop : tie.InvT-loop
+Inv-loop text at quoted₀ i₀ quoted i = (at ≤ i) × (i ≤ length text)
+
+abbrev μ-loop : tie.MeasureT-loop
+μ-loop text at quoted₀ i₀ quoted i = length text - i
+
+loop-holds : tie.Need-loop-holds Inv-loop μ-loop
+loop-holds c = search needs
+
+shared-slice-read-ends-cell : tie.Need-shared-slice-read-ends-cell Inv-loop μ-loop
+shared-slice-read-ends-cell c = search needs
+
+ends-cell-requires : tie.Need-ends-cell-requires Inv-loop μ-loop
+ends-cell-requires c κs = search needs
+
+returns : tie.Need-returns Inv-loop μ-loop
+returns c = search needs
+
+shared-slice-read-quoted-after : tie.Need-shared-slice-read-quoted-after Inv-loop μ-loop
+shared-slice-read-quoted-after c = search needs
+
+quoted-after-requires : tie.Need-quoted-after-requires Inv-loop μ-loop
+quoted-after-requires c κs = search needs
+
+add-i : tie.Need-add-i Inv-loop μ-loop
+add-i c = search needs
+
+loop-less : tie.Need-loop-less Inv-loop μ-loop
+loop-less c = search needs
+
+loop-again : tie.Need-loop-again Inv-loop μ-loop
+loop-again c = search needs
+
+returns-2 : tie.Need-returns-2 Inv-loop μ-loop
+returns-2 c = search needs
+
+pub cell-end-spec : {M : Type 1} → statement M
+cell-end-spec =
+    tie.close
+    (tie.spec
+    Inv-loop
+    μ-loop
+    loop-holds
+    shared-slice-read-ends-cell
+    ends-cell-requires
+    returns
+    shared-slice-read-quoted-after
+    quoted-after-requires
+    add-i
+    loop-less
+    loop-again
+    returns-2)

@@ -1,54 +1,11 @@
 // 004's tables of states against the library: the isobars that document 01 asks for, and saturation. The tables,
 // data/isobars.csv and data/saturation.csv, are as read from the scan (docs/READING.md). A line for each failure, the
 // counts, and last how many failures there are.
-use findings::tally::Tally;
-use findings::tell::count;
+use findings::counts::tell_isobars;
+use findings::counts::tell_saturations;
 use findings::tell::say;
 use table34::saturated::saturations;
 use table35::isobar::isobars;
-
-fn tell_isobars(tally: Tally) {
-    count(b"isobars", tally.rows, b" rows");
-    count(b"isobars", tally.in_range, b" in range");
-    count(
-        b"isobars",
-        tally.on_saturation_line,
-        b" of them on the saturation line",
-    );
-    count(b"isobars", tally.on_melting_line, b" on the melting line");
-    count(b"isobars", tally.in_critical_box, b" in the critical box");
-    count(b"isobars", tally.compared, b" compared");
-    count(b"isobars", tally.cells, b" cells compared");
-    count(
-        b"isobars",
-        tally.damaged,
-        b" cells left out, damaged in the scan",
-    );
-    count(
-        b"isobars",
-        tally.without_density,
-        b" cells left out, the row's density damaged",
-    );
-    count(b"isobars", tally.differences, b" compared in h - u = p/rho");
-    count(
-        b"isobars",
-        tally.differences_left_out,
-        b" left out of it, a cell damaged in the scan",
-    );
-    count(b"isobars", tally.failures, b" failures");
-}
-
-fn tell_saturations(tally: Tally) {
-    count(b"saturation", tally.rows, b" rows");
-    count(b"saturation", tally.in_range, b" up to 303 K");
-    count(b"saturation", tally.cells, b" cells compared");
-    count(
-        b"saturation",
-        tally.damaged,
-        b" cells left out, damaged in the scan",
-    );
-    count(b"saturation", tally.failures, b" failures");
-}
 
 // The row at 5 MPa and 300 K with its density, 128.40, moved by three units: the comparison must be able to fail.
 fn wrong_row() {

@@ -149,6 +149,7 @@ def states():
     inf, nan = float("inf"), float("nan")
     points = [(216.592, 0.1), (216.592, 1178.46), (250.0, 1058.86), (250.0, 46.644), (273.15, 500.0), (300.0, 128.4), (300.0, 1300.0), (303.9, 420.3), (304.1282, 467.5),
               (304.2, 467.6), (305.0, 467.6), (306.5, 530.25), (330.0, 701.2), (400.0, 72.804), (450.0, 467.6), (523.0, 0.05), (523.0, 1400.0),
+              (327.6, 596.9), (321.9, 282.0), (316.0, 725.1), (305.5, 668.7), (304.11, 490.7), (311.1, 522.1),
               (304.1282, 467.6), (300.0, 0.0), (300.0, -1.0), (0.0, 100.0), (-300.0, 100.0), (1e-300, 100.0), (300.0, 1e300), (300.0, inf), (inf, 100.0), (nan, 100.0), (300.0, nan)]
     for t, rho in points:
         where = f"at {numerics.show(t)} {numerics.show(rho)} is"
@@ -159,6 +160,17 @@ def states():
             print(f"state {where} refused")
 
 
+def sharp():
+    """The figures of the non-analytic rows by themselves, which are small in the sums."""
+    for t, rho in [(290.1, 567.9), (295.4, 588.8), (312.2, 580.6), (290.4, 404.2)]:
+        at = Point(t, rho)
+        for which in range(5):
+            for row in NON_ANALYTIC:
+                term, brackets = rows_40_42(at, row)
+                print(f"rows 40 to 42 is {numerics.show((term * brackets[which]()).x)}")
+
+
 if __name__ == "__main__":
     figures.main()
     states()
+    sharp()

@@ -1,11 +1,20 @@
 // The saturation figures at temperatures, I₁ and I₂ of the ideal part at values of τ, and pressures and states; their
 // bits were worked elsewhere (crosscheck/equation.py). One figure a line.
+use critical::critical::Critical;
+use critical::critical::Criticality;
+use critical::critical::at_critical;
+use critical::sharp::sharp_figure;
 use equation::pressure::pressure_at;
+use equation::pressure::quarter_at;
+use equation::pressure::tau_at;
 use equation::state::State;
 use equation::state::Stated;
 use equation::state::state_at;
 use ideal::ideal::ideal_part;
 use numeric::working::Worked;
+use rows::derivative::Derivative;
+use rows::isotherm::at_temperature;
+use rows::row::non_analytics;
 use saturation::saturation::liquid_density;
 use saturation::saturation::vapour_density;
 use saturation::saturation::vapour_pressure;
@@ -84,6 +93,11 @@ fn saturation_line() {
     saturated(304.12);
     saturated(304.12819999999994);
     saturated(304.1282);
+    saturated(250.29);
+    saturated(267.1);
+    saturated(217.64);
+    saturated(298.53);
+    saturated(271.99);
 }
 
 // Where a pressure is 0, a density is not above 0, or a working fails.
@@ -141,6 +155,39 @@ fn off_the_ideal_line() {
     ideal_gas(0.0 / 0.0);
 }
 
+fn sharp_row(k: Derivative, c: Critical, delta: f64, tau: f64) {
+    let rows = non_analytics();
+    let n = c.near;
+    let g40 = c.first;
+    let g41 = c.second;
+    let g42 = c.third;
+    say(b"rows 40 to 42");
+    tell(sharp_figure(k, rows[0], n, g40, delta, tau));
+    say(b"rows 40 to 42");
+    tell(sharp_figure(k, rows[1], n, g41, delta, tau));
+    say(b"rows 40 to 42");
+    tell(sharp_figure(k, rows[2], n, g42, delta, tau));
+}
+
+// The figures of the non-analytic rows by themselves, which are small in the sums: δφ_δ of each row, δ²φ_δδ, and so on.
+fn sharp(t: f64, rho: f64) {
+    let Worked::Number(tau) = tau_at(t) else {
+        return;
+    };
+    let Worked::Number(quarter) = quarter_at(tau) else {
+        return;
+    };
+    let delta = rho / 467.6;
+    let Criticality::Known(c) = at_critical(at_temperature(tau, quarter), delta) else {
+        return;
+    };
+    sharp_row(Derivative::Delta, c, delta, tau);
+    sharp_row(Derivative::DeltaDelta, c, delta, tau);
+    sharp_row(Derivative::Tau, c, delta, tau);
+    sharp_row(Derivative::TauTau, c, delta, tau);
+    sharp_row(Derivative::DeltaTau, c, delta, tau);
+}
+
 // Vapour, liquid, supercritical, near the critical point, at δ = 1, and at the corners of the ranges.
 fn states() {
     state(216.592, 0.1);
@@ -160,9 +207,16 @@ fn states() {
     state(450.0, 467.6);
     state(523.0, 0.05);
     state(523.0, 1400.0);
+    state(327.6, 596.9);
+    state(321.9, 282.0);
+    state(316.0, 725.1);
+    state(305.5, 668.7);
+    state(304.11, 490.7);
+    state(311.1, 522.1);
 }
 
-// Where a working fails: δ = τ = 1, densities and temperatures that are no state's.
+// δ = τ = 1, where the working fails, and densities and temperatures that are no state's: some are answered all the same,
+// since what is a state is not for the equation to say.
 fn no_states() {
     state(304.1282, 467.6);
     state(300.0, 0.0);
@@ -184,4 +238,8 @@ fn main() {
     off_the_ideal_line();
     states();
     no_states();
+    sharp(290.1, 567.9);
+    sharp(295.4, 588.8);
+    sharp(312.2, 580.6);
+    sharp(290.4, 404.2);
 }

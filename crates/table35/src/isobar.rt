@@ -1,5 +1,6 @@
 // 004's Table 35, its isobars, against the equation (document 01, end of "Readings on each side of a boundary";
-// docs/READING.md, D). Every comparison is made at the printed temperature and the printed density.
+// docs/READING.md, D). Every comparison is made at the printed temperature and pressure, from states worked at the
+// printed density and at one unit of its last digit to each side.
 use equation::pressure::pressure_at;
 use equation::state::State;
 use equation::state::Stated;
@@ -49,23 +50,6 @@ enum Kind {
     MeltingLine,
     CriticalBox,
     Compared,
-}
-
-// A quantity at the printed density, and at one unit of its last digit to each side.
-struct Three {
-    lower: f64,
-    here: f64,
-    upper: f64,
-}
-
-fn least(x: Three) -> f64 {
-    let a = if x.lower < x.upper { x.lower } else { x.upper };
-    if x.here < a { x.here } else { a }
-}
-
-fn most(x: Three) -> f64 {
-    let a = if x.lower < x.upper { x.upper } else { x.lower };
-    if a < x.here { x.here } else { a }
 }
 
 // No number, which no comparison finds right, where the cell is damaged.
@@ -123,30 +107,41 @@ fn density(text: &[u8], line: usize, tally: Tally, rho: Decimal) -> Tally {
     tally.cell(right)
 }
 
-// One unit of the cell's last digit, and what one unit of the density's makes.
-fn quantity(text: &[u8], line: usize, tally: Tally, column: usize, scale: f64, x: Three) -> Tally {
+// How far p lies on the way from `below` to `above`; beyond either, no further than it.
+fn share(p: f64, below: f64, above: f64) -> f64 {
+    let x = (p - below) / (above - below);
+    if x < 0.0 {
+        return 0.0;
+    }
+    if 1.0 < x { 1.0 } else { x }
+}
+
+fn on_the_way(from: f64, to: f64, share: f64) -> f64 {
+    from + (to - from) * share
+}
+
+// Right within one unit of the cell's last digit.
+fn quantity(text: &[u8], line: usize, tally: Tally, column: usize, scale: f64, x: f64) -> Tally {
     let Cell::Readable(d) = printed(text, line, column) else {
         return tally.cell_damaged();
     };
     let one = unit(d, scale);
     let y = value(d, scale);
-    let right = least(x) - one <= y && y <= most(x) + one;
+    let right = x - one <= y && y <= x + one;
     if !right {
-        wrong(text, line, column, x.here / scale);
+        wrong(text, line, column, x / scale);
     }
     tally.cell(right)
 }
 
-fn around(lower: f64, here: f64, upper: f64) -> Three {
-    Three { lower, here, upper }
-}
-
-fn quantities(text: &[u8], line: usize, tally: Tally, a: State, b: State, c: State) -> Tally {
-    let tally = quantity(text, line, tally, U, KILO, around(a.u, b.u, c.u));
-    let tally = quantity(text, line, tally, H, KILO, around(a.h, b.h, c.h));
-    let tally = quantity(text, line, tally, CV, KILO, around(a.cv, b.cv, c.cv));
-    let tally = quantity(text, line, tally, CP, KILO, around(a.cp, b.cp, c.cp));
-    quantity(text, line, tally, W, 1.0, around(a.w, b.w, c.w))
+// The quantities at the printed pressure, on the straight line between two states.
+fn quantities(text: &[u8], line: usize, tally: Tally, a: State, b: State) -> Tally {
+    let x = share(number(text, line, P, MEGA), a.p, b.p);
+    let tally = quantity(text, line, tally, U, KILO, on_the_way(a.u, b.u, x));
+    let tally = quantity(text, line, tally, H, KILO, on_the_way(a.h, b.h, x));
+    let tally = quantity(text, line, tally, CV, KILO, on_the_way(a.cv, b.cv, x));
+    let tally = quantity(text, line, tally, CP, KILO, on_the_way(a.cp, b.cp, x));
+    quantity(text, line, tally, W, 1.0, on_the_way(a.w, b.w, x))
 }
 
 // A working that fails has no number, and is told as a wrong density.
@@ -155,6 +150,7 @@ fn not_worked(text: &[u8], line: usize, tally: Tally) -> Tally {
     tally.cell(false)
 }
 
+// The states at the printed density and one unit to each side. The printed pressure lies between two of them.
 fn states(text: &[u8], line: usize, tally: Tally, rho: Decimal) -> Tally {
     let t = number(text, line, T, 1.0);
     let Stated::Known(a) = state_at(t, value(lower(rho), 1.0)) else {
@@ -166,7 +162,10 @@ fn states(text: &[u8], line: usize, tally: Tally, rho: Decimal) -> Tally {
     let Stated::Known(c) = state_at(t, value(upper(rho), 1.0)) else {
         return not_worked(text, line, tally);
     };
-    quantities(text, line, tally, a, b, c)
+    if number(text, line, P, MEGA) < b.p {
+        return quantities(text, line, tally, a, b);
+    }
+    quantities(text, line, tally, b, c)
 }
 
 // h − u = p/ρ within the printed digits: a unit of h, one of u, and p/ρ² times one of ρ.

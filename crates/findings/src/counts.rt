@@ -35,8 +35,12 @@ pub fn tell_isobars(tally: Tally) {
 
 pub fn tell_saturations(tally: Tally) {
     count(b"saturation", tally.rows, b" rows");
-    count(b"saturation", tally.in_range, b" up to 303 K");
-    count(b"saturation", tally.cells, b" cells compared");
+    count(b"saturation", tally.compared, b" compared");
+    count(
+        b"saturation",
+        tally.cells,
+        b" comparisons, the critical density's with both equations",
+    );
     count(
         b"saturation",
         tally.damaged,

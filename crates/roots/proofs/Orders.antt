@@ -8,7 +8,7 @@ use mathlib.Core.Bool.{Bool, true, false, not, _&&_, _||_, cond, true≢false, B
 use lib.IntN.{ℤ}
 use lib.Dec.{T, leb, ltb, eqb, eqb→eq, ltb→lt, lt→ltb}
 use lib.Pow.{pow-pos, pow-mono}
-use borrow.Author.Tests.{lt-leb, ne-eqb, ltb-true, ltb-false}
+use borrow.Author.Tests.{lt-leb, le-ltb, ne-eqb, ltb-true, ltb-false}
 use lib.Ieee.{Float, nan, inf, fin, Format, binary64, prec, emax, low, up, down, size, odd, units, round, ofFields, ofBits, ofInt, mul, le, lt}
 use lib.Ieee.Fits.{and-l, round-is, down-pos}
 use lib.Ieee.Exact.{HasValue, odd-sign}
@@ -230,6 +230,18 @@ not-lt-cross (fin false m e) nan p q h = absurd q
 not-lt-cross (fin false m e) (inf s) p q h = absurd q
 not-lt-cross (fin false m e) (fin true n d) p q h = absurd q
 not-lt-cross (fin false m e) (fin false n d) p q h = ltb-false _ _ h
+
+-- what is at most t is not above it
+pub le-not-lt : (x t : Float) → T (nonneg t) → le x t ≡ true → lt t x ≡ false
+unfolding le lt
+le-not-lt x nan p h = absurd p
+le-not-lt x (inf s) p h = absurd p
+le-not-lt x (fin true n d) p h = absurd p
+le-not-lt nan (fin false n d) p h = refl
+le-not-lt (inf true) (fin false n d) p h = refl
+le-not-lt (inf false) (fin false n d) p h = sym h
+le-not-lt (fin true m e) (fin false n d) p h = refl
+le-not-lt (fin false m e) (fin false n d) p h = le-ltb _ _ (lt-or-eq (m * up e * down d) (n * up d * down e) (rw h tt))
 
 -- what is below x is below all that x is not above
 pub never-falls : (t x y : Float) → T (nonneg t) → Ordered x y → lt t x ≡ true → lt t y ≡ false → ⊥

@@ -125,11 +125,11 @@ module _ (k : ℕ) (t : Float) (one : 1 ≤ k) (few : k ≤ 51) (p : T (nonneg t
       go true e = record { number = power (ofBits binary64 top) k; worked = works k top few (omega arith); bounded = bounded-at k top few (omega arith); stands = e }
       go false e = absurd (rises k t p b top h (omega arith) a (record { number = power (ofBits binary64 top) k; worked = works k top few (omega arith); bounded = bounded-at k top few (omega arith); stands = e }))
 
-  -- the place where the power passes t, however it was come by
-  pub crossing-is : (r : ℕ) → r + 1 ≤ top → NotAbove (powerAt k) t r → Above (powerAt k) t (r + 1) → rootBits k t ≡ At r
-  crossing-is r h a b =
+  -- the two neighbours between which the power passes t, however they were come by
+  pub crossing-is : (r s : ℕ) → s ≡ r + 1 → s ≤ top → NotAbove (powerAt k) t r → Above (powerAt k) t s → rootBits k t ≡ At r
+  crossing-is r s e h a b =
       root-bits-is k t
-      ∙ unique-crossing (powerAt k) t 0 top r (rises k t p) (λ c l u. worthy (power (ofBits binary64 c) k) (works k c few u) (bounded-at k c few u)) (omega arith) (first-not-above k t one p) (last-above (r + 1) h b) (omega arith) h a b
+      ∙ unique-crossing (powerAt k) t 0 top r (rises k t p) (λ c l u. worthy (power (ofBits binary64 c) k) (works k c few u) (bounded-at k c few u)) (omega arith) (first-not-above k t one p) (last-above s h b) (omega arith) (omega arith) a (rw e at b)
 
   pub no-crossing : NotAbove (powerAt k) t top → rootBits k t ≡ Nowhere
   no-crossing b = root-bits-is k t ∙ nowhere-back (powerAt k) t 0 top (second-not-above (worthy (whole 0) (at-0 k one) zero-finite) b)

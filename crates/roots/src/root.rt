@@ -130,6 +130,59 @@ fn crossing(t: f64, k: usize, guess: u64) -> Crossing
     }
 }
 
+// Whole powers of a float and its two neighbours.
+struct Three {
+    below: f64,
+    here: f64,
+    above: f64,
+}
+
+// The k-th whole powers of x, y and z side by side in one loop: a processor works them in the time of one.
+fn three_powers(x: f64, y: f64, z: f64, k: usize) -> Three
+    requires { ⌜ 1 ≤ k ⌝ }
+    ensures { λ r. ⌜ (r .below ≡ power x k) × (r .here ≡ power y k) × (r .above ≡ power z k) ⌝ }
+{
+    let mut below = x;
+    let mut here = y;
+    let mut above = z;
+    let mut i = 1;
+    while i < k {
+        below = below * x;
+        here = here * y;
+        above = above * z;
+        i += 1;
+    }
+    Three { below, here, above }
+}
+
+// The same place as `crossing`: as a rule the guess or the bits below it, and looked for only where it is neither.
+fn near_crossing(t: f64, k: usize, guess: u64) -> Crossing
+    requires { ⌜ T (nonneg t) ⌝ }
+    requires { ⌜ (1 ≤ k) × (k ≤ 51) ⌝ }
+    ensures { λ r. ⌜ r ≡ rootBits k t ⌝ }
+{
+    if 0 < guess {
+        if guess < 0x4130_0000_0000_0000 {
+            let p = three_powers(
+                f64::from_bits(guess - 1),
+                f64::from_bits(guess),
+                f64::from_bits(guess + 1),
+                k,
+            );
+            if t < p.here {
+                if p.below <= t {
+                    return Crossing::At(guess - 1);
+                }
+            } else {
+                if t < p.above {
+                    return Crossing::At(guess);
+                }
+            }
+        }
+    }
+    crossing(t, k, guess)
+}
+
 // For x above 0, and a k for which the ends of the search have a k-th whole power.
 fn searched(x: f64, m: usize, k: usize) -> Worked
     requires { ⌜ T (nonneg x) ⌝ }
@@ -139,7 +192,7 @@ fn searched(x: f64, m: usize, k: usize) -> Worked
     let Worked::Number(t) = checked(whole_power(x, m)) else {
         return Worked::Failed;
     };
-    match crossing(t, k, guess(x, m as u32, k as u32, t)) {
+    match near_crossing(t, k, guess(x, m as u32, k as u32, t)) {
         Crossing::At(b) => Worked::Number(f64::from_bits(b)),
         Crossing::Nowhere => Worked::Failed,
         Crossing::Broke => Worked::Failed,

@@ -79,8 +79,7 @@ returns : tie.Need-returns Inv-loop μ-loop
 returns c =
     let l = c .before .before .loop in
     let a = c .before .before .before in
-    let e : l .hi ≡ l .lo + 1 = omega arith in
-    sym (crossing-is (a .args .k) (a .args .t) (omega arith) (omega arith) (a .pre .0) (l .lo) (omega arith) (l .inv .here) (rw e at (l .inv .next (omega arith))))
+    sym (crossing-is (a .args .k) (a .args .t) (omega arith) (omega arith) (a .pre .0) (l .lo) (l .hi) (omega arith) (omega arith) (l .inv .here) (l .inv .next (omega arith)))
 
 power-at-requires-2 : tie.Need-power-at-requires-2 Inv-loop μ-loop
 power-at-requires-2 c κs = omega arith
@@ -89,9 +88,8 @@ returns-2 : tie.Need-returns-2 Inv-loop μ-loop
 returns-2 c =
     let l = c .before .before .before .before .loop in
     let a = c .before .before .before .before .before in
-    let e : l .hi ≡ l .lo + 1 = omega arith in
     let b = above-at _ _ _ _ (omega arith) (omega arith) (c .before .power-at2 .ensures) (c .if3 .taken) in
-    sym (crossing-is (a .args .k) (a .args .t) (omega arith) (omega arith) (a .pre .0) (l .lo) (omega arith) (l .inv .here) (rw e at b))
+    sym (crossing-is (a .args .k) (a .args .t) (omega arith) (omega arith) (a .pre .0) (l .lo) (l .hi) (omega arith) (omega arith) (l .inv .here) b)
 
 returns-3 : tie.Need-returns-3 Inv-loop μ-loop
 returns-3 c =

@@ -31,10 +31,10 @@ raised c =
     ap (lookedFor (a .k)) (sym (checked-power (a .x) (a .m)) ∙ sym (ap checked (c .before .whole-power .ensures)) ∙ sym (c .checked .ensures))
 
 -- and the crossing, as it was found
-told : (c : tie.After-crossing) → rootOf (c .crossing .result) ≡ searched (c .before .before .before .before .before .before .before .args .m) (c .before .before .before .before .before .before .before .args .k) (c .before .before .before .before .before .before .before .args .x)
+told : (c : tie.After-near-crossing) → rootOf (c .near-crossing .result) ≡ searched (c .before .before .before .before .before .before .before .args .m) (c .before .before .before .before .before .before .before .args .k) (c .before .before .before .before .before .before .before .args .x)
 told c =
     let t = c .before .before .before in
-    ap rootOf (c .crossing .ensures) ∙ sym (raised (t .before .before) ∙ ap (lookedFor _) (t .t .given .1))
+    ap rootOf (c .near-crossing .ensures) ∙ sym (raised (t .before .before) ∙ ap (lookedFor _) (t .t .given .1))
 
 whole-power-requires : tie.Need-whole-power-requires
 whole-power-requires c κs = search needs
@@ -60,8 +60,8 @@ cast-guess-2 c = search needs
 guess-requires : tie.Need-guess-requires
 guess-requires c κs = search needs
 
-crossing-requires : tie.Need-crossing-requires
-crossing-requires c κs =
+near-crossing-requires : tie.Need-near-crossing-requires
+near-crossing-requires c κs =
     let t = c .before .before in
     let w = t .before .before .before in
     let a = w .before in
@@ -76,7 +76,7 @@ enum-known-b c = search needs
 float-from-bits-t13 : tie.Need-float-from-bits-t13
 float-from-bits-t13 c =
     let b = c .before in
-    no-nan _ (crossing-below _ _ _ (sym (b .before .before .crossing .ensures) ∙ b .b .given .1))
+    no-nan _ (crossing-below _ _ _ (sym (b .before .before .near-crossing .ensures) ∙ b .b .given .1))
 
 enum-told-2 : tie.Need-enum-told-2
 enum-told-2 c = search needs
@@ -105,7 +105,7 @@ searched-spec =
     cast-guess
     cast-guess-2
     guess-requires
-    crossing-requires
+    near-crossing-requires
     enum-known-b
     float-from-bits-t13
     enum-told-2

@@ -1,12 +1,13 @@
-// Rows 40 to 42, the non-analytic ones, which see the neighbourhood of the critical point. A step of the definition
-// (specs/Critical.antt) and a function of the same shape.
+// Rows 40 to 42, the non-analytic ones, which see the neighbourhood of the critical point: what their terms and brackets
+// are made of, in plain f64. A number here that is not finite fails whatever is worked from it.
 ghost use mathlib.Core.Path.{_≡_};
-ghost use Rattle.roots.specs.Formula.{absolute};
-ghost use Rattle.critical.specs.Critical.{nearX, near, raised, lowered, edgePsi, edgePower, edge, edges, critical};
+ghost use Rattle.numeric.specs.Working.{plain};
+ghost use Rattle.roots.specs.Root.{root};
+ghost use Rattle.roots.specs.Formula.{absolute, value};
+ghost use Rattle.critical.specs.Critical.{around, near, raised, lowered, heldNear, heldEdge, parts, based, edge, critical};
 use numeric::exponential::exponential;
-use numeric::working::Worked;
-use numeric::working::checked;
 use numeric::working::over;
+use numeric::working::plain;
 use roots::exponent::Exponent;
 use roots::exponent::Printed;
 use roots::exponent::worked_as;
@@ -23,11 +24,6 @@ pub struct Near {
     pub v: f64,
 }
 
-pub enum Nearing {
-    Close(Near),
-    Lost,
-}
-
 // θ, Δ, P₀ = Δᵇ, P₁ = P₀/Δ, Ψ and Xᵃ⁻¹ of a row.
 pub struct Edge {
     pub theta: f64,
@@ -38,11 +34,6 @@ pub struct Edge {
     pub low: f64,
 }
 
-pub enum Edging {
-    Sharp(Edge),
-    Blunt,
-}
-
 // All of it.
 pub struct Critical {
     pub near: Near,
@@ -51,33 +42,14 @@ pub struct Critical {
     pub third: Edge,
 }
 
-pub enum Criticality {
-    Known(Critical),
-    Unknown,
-}
-
-fn near_x(e: f64, x: f64) -> Nearing
-    ensures { λ r. ⌜ r ≡ nearX e x ⌝ }
+fn near_critical(delta: f64) -> Near
+    ensures { λ r. ⌜ r ≡ near (around delta) ⌝ }
 {
-    let Worked::Number(r) = root(x, worked_as(Printed::Of10_6)) else {
-        return Nearing::Lost;
-    };
-    let Worked::Number(v) = root(x, Exponent { m: 2, k: 3 }) else {
-        return Nearing::Lost;
-    };
-    Nearing::Close(Near { e, x, r, v })
-}
-
-fn near_critical(delta: f64) -> Nearing
-    ensures { λ r. ⌜ r ≡ near delta ⌝ }
-{
-    let Worked::Number(e) = checked(delta - 1.0) else {
-        return Nearing::Lost;
-    };
-    let Worked::Number(x) = checked(e * e) else {
-        return Nearing::Lost;
-    };
-    near_x(e, x)
+    let e = delta - 1.0;
+    let x = e * e;
+    let r = rooted(x, worked_as(Printed::Of10_6));
+    let v = rooted(x, Exponent { m: 2, k: 3 });
+    Near { e, x, r, v }
 }
 
 fn size_of(x: f64) -> f64
@@ -87,103 +59,83 @@ fn size_of(x: f64) -> f64
 }
 
 // Xᵃ
-fn raise(half: bool, n: Near) -> Worked
-    ensures { λ r. ⌜ r ≡ raised half n ⌝ }
+fn raise(half: bool, n: Near) -> f64
+    ensures { λ r. ⌜ r ≡ value (raised half (heldNear n)) ⌝ }
 {
     let x = n.x;
     if half {
-        checked(x * x * x * size_of(n.e))
+        x * x * x * size_of(n.e)
     } else {
-        checked(x * x * x)
+        x * x * x
     }
 }
 
 // Xᵃ⁻¹
-fn lower(half: bool, n: Near) -> Worked
-    ensures { λ r. ⌜ r ≡ lowered half n ⌝ }
+fn lower(half: bool, n: Near) -> f64
+    ensures { λ r. ⌜ r ≡ value (lowered half (heldNear n)) ⌝ }
 {
     let x = n.x;
-    if half {
-        checked(x * x * size_of(n.e))
-    } else {
-        checked(x * x)
-    }
+    if half { x * x * size_of(n.e) } else { x * x }
 }
 
-fn edge_psi(row: NonAnalytic, n: Near, z: f64, theta: f64, delta: f64, p0: f64, p1: f64) -> Edging
-    ensures { λ r. ⌜ r ≡ edgePsi row n z theta delta p0 p1 ⌝ }
+// A root, for a formula that goes on in plain f64.
+fn rooted(x: f64, e: Exponent) -> f64
+    ensures { λ r. ⌜ r ≡ plain (root e x) ⌝ }
 {
-    let Worked::Number(low) = lower(row.half, n) else {
-        return Edging::Blunt;
-    };
-    let Worked::Number(psi) = exponential(-(row.kc * n.x + z)) else {
-        return Edging::Blunt;
-    };
-    Edging::Sharp(Edge {
+    plain(root(x, e))
+}
+
+fn edge_of(row: NonAnalytic, n: Near, tau: f64, z: f64) -> Edge
+    ensures { λ r. ⌜ r ≡ edge (parts row (heldNear n) tau z) ⌝ }
+{
+    let theta = (1.0 - tau) + row.ka * n.r;
+    let delta = theta * theta + row.kb * raise(row.half, n);
+    let psi = plain(exponential(-(row.kc * n.x + z)));
+    let low = lower(row.half, n);
+    let b = row.root;
+    let p0 = rooted(delta, worked_as(b));
+    let p1 = over(p0, delta);
+    Edge {
         theta,
         delta,
         p0,
         p1,
         psi,
         low,
-    })
+    }
 }
 
-fn edge_power(row: NonAnalytic, n: Near, z: f64, theta: f64, delta: f64) -> Edging
-    ensures { λ r. ⌜ r ≡ edgePower row n z theta delta ⌝ }
+// A row that differs from another in b alone.
+fn edge_with(g: Edge, b: Printed) -> Edge
+    ensures { λ r. ⌜ r ≡ edge (based b (heldEdge g)) ⌝ }
 {
-    let b = row.root;
-    let Worked::Number(p0) = root(delta, worked_as(b)) else {
-        return Edging::Blunt;
-    };
-    let Worked::Number(p1) = checked(over(p0, delta)) else {
-        return Edging::Blunt;
-    };
-    edge_psi(row, n, z, theta, delta, p0, p1)
+    let p0 = rooted(g.delta, worked_as(b));
+    let p1 = over(p0, g.delta);
+    Edge {
+        theta: g.theta,
+        delta: g.delta,
+        p0,
+        p1,
+        psi: g.psi,
+        low: g.low,
+    }
 }
 
-fn edge_of(row: NonAnalytic, n: Near, tau: f64, z: f64) -> Edging
-    ensures { λ r. ⌜ r ≡ edge row n tau z ⌝ }
-{
-    let Worked::Number(theta) = checked((1.0 - tau) + row.ka * n.r) else {
-        return Edging::Blunt;
-    };
-    let Worked::Number(up) = raise(row.half, n) else {
-        return Edging::Blunt;
-    };
-    let Worked::Number(delta) = checked(theta * theta + row.kb * up) else {
-        return Edging::Blunt;
-    };
-    edge_power(row, n, z, theta, delta)
-}
-
-fn edges_of(n: Near, tau: f64, cold: [f64; 3]) -> Criticality
-    ensures { λ r. ⌜ r ≡ edges n tau cold ⌝ }
+pub fn at_critical(iso: Isotherm, delta: f64) -> Critical
+    ensures { λ r. ⌜ r ≡ critical iso delta ⌝ }
 {
     let rows = non_analytics();
-    let Edging::Sharp(first) = edge_of(rows[0], n, tau, cold[0]) else {
-        return Criticality::Unknown;
-    };
-    let Edging::Sharp(second) = edge_of(rows[1], n, tau, cold[1]) else {
-        return Criticality::Unknown;
-    };
-    let Edging::Sharp(third) = edge_of(rows[2], n, tau, cold[2]) else {
-        return Criticality::Unknown;
-    };
-    Criticality::Known(Critical {
-        near: n,
+    let near = near_critical(delta);
+    let first = edge_of(rows[0], near, iso.tau, iso.cold);
+    // Row 41 differs from row 40 in n and b alone.
+    let row = rows[1];
+    let b = row.root;
+    let second = edge_with(first, b);
+    let third = edge_of(rows[2], near, iso.tau, iso.cold);
+    Critical {
+        near,
         first,
         second,
         third,
-    })
-}
-
-pub fn at_critical(iso: Isotherm, delta: f64) -> Criticality
-    ensures { λ r. ⌜ r ≡ critical iso delta ⌝ }
-{
-    let Nearing::Close(n) = near_critical(delta) else {
-        return Criticality::Unknown;
-    };
-    let cold = iso.cold;
-    edges_of(n, iso.tau, cold)
+    }
 }

@@ -1,3 +1,2 @@
 // The non-analytic rows of the residual part, 40 to 42 (004, section 6.2).
 pub mod critical;
-pub mod sharp;

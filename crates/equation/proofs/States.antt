@@ -8,12 +8,12 @@ use Rattle.numeric.specs.declared.working.Worked.{Worked}
 use Rattle.numeric.specs.declared.working.Worked.the-variants.{Number, Failed}
 use Rattle.roots.specs.Formula.{work}
 use Rattle.rows.specs.declared.isotherm.Isotherm.{Isotherm}
-use Rattle.rows.specs.declared.derivative.Derivative.the-variants.{Delta, DeltaDelta, Tau, TauTau, DeltaTau}
+use Rattle.rows.specs.Derivative.{Delta, DeltaDelta, Tau, TauTau, DeltaTau}
 use Rattle.rows.specs.Isotherm.{isotherm}
-use Rattle.residual.specs.Sum.{residual, fiveSums, thenFive}
+use Rattle.residual.specs.Sum.{residual, together, fiveSums, thenSum}
+use Rattle.rows.specs.declared.derivative.Five.{Five}
 use Rattle.residual.specs.declared.sum.Sums.{Sums}
-use Rattle.residual.specs.declared.sum.Five.{Five}
-use Rattle.residual.specs.declared.sum.Five.the-variants.{Summed, Broken}
+use Rattle.residual.specs.declared.sum.Sums.the-variants.{Summed, Broken}
 use Rattle.ideal.specs.Ideal.{idealPart}
 use Rattle.equation.specs.Pressure.{deltaOf, tauOf, quarterOf, pressureFormula, pressureOn, pressure}
 use Rattle.equation.specs.State.{heatV, heatP, sound, energy, enthalpy, thenState, thenSums, stateWith, stateOf, stateIdeal, stateOn, state}
@@ -30,7 +30,7 @@ step Failed f x e = let z : _≡_ {A = ℕ} 0 1 = cc in absurd (omega arith)
 step (Number n) f x e = took n refl e
 
 -- what the last two steps leave as it was
-module _ (t : Float) (s : Sums) (i1 i2 : Float) where
+module _ (t : Float) (s : Five) (i1 i2 : Float) where
   kept : (rho p u h : Float) (x : State) → stateWith t s i1 i2 rho p u h ≡ Known x → (x .p ≡ p) × (x .t ≡ t) × (x .rho ≡ rho)
   unfolding stateWith
   kept rho p u h x e = elim (step (work (heatV t s i1 i2)) _ x e) [
@@ -42,15 +42,15 @@ module _ (t : Float) (s : Sums) (i1 i2 : Float) where
   ]
 
 -- the first of the five sums is the one that a pressure needs
-data TookFive (w : Worked) (f : Float → Five) (s : Sums) : Type 0 where
+data TookFive (w : Worked) (f : Float → Sums) (s : Five) : Type 0 where
   took-five : (n : Float) → w ≡ Number n → f n ≡ Summed s → TookFive w f s
 
-step-five : (w : Worked) (f : Float → Five) (s : Sums) → thenFive w f ≡ Summed s → TookFive w f s
+step-five : (w : Worked) (f : Float → Sums) (s : Five) → thenSum w f ≡ Summed s → TookFive w f s
 step-five Failed f s e = let z : _≡_ {A = ℕ} 0 1 = cc in absurd (omega arith)
 step-five (Number n) f s e = took-five n refl e
 
-first-sum : (iso : Isotherm) (delta : Float) (s : Sums) → fiveSums iso delta ≡ Summed s → residual iso delta Delta ≡ Number (s .d)
-unfolding fiveSums
+first-sum : (iso : Isotherm) (delta : Float) (s : Five) → fiveSums iso delta ≡ Summed s → residual iso delta Delta ≡ Number (s .d)
+unfolding fiveSums together
 first-sum iso delta s e = elim (step-five (residual iso delta Delta) _ s e) [
   | took-five d a f ↦ elim (step-five (residual iso delta DeltaDelta) _ s f) [
     | took-five dd b g ↦ elim (step-five (residual iso delta Tau) _ s g) [
@@ -64,7 +64,7 @@ first-sum iso delta s e = elim (step-five (residual iso delta Delta) _ s e) [
 ]
 
 -- from the sums on
-from-sums : (t tau rho : Float) (s : Sums) (x : State) → stateIdeal t tau rho s ≡ Known x → (work (pressureFormula t rho (s .d)) ≡ Number (x .p)) × (x .t ≡ t) × (x .rho ≡ rho)
+from-sums : (t tau rho : Float) (s : Five) (x : State) → stateIdeal t tau rho s ≡ Known x → (work (pressureFormula t rho (s .d)) ≡ Number (x .p)) × (x .t ≡ t) × (x .rho ≡ rho)
 unfolding stateIdeal stateOf
 from-sums t tau rho s x e = elim (step (idealPart tau .first) _ x e) [
   | took i1 a f ↦ elim (step (idealPart tau .second) _ x f) [
@@ -85,7 +85,7 @@ pressure-of-state-on t iso rho x e = elim (step (deltaOf rho) _ x e) [
   | took delta a f ↦ go delta a (fiveSums iso delta) refl f
 ]
   where
-    go : (delta : Float) → deltaOf rho ≡ Number delta → (v : Five) → fiveSums iso delta ≡ v → thenSums v (stateIdeal t (iso .tau) rho) ≡ Known x
+    go : (delta : Float) → deltaOf rho ≡ Number delta → (v : Sums) → fiveSums iso delta ≡ v → thenSums v (stateIdeal t (iso .tau) rho) ≡ Known x
         → (then (deltaOf rho) (λ d. then (residual iso d Delta) (λ a. work (pressureFormula t rho a))) ≡ Number (x .p)) × (x .t ≡ t) × (x .rho ≡ rho)
     go delta a Broken q f = let z : _≡_ {A = ℕ} 0 1 = cc in absurd (omega arith)
     go delta a (Summed s) q f = let y = from-sums t (iso .tau) rho s x f in (rw (a, first-sum iso delta s q) (y .0), y .1, y .2)

@@ -8,7 +8,7 @@ use Rattle.roots.specs.Root.{root}
 use Rattle.roots.specs.Formula.{Formula, num, one, _⊕_, _⊗_, _⊘_, work}
 use Rattle.rows.specs.Isotherm.{isotherm}
 use Rattle.rows.specs.declared.isotherm.Isotherm.{Isotherm}
-use Rattle.rows.specs.declared.derivative.Derivative.the-variants.{Delta}
+use Rattle.rows.specs.Derivative.{Delta}
 use Rattle.residual.specs.Sum.{residual}
 
 -- "δ = ρ/467.6, τ = 304.1282/T"

@@ -8,9 +8,9 @@ use Rattle.roots.specs.Formula.{Formula, num, one, two, _⊕_, _⊖_, _⊗_, _�
 use Rattle.rows.specs.Isotherm.{isotherm}
 use Rattle.rows.specs.declared.isotherm.Isotherm.{Isotherm}
 use Rattle.residual.specs.Sum.{fiveSums}
+use Rattle.rows.specs.declared.derivative.Five.{Five}
 use Rattle.residual.specs.declared.sum.Sums.{Sums}
-use Rattle.residual.specs.declared.sum.Five.{Five}
-use Rattle.residual.specs.declared.sum.Five.the-variants.{Summed, Broken}
+use Rattle.residual.specs.declared.sum.Sums.the-variants.{Summed, Broken}
 use Rattle.ideal.specs.Ideal.{idealPart}
 use Rattle.equation.specs.Pressure.{half, deltaOf, tauOf, quarterOf, pressureFormula}
 use Rattle.equation.specs.declared.state.State.{State}
@@ -21,12 +21,12 @@ abbrev pub thenState : Worked → (Float → Stated) → Stated
 thenState Failed f = Unknown
 thenState (Number x) f = f x
 
-abbrev pub thenSums : Five → (Sums → Stated) → Stated
+abbrev pub thenSums : Sums → (Five → Stated) → Stated
 thenSums Broken f = Unknown
 thenSums (Summed s) f = f s
 
 -- ---- Table 3, with S₁ to S₅ the sums, i1 = τφ°_τ and i2 = τ²φ°_ττ
-module _ (t : Float) (s : Sums) (i1 i2 : Float) where
+module _ (t : Float) (s : Five) (i1 i2 : Float) where
   -- R·T
   abbrev pub thermal : Formula
   thermal = num (spanWagner .gas) ⊗ num t
@@ -75,7 +75,7 @@ module _ (t : Float) (s : Sums) (i1 i2 : Float) where
       thenState (work enthalpy) (stateWith rho p u)))
 
 -- with the ideal part at the isotherm's τ
-unfoldable pub stateIdeal : Float → Float → Float → Sums → Stated
+unfoldable pub stateIdeal : Float → Float → Float → Five → Stated
 stateIdeal t tau rho s = thenState (idealPart tau .first) (λ i1. thenState (idealPart tau .second) (λ i2. stateOf t s i1 i2 rho))
 
 -- on an isotherm, at a density

@@ -9,11 +9,11 @@ use numeric::constant::span_wagner;
 use numeric::working::Worked;
 use numeric::working::checked;
 use numeric::working::over;
-use residual::sum::Five;
 use residual::sum::Sums;
 use residual::sum::five_sums;
 use roots::exponent::Exponent;
 use roots::root::root;
+use rows::derivative::Five;
 use rows::isotherm::Isotherm;
 use rows::isotherm::at_temperature;
 
@@ -34,7 +34,7 @@ pub enum Stated {
     Unknown,
 }
 
-fn state_with(t: f64, s: Sums, i1: f64, i2: f64, rho: f64, p: f64, u: f64, h: f64) -> Stated
+fn state_with(t: f64, s: Five, i1: f64, i2: f64, rho: f64, p: f64, u: f64, h: f64) -> Stated
     ensures { λ r. ⌜ r ≡ stateWith t s i1 i2 rho p u h ⌝ }
 {
     let gas = span_wagner().gas;
@@ -65,7 +65,7 @@ fn state_with(t: f64, s: Sums, i1: f64, i2: f64, rho: f64, p: f64, u: f64, h: f6
     })
 }
 
-fn state_of(t: f64, s: Sums, i1: f64, i2: f64, rho: f64) -> Stated
+fn state_of(t: f64, s: Five, i1: f64, i2: f64, rho: f64) -> Stated
     ensures { λ r. ⌜ r ≡ stateOf t s i1 i2 rho ⌝ }
 {
     let gas = span_wagner().gas;
@@ -82,7 +82,7 @@ fn state_of(t: f64, s: Sums, i1: f64, i2: f64, rho: f64) -> Stated
     state_with(t, s, i1, i2, rho, p, u, h)
 }
 
-fn state_ideal(t: f64, tau: f64, rho: f64, s: Sums) -> Stated
+fn state_ideal(t: f64, tau: f64, rho: f64, s: Five) -> Stated
     ensures { λ r. ⌜ r ≡ stateIdeal t tau rho s ⌝ }
 {
     let i = ideal_part(tau);
@@ -103,7 +103,7 @@ pub fn state_on(t: f64, iso: Isotherm, rho: f64) -> Stated
     let Worked::Number(delta) = delta_at(rho) else {
         return Stated::Unknown;
     };
-    let Five::Summed(s) = five_sums(iso, delta) else {
+    let Sums::Summed(s) = five_sums(iso, delta) else {
         return Stated::Unknown;
     };
     state_ideal(t, iso.tau, rho, s)

@@ -20,8 +20,7 @@ use Rattle.rows.specs.declared.row.Polynomial.{Polynomial}
 use Rattle.rows.specs.declared.row.Exponential.{Exponential}
 use Rattle.rows.specs.declared.row.Gaussian.{Gaussian}
 use Rattle.rows.specs.declared.isotherm.Isotherm.{Isotherm}
-use Rattle.rows.specs.declared.derivative.Derivative.{Derivative}
-use Rattle.rows.specs.declared.derivative.Derivative.the-variants.{Delta, DeltaDelta, Tau, TauTau, DeltaTau}
+use Rattle.rows.specs.Derivative.{Derivative, Delta, DeltaDelta, Tau, TauTau, DeltaTau}
 use Rattle.rows.specs.Row.{polynomials, exponentials, gaussians}
 use Rattle.residual.specs.Term.{polynomialTerm, polynomialBracket, exponentialTerm, exponentialBracket, decay, decays, gaussianTerm, gaussianBracket, bell, bells}
 use Rattle.residual.specs.Sum.{polynomialFigure, polynomialFigures, exponentialFigure, exponentialFigures, gaussianFigure, gaussianFigures}

@@ -1,5 +1,6 @@
--- Sums row by row: what a loop's turn adds, in plain f64 that is tested at the end, and how the four kinds of rows follow one another. Assumes nothing.
+-- Sums row by row: what a loop's turn adds, in plain f64 that is tested at the end, and how kinds of rows follow one another. Assumes nothing.
 use mathlib.Core.Path.{_≡_, refl, sym, ap, _∙_}
+use mathlib.Core.Bool.{Bool}
 use mathlib.Core.List.{List, [], _∷_, _++_}
 use Prim.Native.Nat.{ℕ, zero, suc, _+_, _<_, _≤_}
 use native.Mathlib.Nat.{not-suc-le-zero, le-of-suc-le-suc}
@@ -8,14 +9,16 @@ use native.Mathlib.Omega.{arith}
 use lib.Dec.{T}
 use lib.ListN.{length, getD, drop, drop-of-length-le}
 use lib.Seq.{drop-cons}
-use lib.Ieee.{Float, binary64, add}
-use Rattle.numeric.specs.Working.{checked, plain, _+ᵂ_}
+use lib.Ieee.{Float, binary64, add, mul}
+use Rattle.numeric.specs.Working.{checked, _+ᵂ_}
 use Rattle.numeric.specs.declared.working.Worked.{Worked}
-use Rattle.numeric.specs.declared.working.Worked.the-variants.{Number, Failed}
+use Rattle.numeric.specs.declared.working.Worked.the-variants.{Failed}
 use Rattle.numeric.proofs.Workings.{checked-add}
-use Rattle.roots.proofs.Formulas.{sound, both-sound, checked-plain}
 use Rattle.residual.specs.Term.{numbered}
-use Rattle.residual.specs.Sum.{onto, total}
+use Rattle.rows.specs.Derivative.{Derivative, of, times, grown, asked}
+use Rattle.rows.specs.declared.derivative.Five.{Five}
+use Rattle.rows.proofs.Derivatives.{of-five, of-grown}
+use Rattle.residual.specs.Sum.{onto, total, Meet}
 
 -- ---- one kind of rows after another
 pub onto-append : (w : Worked) (us vs : List Worked) → onto w (us ++ vs) ≡ onto (onto w us) vs
@@ -23,19 +26,10 @@ unfolding onto
 onto-append w [] vs = refl
 onto-append w (u ∷ us) vs = onto-append (w +ᵂ u) us vs
 
-pub onto-failed : (us : List Worked) → onto Failed us ≡ Failed
-unfolding onto _+ᵂ_
-onto-failed [] = refl
-onto-failed (u ∷ us) = onto-failed us
-
 pub total-append : (us vs : List Worked) → 0 < length us → total (us ++ vs) ≡ onto (total us) vs
 unfolding total
 total-append [] vs h = absurd (not-suc-le-zero h)
 total-append (u ∷ us) vs h = onto-append u us vs
-
--- ---- a figure that may have failed, added in plain f64
-pub add-figure : (s : Float) (w : Worked) → T (sound w) → checked (add binary64 s (plain w)) ≡ checked s +ᵂ w
-add-figure s w h = checked-add s (plain w) ∙ ap (λ (v : Worked). checked s +ᵂ v) (checked-plain w h)
 
 -- ---- a loop: what is left to add from place i on, onto the sum so far, gives the goal
 module _ (fs : List Worked) (goal : Worked) where
@@ -67,17 +61,22 @@ getD-numbered f j [] i d e h = absurd (not-suc-le-zero h)
 getD-numbered f j (r ∷ rs) zero d e h = let p : j ≡ j + 0 = omega arith in ap (λ (n : ℕ). f n r) p
 getD-numbered f j (r ∷ rs) (suc i) d e h = let p : suc j + i ≡ j + suc i = omega arith in getD-numbered f (suc j) rs i d e (le-of-suc-le-suc h) ∙ ap (λ (n : ℕ). f n (getD rs i d)) p
 
--- ---- what was summed is finite, or has failed
-pub onto-sound : (w : Worked) (fs : List Worked) → T (sound w) → T (sound (onto w fs))
-unfolding onto _+ᵂ_
-onto-sound w [] h = h
-onto-sound w (f ∷ fs) h = onto-sound (w +ᵂ f) fs (both-sound (add binary64) w f)
+-- ---- the same for each sum that is asked for
+module _ (all : Bool) (figures : Derivative → List Worked) where
+  abbrev pub Dues : (Derivative → Worked) → ℕ → Five → Type 0
+  Dues goal i s = (k : Derivative) → T (asked all k) → Due (figures k) (goal k) i (of s k)
 
-pub total-sound : (fs : List Worked) → T (sound (getD fs 0 Failed)) → T (sound (total fs))
-unfolding total
-total-sound [] h = tt
-total-sound (f ∷ fs) h = onto-sound f fs h
+  -- what a row's term and brackets have to be
+  abbrev pub At : ℕ → Float → (Derivative → Float) → Type 0
+  At i term bracket = (k : Derivative) → (i < length (figures k)) × (checked (mul binary64 term (bracket k)) ≡ getD (figures k) i Failed)
 
--- a number that was summed, as the next loop starts from it
-pub settled : (w : Worked) (x : Float) → T (sound w) → w ≡ Number x → checked x ≡ w
-settled w x s e = ap checked (sym (ap plain e)) ∙ checked-plain w s
+  pub dues-more : (goal : Derivative → Worked) (i : ℕ) (s v : Five) (term : Float) (bracket : Derivative → Float) → v ≡ grown all s term bracket → At i term bracket → Dues goal i s → Dues goal (i + 1) v
+  dues-more goal i s v term bracket e h d k t =
+      rw (e, of-grown all s term bracket k t)
+      (due-more (figures k) (goal k) i (of s k) (mul binary64 term (bracket k)) (h k .0) (h k .1) (d k t))
+
+  pub dues-none : (goal : Derivative → Worked) (i : ℕ) (s : Five) → ((k : Derivative) → length (figures k) ≤ i) → Dues goal i s → Meet all s goal
+  dues-none goal i s h d k t = due-none (figures k) (goal k) i (of s k) (h k) (d k t)
+
+  pub dues-first : (v : Five) (term : Float) (bracket : Derivative → Float) → v ≡ times term bracket → At 0 term bracket → Dues (λ k. total (figures k)) 1 v
+  dues-first v term bracket e h k t = rw (e, of-five (λ j. mul binary64 term (bracket j)) k) (due-first (figures k) (mul binary64 term (bracket k)) (h k .0) (h k .1))

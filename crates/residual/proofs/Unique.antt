@@ -1,7 +1,7 @@
 -- No second answer meets a public function's promise. Assumes nothing.
 use Rattle.numeric.specs.declared.working.Worked.{Worked}
 use Rattle.residual.specs.declared.term.Point.{Point}
-use Rattle.residual.specs.declared.sum.Five.{Five}
+use Rattle.residual.specs.declared.sum.Sums.{Sums}
 use Rattle.numeric.proofs.Unique.{OneAnswer, by-equation}
 use Rattle.residual.proofs.term.at_density.Reads as at-density
 use Rattle.residual.proofs.sum.slope_at.Reads as slope-at
@@ -13,5 +13,5 @@ at-density-once a r s x y = by-equation
 pub slope-at-once : OneAnswer Worked (slope-at.Post tt)
 slope-at-once a r s x y = by-equation
 
-pub five-sums-once : OneAnswer Five (five-sums.Post tt)
+pub five-sums-once : OneAnswer Sums (five-sums.Post tt)
 five-sums-once a r s x y = by-equation

@@ -1,26 +1,26 @@
 -- The sums of the residual part: "sums run in the table's row order from the first term". Definitions only.
 use Prim.Native.Nat.{ℕ, _-_}
+use mathlib.Core.Path.{_≡_}
+use mathlib.Core.Bool.{Bool}
+use lib.Dec.{T}
 use mathlib.Core.List.{List, [], _∷_, _++_}
 use lib.ListN.{getD}
 use lib.Ieee.{Float, nan}
-use Rattle.numeric.specs.Working.{_+ᵂ_}
+use Rattle.numeric.specs.Working.{checked, _+ᵂ_}
 use Rattle.numeric.specs.declared.working.Worked.{Worked}
 use Rattle.numeric.specs.declared.working.Worked.the-variants.{Number, Failed}
 use Rattle.roots.specs.Formula.{num, _⊗_, _^^_, work}
 use Rattle.rows.specs.Row.{polynomials, exponentials, gaussians}
 use Rattle.residual.specs.Term.{numbered, polynomialTerm, polynomialBracket, exponentialTerm, exponentialBracket, gaussianTerm, gaussianBracket}
-use Rattle.critical.specs.Critical.{critical, sharpFigures}
+use Rattle.sharp.specs.Sharp.{sharpFigures}
 use Rattle.rows.specs.declared.row.Polynomial.{Polynomial}
 use Rattle.rows.specs.declared.row.Exponential.{Exponential}
 use Rattle.rows.specs.declared.row.Gaussian.{Gaussian}
 use Rattle.rows.specs.declared.isotherm.Isotherm.{Isotherm}
-use Rattle.critical.specs.declared.critical.Critical.{Critical}
-use Rattle.critical.specs.declared.critical.Criticality.{Criticality}
-use Rattle.critical.specs.declared.critical.Criticality.the-variants.{Known, Unknown}
-use Rattle.residual.specs.declared.sum.Five.{Five}
-use Rattle.residual.specs.declared.sum.Five.the-variants.{Summed, Broken}
-use Rattle.rows.specs.declared.derivative.Derivative.{Derivative}
-use Rattle.rows.specs.declared.derivative.Derivative.the-variants.{Delta, DeltaDelta, Tau, TauTau, DeltaTau}
+use Rattle.residual.specs.declared.sum.Sums.{Sums}
+use Rattle.residual.specs.declared.sum.Sums.the-variants.{Summed, Broken}
+use Rattle.rows.specs.Derivative.{Derivative, Delta, DeltaDelta, Tau, TauTau, DeltaTau, of, asked}
+use Rattle.rows.specs.declared.derivative.Five.{Five}
 
 -- w, and then each figure added to it, in order
 unfoldable pub onto : Worked → List Worked → Worked
@@ -53,27 +53,30 @@ module _ (iso : Isotherm) (delta : Float) (k : Derivative) where
   gaussianFigures = numbered gaussianFigure 34 gaussians
 
   -- all 42
-  unfoldable pub figures : Critical → List Worked
-  figures c = polynomialFigures ++ (exponentialFigures ++ (gaussianFigures ++ sharpFigures c delta (iso .tau) k))
-
-abbrev pub thenKnown : Criticality → (Critical → Worked) → Worked
-thenKnown Unknown f = Failed
-thenKnown (Known c) f = f c
+  unfoldable pub figures : List Worked
+  figures = polynomialFigures ++ (exponentialFigures ++ (gaussianFigures ++ sharpFigures iso delta k))
 
 -- δφ_δ, δ²φ_δδ, τφ_τ, τ²φ_ττ or δτφ_δτ of the residual part
 unfoldable pub residual : Isotherm → Float → Derivative → Worked
-residual iso delta k = thenKnown (critical iso delta) (λ c. total (figures iso delta k c))
+residual iso delta k = total (figures iso delta k)
+
+-- sums in plain f64: each that is asked for, tested, is what it has to be
+abbrev pub Meet : Bool → Five → (Derivative → Worked) → Type 0
+Meet all s goal = (k : Derivative) → T (asked all k) → checked (of s k) ≡ goal k
 
 -- the five together
-abbrev pub thenFive : Worked → (Float → Five) → Five
-thenFive Failed f = Broken
-thenFive (Number x) f = f x
+abbrev pub thenSum : Worked → (Float → Sums) → Sums
+thenSum Failed f = Broken
+thenSum (Number x) f = f x
 
-unfoldable pub fiveSums : Isotherm → Float → Five
-fiveSums iso delta =
-    thenFive (residual iso delta Delta) (λ d.
-    thenFive (residual iso delta DeltaDelta) (λ dd.
-    thenFive (residual iso delta Tau) (λ t.
-    thenFive (residual iso delta TauTau) (λ tt.
-    thenFive (residual iso delta DeltaTau) (λ dt.
+unfoldable pub together : (Derivative → Worked) → Sums
+together sum =
+    thenSum (sum Delta) (λ d.
+    thenSum (sum DeltaDelta) (λ dd.
+    thenSum (sum Tau) (λ t.
+    thenSum (sum TauTau) (λ tt.
+    thenSum (sum DeltaTau) (λ dt.
     Summed (record { d = d; dd = dd; t = t; tt = tt; dt = dt }))))))
+
+unfoldable pub fiveSums : Isotherm → Float → Sums
+fiveSums iso delta = together (residual iso delta)

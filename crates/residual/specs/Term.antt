@@ -12,8 +12,7 @@ use Rattle.rows.specs.declared.row.Gaussian.{Gaussian}
 use Rattle.rows.specs.Row.{gaussians}
 use Rattle.rows.specs.declared.isotherm.Isotherm.{Isotherm}
 use Rattle.residual.specs.declared.term.Point.{Point}
-use Rattle.rows.specs.declared.derivative.Derivative.{Derivative}
-use Rattle.rows.specs.declared.derivative.Derivative.the-variants.{Delta, DeltaDelta, Tau, TauTau, DeltaTau}
+use Rattle.rows.specs.Derivative.{Derivative, Delta, DeltaDelta, Tau, TauTau, DeltaTau}
 
 -- t = j/4
 abbrev pub quarters : ℕ → Formula

@@ -9,10 +9,12 @@ use lib.Dec.{T, ltb, ltb→lt}
 use lib.ListN.{length, getD}
 use lib.Ieee.{Float, nan, binary64, mul}
 use lib.Ieee.Fits.{and-l, and-r}
+use Rattle.numeric.specs.Number.{decimal}
 use Rattle.numeric.specs.Power.{power, powers}
 use Rattle.numeric.proofs.Powers.{powers-at}
 use Rattle.roots.specs.Formula.{value}
-use Rattle.rows.specs.Row.{polynomials, exponentials, gaussians}
+use Rattle.rows.specs.Row.{polynomials, exponentials, gaussians, nonAnalytics}
+use Rattle.rows.specs.declared.row.NonAnalytic.{NonAnalytic}
 use Rattle.rows.specs.Isotherm.{quarters, tauPower, tauPowers}
 
 -- within the list the default does not matter
@@ -48,3 +50,8 @@ power-there tau quarter i h =
     let a = powers-at 28 (getD quarters i 0 / 4) tau (omega arith) in
     let b = powers-at 3 (getD quarters i 0 % 4) quarter (omega arith) in
     sym (getD-map-lt (λ (j : ℕ). value (tauPower tau quarter j)) quarters i 0 nan (rw count h) ∙ rw (← a, ← b) refl)
+
+-- Table 31 has one D for rows 40 to 42
+pub one-cold : map (λ (r : NonAnalytic). r .kd) nonAnalytics ≡ decimal 2750 1 ∷ decimal 2750 1 ∷ decimal 2750 1 ∷ []
+unfolding nonAnalytics
+one-cold = refl

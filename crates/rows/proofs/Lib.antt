@@ -1,3 +1,4 @@
 pub mod Fills
 pub mod Isotherms
+pub mod Derivatives
 pub mod Unique

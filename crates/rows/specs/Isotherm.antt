@@ -2,13 +2,12 @@
 use Prim.Native.Nat.{ℕ, _/_, _%_}
 use mathlib.Core.List.{List, _++_, map}
 use lib.Ieee.{Float}
-use Rattle.numeric.specs.Number.{whole}
-use Rattle.roots.specs.Formula.{Formula, num, _⊖_, _⊗_, _^^_, value}
-use Rattle.rows.specs.Row.{polynomials, exponentials, gaussians, nonAnalytics}
+use Rattle.numeric.specs.Number.{decimal}
+use Rattle.roots.specs.Formula.{Formula, num, one, _⊖_, _⊗_, _^^_, value}
+use Rattle.rows.specs.Row.{polynomials, exponentials, gaussians}
 use Rattle.rows.specs.declared.row.Polynomial.{Polynomial}
 use Rattle.rows.specs.declared.row.Exponential.{Exponential}
 use Rattle.rows.specs.declared.row.Gaussian.{Gaussian}
-use Rattle.rows.specs.declared.row.NonAnalytic.{NonAnalytic}
 use Rattle.rows.specs.declared.isotherm.Isotherm.{Isotherm}
 
 -- "τ to j/4 is the whole power j div 4 of τ times the whole power j mod 4 of that quarter root"
@@ -22,17 +21,17 @@ quarters = map (λ (r : Polynomial). r .q) polynomials ++ (map (λ (r : Exponent
 unfoldable pub tauPowers : Float → Float → List Float
 tauPowers tau quarter = map (λ (j : ℕ). value (tauPower tau quarter j)) quarters
 
--- β·(τ−γ)² and D·(τ−1)²: the parts of the exponents that don't see δ
+-- β·(τ−γ)², and D·(τ−1)² with Table 31's one D for rows 40 to 42: the parts of the exponents that don't see δ
 unfoldable pub spread : Float → Gaussian → Formula
 spread tau r = num (r .beta) ⊗ ((num tau ⊖ num (r .gamma)) ⊗ (num tau ⊖ num (r .gamma)))
 
-unfoldable pub cold : Float → NonAnalytic → Formula
-cold tau r = num (r .kd) ⊗ ((num tau ⊖ num (whole 1)) ⊗ (num tau ⊖ num (whole 1)))
+unfoldable pub cold : Float → Formula
+cold tau = num (decimal 2750 1) ⊗ ((num tau ⊖ one) ⊗ (num tau ⊖ one))
 
 unfoldable pub isotherm : Float → Float → Isotherm
 isotherm tau quarter = record {
   tau = tau;
   powers = tauPowers tau quarter;
   spread = map (λ (r : Gaussian). value (spread tau r)) gaussians;
-  cold = map (λ (r : NonAnalytic). value (cold tau r)) nonAnalytics;
+  cold = value (cold tau);
 }

@@ -10,8 +10,8 @@ pub struct Isotherm {
     pub powers: [f64; 39],
     // β·(τ−γ)² of rows 35 to 39
     pub spread: [f64; 5],
-    // D·(τ−1)² of rows 40 to 42
-    pub cold: [f64; 3],
+    // D·(τ−1)², one number for rows 40 to 42
+    pub cold: f64,
 }
 
 const QUARTERS: [u8; 39] = [
@@ -92,8 +92,7 @@ pub fn at_temperature(tau: f64, quarter: f64) -> Isotherm
         275.0 * ((tau - 1.25) * (tau - 1.25)),
         275.0 * ((tau - 1.22) * (tau - 1.22)),
     ];
-    let f = tau - 1.0;
-    let cold = [275.0 * (f * f), 275.0 * (f * f), 275.0 * (f * f)];
+    let cold = 275.0 * ((tau - 1.0) * (tau - 1.0));
     Isotherm {
         tau,
         powers,

@@ -1,0 +1,23 @@
+-- Each is its bracket's formula. Assumes nothing.
+use mathlib.Core.Path.{refl}
+use lib.Ieee.{ofBits, ofInt}
+use Rattle.numeric.specs.Number.{whole}
+use Rattle.numeric.specs.Power.{power}
+use Rattle.roots.specs.Formula.{value}
+use Rattle.residual.specs.Term.{gaussianBracket}
+use borrow.Author.Needs.{needs}
+use Rattle.residual.proofs.sum.gaussian_brackets.Statement.{statement}
+use Rattle.residual.proofs.sum.gaussian_brackets.Tie as tie
+
+int-to-float-d : tie.Need-int-to-float-d
+int-to-float-d c = search needs
+
+int-to-float-t : tie.Need-int-to-float-t
+int-to-float-t c = search needs
+
+returns : tie.Need-returns
+unfolding gaussianBracket value power whole ofBits ofInt
+returns c = refl
+
+pub gaussian-brackets-spec : {M : Type 1} → statement M
+gaussian-brackets-spec = tie.close (tie.spec int-to-float-d int-to-float-t returns)

@@ -1,0 +1,158 @@
+-- Each turn adds the next row's figures; what is left to add gives the sums that are asked for. Assumes nothing.
+use mathlib.Core.Path.{_≡_, refl, sym, ap, subst, _∙_}
+use mathlib.Core.List.{List}
+use Prim.Native.Nat.{ℕ, _+_, _-_, _<_, _≤_}
+use native.Mathlib.Omega.{arith}
+use borrow.Author.Needs.{needs}
+use lib.ListN.{length, getD}
+use lib.Ieee.{Float, nan, binary64, mul}
+use Rattle.numeric.specs.Power.{powers}
+use Rattle.numeric.specs.Working.{checked}
+use Rattle.roots.specs.Formula.{value}
+use Rattle.rows.specs.Derivative.{Derivative, of}
+use Rattle.rows.specs.declared.row.Polynomial.{Polynomial}
+use Rattle.rows.specs.declared.isotherm.Isotherm.{Isotherm}
+use Rattle.rows.specs.Row.{polynomials}
+use Rattle.rows.proofs.Derivatives.{of-five}
+use Rattle.residual.specs.declared.term.Point.{Point}
+use Rattle.residual.specs.Term.{point, polynomialBracket}
+use Rattle.residual.specs.Sum.{total, polynomialFigures}
+use Rattle.residual.proofs.Sums.{Dues, dues-first, dues-more, dues-none}
+use Rattle.residual.proofs.Figures.{no-polynomial, polynomial-small, polynomial-length, polynomial-there}
+use Rattle.residual.proofs.sum.polynomial_sums.Statement.{statement}
+use Rattle.residual.proofs.sum.polynomial_sums.Tie as tie
+
+abbrev Inv-loop : tie.InvT-loop
+Inv-loop all rows ds ys s₀ i₀ s i = (i ≤ 7) × ((iso : Isotherm) (delta : Float) → iso .powers ≡ ys → powers 10 delta ≡ ds
+    → Dues all (polynomialFigures iso delta) (λ k. total (polynomialFigures iso delta k)) i s)
+
+abbrev μ-loop : tie.MeasureT-loop
+μ-loop all rows ds ys s₀ i₀ s i = 7 - i
+
+-- the row that a turn comes to
+low : (c : tie.At-loop Inv-loop μ-loop) → c .loop .i < 7 → getD (c .before .before .before .before .before .before .before .polynomials .result) (c .loop .i) no-polynomial .d < 11
+low c h = subst (λ (l : List Polynomial). getD l (c .loop .i) no-polynomial .d < 11) (sym (c .before .before .before .before .before .before .before .polynomials .ensures)) (polynomial-small (c .loop .i) h)
+
+polynomials-requires : tie.Need-polynomials-requires Inv-loop μ-loop
+polynomials-requires c κs = search needs
+
+array-copy-out-row : tie.Need-array-copy-out-row Inv-loop μ-loop
+array-copy-out-row c = search needs
+
+array-read-first : tie.Need-array-read-first Inv-loop μ-loop
+array-read-first c = search needs
+
+array-read-first-2 : tie.Need-array-read-first-2 Inv-loop μ-loop
+array-read-first-2 c = search needs
+
+polynomial-brackets-requires : tie.Need-polynomial-brackets-requires Inv-loop μ-loop
+polynomial-brackets-requires c κs = search needs
+
+first-requires : tie.Need-first-requires Inv-loop μ-loop
+first-requires c κs = search needs
+
+loop-holds : tie.Need-loop-holds Inv-loop μ-loop
+unfolding polynomials
+loop-holds c =
+    let b = c .before in
+    let t = b .before .before .before .before .before in
+    let a = t .before .args in
+    let r = getD (t .polynomials .result) 0 no-polynomial in
+    let term = mul binary64 (mul binary64 (r .n) (getD (a .p .powers) 1 nan)) (getD (a .iso .powers) 0 nan) in (
+      omega arith,
+      λ iso delta y d.
+          dues-first (a .all) (polynomialFigures iso delta) (c .first .result) term (of (b .polynomial-brackets .result)) (c .first .ensures)
+          (λ k. (
+            rw (polynomial-length iso delta k) (omega arith),
+            rw (b .polynomial-brackets .ensures, of-five (λ j. value (polynomialBracket r j)) k, t .polynomials .ensures, ← d, ← y) (polynomial-there iso delta k 0 (omega arith)),
+          )),
+    )
+
+mul-r : tie.Need-mul-r Inv-loop μ-loop
+mul-r c = omega arith
+
+array-copy-out-r : tie.Need-array-copy-out-r Inv-loop μ-loop
+array-copy-out-r c = omega arith
+
+cast-d : tie.Need-cast-d Inv-loop μ-loop
+cast-d c = let l = low (c .before .before .before) (omega arith) in omega arith
+
+mul-grow : tie.Need-mul-grow Inv-loop μ-loop
+mul-grow c = let l = low (c .before .before .before) (omega arith) in omega arith
+
+array-read-grow : tie.Need-array-read-grow Inv-loop μ-loop
+array-read-grow c = let l = low (c .before .before .before) (omega arith) in omega arith
+
+mul-grow-2 : tie.Need-mul-grow-2 Inv-loop μ-loop
+mul-grow-2 c = omega arith
+
+array-read-grow-2 : tie.Need-array-read-grow-2 Inv-loop μ-loop
+array-read-grow-2 c = omega arith
+
+polynomial-brackets-requires-2 : tie.Need-polynomial-brackets-requires-2 Inv-loop μ-loop
+polynomial-brackets-requires-2 c κs = search needs
+
+grow-requires : tie.Need-grow-requires Inv-loop μ-loop
+grow-requires c κs = search needs
+
+add-i : tie.Need-add-i Inv-loop μ-loop
+add-i c = omega arith
+
+loop-less : tie.Need-loop-less Inv-loop μ-loop
+loop-less c = omega arith
+
+loop-again : tie.Need-loop-again Inv-loop μ-loop
+loop-again c =
+    let b = c .before in
+    let l = b .before .before .before .before .before in
+    let t = l .before .before .before .before .before .before .before in
+    let a = t .before .args in
+    let i = l .loop .i in
+    let r = getD (t .polynomials .result) i no-polynomial in
+    let term = mul binary64 (mul binary64 (r .n) (getD (a .p .powers) (r .d) nan)) (getD (a .iso .powers) i nan) in (
+      omega arith,
+      λ iso delta y d.
+          dues-more (a .all) (polynomialFigures iso delta) (λ k. total (polynomialFigures iso delta k)) i (l .loop .s) (c .grow .result) term (of (b .polynomial-brackets2 .result)) (c .grow .ensures)
+          (λ k. (
+            rw (polynomial-length iso delta k) (omega arith),
+            rw (b .polynomial-brackets2 .ensures, of-five (λ j. value (polynomialBracket r j)) k, t .polynomials .ensures, ← d, ← y) (polynomial-there iso delta k i (omega arith)),
+          ))
+          (l .loop .inv .1 iso delta y d),
+    )
+
+returns : tie.Need-returns Inv-loop μ-loop
+unfolding point
+returns c =
+    let l = c .before in
+    let b = l .before .before .before .before .before .before .before .before in
+    let a = b .args in
+    let figures = polynomialFigures (a .iso) (a .p .delta) in
+    dues-none (a .all) figures (λ k. total (figures k)) (l .loop .i) (l .loop .s) (λ k. rw (polynomial-length (a .iso) (a .p .delta) k) (omega arith))
+    (l .loop .inv .1 (a .iso) (a .p .delta) refl (sym (ap (λ (q : Point). q .powers) (b .pre))))
+
+pub polynomial-sums-spec : {M : Type 1} → statement M
+polynomial-sums-spec =
+    tie.close
+    (tie.spec
+    Inv-loop
+    μ-loop
+    polynomials-requires
+    array-copy-out-row
+    array-read-first
+    array-read-first-2
+    polynomial-brackets-requires
+    first-requires
+    loop-holds
+    mul-r
+    array-copy-out-r
+    cast-d
+    mul-grow
+    array-read-grow
+    mul-grow-2
+    array-read-grow-2
+    polynomial-brackets-requires-2
+    grow-requires
+    add-i
+    loop-less
+    loop-again
+    returns)

@@ -1,0 +1,2 @@
+pub mod Sharps
+pub mod Unique

@@ -1,0 +1,37 @@
+-- A sum that is asked for grows by its row's figure, tested. Assumes nothing.
+use mathlib.Core.Path.{_≡_, refl, ap, _∙_}
+use mathlib.Core.Bool.{Bool}
+use lib.Dec.{T}
+use lib.Ieee.{Float, binary64, mul}
+use Rattle.numeric.specs.Working.{checked, _+ᵂ_}
+use Rattle.numeric.specs.declared.working.Worked.{Worked}
+use Rattle.numeric.proofs.Workings.{checked-add}
+use Rattle.roots.specs.Formula.{_⊗_, value, work}
+use Rattle.roots.proofs.Formulas.{once}
+use Rattle.rows.specs.Derivative.{Derivative, Delta, DeltaDelta, Tau, TauTau, DeltaTau, of, grown, asked}
+use Rattle.rows.specs.declared.derivative.Five.{Five}
+use Rattle.rows.specs.declared.row.NonAnalytic.{NonAnalytic}
+use Rattle.rows.proofs.Derivatives.{of-grown}
+use Rattle.critical.specs.Critical.{Around, Parts, near, edge, heldNear, heldEdge}
+use Rattle.critical.specs.declared.critical.Near.{Near}
+use Rattle.critical.specs.declared.critical.Edge.{Edge}
+use Rattle.sharp.specs.Sharp.{sharpTerm, sharpBracket}
+
+-- a bracket sees its parts by their values
+held : (row : NonAnalytic) (n : Around) (g : Parts) (delta tau : Float) (k : Derivative)
+    → value (sharpBracket row (heldNear (near n)) (heldEdge (edge g)) delta tau k) ≡ value (sharpBracket row n g delta tau k)
+unfolding sharpBracket value
+held row n g delta tau Delta = refl
+held row n g delta tau DeltaDelta = refl
+held row n g delta tau Tau = refl
+held row n g delta tau TauTau = refl
+held row n g delta tau DeltaTau = refl
+
+module _ (all : Bool) (s v : Five) (w row : NonAnalytic) (x : Near) (n : Around) (y : Edge) (g : Parts) (delta tau : Float) (k : Derivative) where
+  pub sharpened : w ≡ row → x ≡ near n → y ≡ edge g → T (asked all k)
+      → v ≡ grown all s (value (sharpTerm w (heldNear x) (heldEdge y) delta tau)) (λ j. value (sharpBracket w (heldNear x) (heldEdge y) delta tau j))
+      → checked (of v k) ≡ checked (of s k) +ᵂ work (sharpTerm row n g delta tau ⊗ sharpBracket row n g delta tau k)
+  unfolding value
+  sharpened a b c h e =
+      rw (e, of-grown all s (value (sharpTerm w (heldNear x) (heldEdge y) delta tau)) (λ j. value (sharpBracket w (heldNear x) (heldEdge y) delta tau j)) k h, a, b, c, held row n g delta tau k)
+      (checked-add (of s k) _ ∙ ap (λ (u : Worked). checked (of s k) +ᵂ u) (once (sharpTerm row n g delta tau ⊗ sharpBracket row n g delta tau k)))

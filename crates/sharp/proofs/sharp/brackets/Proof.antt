@@ -1,0 +1,23 @@
+-- The five formulas, operation by operation. Assumes nothing.
+use mathlib.Core.Path.{refl}
+use lib.Ieee.{ofBits, ofInt, round, div}
+use Rattle.numeric.specs.Number.{fraction, whole}
+use Rattle.roots.specs.Formula.{value}
+use Rattle.numeric.specs.Power.{power}
+use Rattle.sharp.specs.Sharp.{sharpBracket}
+use borrow.Author.Needs.{needs}
+use Rattle.sharp.proofs.sharp.brackets.Statement.{statement}
+use Rattle.sharp.proofs.sharp.brackets.Tie as tie
+
+over-requires : tie.Need-over-requires
+over-requires c κs = search needs
+
+bend-of-requires : tie.Need-bend-of-requires
+bend-of-requires c κs = search needs
+
+returns : tie.Need-returns
+unfolding sharpBracket power value fraction whole ofBits ofInt round div
+returns c = rw (c .before .before .before .before .before .before .before .before .before .before .before .before .before .before .before .before .before .before .before .before .before .before .before .before .before .before .before .before .before .before .before .before .before .before .before .before .before .before .before .before .before .before .bend-of .ensures, c .before .before .before .before .before .before .before .before .before .before .before .before .before .before .before .before .before .before .before .before .before .before .before .before .before .before .before .before .before .before .before .before .before .before .before .before .before .before .before .before .before .before .before .over .ensures) refl
+
+pub brackets-spec : {M : Type 1} → statement M
+brackets-spec = tie.close (tie.spec over-requires bend-of-requires returns)

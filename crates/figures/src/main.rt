@@ -1,9 +1,6 @@
 // The saturation figures at temperatures, I₁ and I₂ of the ideal part at values of τ, and pressures and states; their
 // bits were worked elsewhere (crosscheck/equation.py). One figure a line.
-use critical::critical::Critical;
-use critical::critical::Criticality;
 use critical::critical::at_critical;
-use critical::sharp::sharp_figure;
 use equation::pressure::pressure_at;
 use equation::pressure::quarter_at;
 use equation::pressure::tau_at;
@@ -12,12 +9,14 @@ use equation::state::Stated;
 use equation::state::state_at;
 use ideal::ideal::ideal_part;
 use numeric::working::Worked;
-use rows::derivative::Derivative;
+use numeric::working::checked;
+use rows::derivative::Five;
 use rows::isotherm::at_temperature;
 use rows::row::non_analytics;
 use saturation::saturation::liquid_density;
 use saturation::saturation::vapour_density;
 use saturation::saturation::vapour_pressure;
+use sharp::sharp::sharpen;
 use telling::say;
 use telling::show;
 use telling::tell;
@@ -155,21 +154,17 @@ fn off_the_ideal_line() {
     ideal_gas(0.0 / 0.0);
 }
 
-fn sharp_row(k: Derivative, c: Critical, delta: f64, tau: f64) {
-    let rows = non_analytics();
-    let n = c.near;
-    let g40 = c.first;
-    let g41 = c.second;
-    let g42 = c.third;
+fn three(a: f64, b: f64, c: f64) {
     say(b"rows 40 to 42");
-    tell(sharp_figure(k, rows[0], n, g40, delta, tau));
+    tell(checked(a));
     say(b"rows 40 to 42");
-    tell(sharp_figure(k, rows[1], n, g41, delta, tau));
+    tell(checked(b));
     say(b"rows 40 to 42");
-    tell(sharp_figure(k, rows[2], n, g42, delta, tau));
+    tell(checked(c));
 }
 
 // The figures of the non-analytic rows by themselves, which are small in the sums: δφ_δ of each row, δ²φ_δδ, and so on.
+// Added to −0 a number is itself.
 fn sharp(t: f64, rho: f64) {
     let Worked::Number(tau) = tau_at(t) else {
         return;
@@ -178,14 +173,23 @@ fn sharp(t: f64, rho: f64) {
         return;
     };
     let delta = rho / 467.6;
-    let Criticality::Known(c) = at_critical(at_temperature(tau, quarter), delta) else {
-        return;
+    let rows = non_analytics();
+    let c = at_critical(at_temperature(tau, quarter), delta);
+    let none = Five {
+        d: -0.0,
+        dd: -0.0,
+        t: -0.0,
+        tt: -0.0,
+        dt: -0.0,
     };
-    sharp_row(Derivative::Delta, c, delta, tau);
-    sharp_row(Derivative::DeltaDelta, c, delta, tau);
-    sharp_row(Derivative::Tau, c, delta, tau);
-    sharp_row(Derivative::TauTau, c, delta, tau);
-    sharp_row(Derivative::DeltaTau, c, delta, tau);
+    let r40 = sharpen(true, none, rows[0], c.near, c.first, delta, tau);
+    let r41 = sharpen(true, none, rows[1], c.near, c.second, delta, tau);
+    let r42 = sharpen(true, none, rows[2], c.near, c.third, delta, tau);
+    three(r40.d, r41.d, r42.d);
+    three(r40.dd, r41.dd, r42.dd);
+    three(r40.t, r41.t, r42.t);
+    three(r40.tt, r41.tt, r42.tt);
+    three(r40.dt, r41.dt, r42.dt);
 }
 
 // Vapour, liquid, supercritical, near the critical point, at δ = 1, and at the corners of the ranges.

@@ -1,4 +1,4 @@
--- The pressure of a state is bit for bit the pressure alone, and the state's temperature and density are those asked for. Assumes nothing.
+-- The pressure of a state is bit for bit the pressure alone, the state's temperature and density are those asked for, and what fails with the temperature. Assumes nothing.
 use mathlib.Core.Path.{_≡_, refl, sym, ap, _∙_}
 use Prim.Native.Nat.{ℕ}
 use native.Mathlib.Omega.{arith}
@@ -9,13 +9,14 @@ use Rattle.numeric.specs.declared.working.Worked.the-variants.{Number, Failed}
 use Rattle.roots.specs.Formula.{work}
 use Rattle.rows.specs.declared.isotherm.Isotherm.{Isotherm}
 use Rattle.rows.specs.Derivative.{Delta, DeltaDelta, Tau, TauTau, DeltaTau}
-use Rattle.rows.specs.Isotherm.{isotherm}
+use Rattle.rows.specs.Isotherm.{quarterOf, isotherm}
 use Rattle.residual.specs.Sum.{residual, together, fiveSums, thenSum}
 use Rattle.rows.specs.declared.derivative.Five.{Five}
 use Rattle.residual.specs.declared.sum.Sums.{Sums}
 use Rattle.residual.specs.declared.sum.Sums.the-variants.{Summed, Broken}
+use Rattle.residual.proofs.Failures.{failed-with-temperature}
 use Rattle.ideal.specs.Ideal.{idealPart}
-use Rattle.equation.specs.Pressure.{deltaOf, tauOf, quarterOf, pressureFormula, pressureOn, pressure}
+use Rattle.equation.specs.Pressure.{deltaOf, pressureFormula, pressureOn, pressure}
 use Rattle.equation.specs.State.{heatV, heatP, sound, energy, enthalpy, thenState, thenSums, stateWith, stateOf, stateIdeal, stateOn, state}
 use Rattle.equation.specs.declared.state.State.{State}
 use Rattle.equation.specs.declared.state.Stated.{Stated}
@@ -79,22 +80,35 @@ from-sums t tau rho s x e = elim (step (idealPart tau .first) _ x e) [
 ]
 
 -- on an isotherm
-pub pressure-of-state-on : (t : Float) (iso : Isotherm) (rho : Float) (x : State) → stateOn t iso rho ≡ Known x → (pressureOn t iso rho ≡ Number (x .p)) × (x .t ≡ t) × (x .rho ≡ rho)
+pub pressure-of-state-on : (iso : Isotherm) (rho : Float) (x : State) → stateOn iso rho ≡ Known x → (pressureOn iso rho ≡ Number (x .p)) × (x .t ≡ iso .t) × (x .rho ≡ rho)
 unfolding stateOn pressureOn
-pressure-of-state-on t iso rho x e = elim (step (deltaOf rho) _ x e) [
+pressure-of-state-on iso rho x e = elim (step (deltaOf rho) _ x e) [
   | took delta a f ↦ go delta a (fiveSums iso delta) refl f
 ]
   where
-    go : (delta : Float) → deltaOf rho ≡ Number delta → (v : Sums) → fiveSums iso delta ≡ v → thenSums v (stateIdeal t (iso .tau) rho) ≡ Known x
-        → (then (deltaOf rho) (λ d. then (residual iso d Delta) (λ a. work (pressureFormula t rho a))) ≡ Number (x .p)) × (x .t ≡ t) × (x .rho ≡ rho)
+    go : (delta : Float) → deltaOf rho ≡ Number delta → (v : Sums) → fiveSums iso delta ≡ v → thenSums v (stateIdeal (iso .t) (iso .tau) rho) ≡ Known x
+        → (then (deltaOf rho) (λ d. then (residual iso d Delta) (λ a. work (pressureFormula (iso .t) rho a))) ≡ Number (x .p)) × (x .t ≡ iso .t) × (x .rho ≡ rho)
     go delta a Broken q f = let z : _≡_ {A = ℕ} 0 1 = cc in absurd (omega arith)
-    go delta a (Summed s) q f = let y = from-sums t (iso .tau) rho s x f in (rw (a, first-sum iso delta s q) (y .0), y .1, y .2)
+    go delta a (Summed s) q f = let y = from-sums (iso .t) (iso .tau) rho s x f in (rw (a, first-sum iso delta s q) (y .0), y .1, y .2)
 
 -- THE PRESSURE OF A STATE IS THE PRESSURE ALONE, bit for bit
 pub pressure-of-state : (t rho : Float) (x : State) → state t rho ≡ Known x → (pressure t rho ≡ Number (x .p)) × (x .t ≡ t) × (x .rho ≡ rho)
-unfolding state pressure
-pressure-of-state t rho x e = elim (step (tauOf t) _ x e) [
-  | took tau a f ↦ elim (step (quarterOf tau) _ x f) [
-    | took quarter b g ↦ let y = pressure-of-state-on t (isotherm tau quarter) rho x g in (rw (a, b) (y .0), y .1, y .2)
-  ]
-]
+unfolding state pressure isotherm
+pressure-of-state t rho x e = pressure-of-state-on (isotherm t) rho x e
+
+-- ---- where τ or its quarter root fails there is neither a pressure nor a state
+pub no-pressure : (t rho : Float) → work (quarterOf t) ≡ Failed → pressure t rho ≡ Failed
+unfolding pressure pressureOn
+no-pressure t rho e = go (deltaOf rho)
+  where
+    go : (w : Worked) → then w (λ d. then (residual (isotherm t) d Delta) (λ a. work (pressureFormula (isotherm t .t) rho a))) ≡ Failed
+    go Failed = refl
+    go (Number d) = rw (failed-with-temperature t d Delta e) refl
+
+pub no-state : (t rho : Float) → work (quarterOf t) ≡ Failed → state t rho ≡ Unknown
+unfolding state stateOn fiveSums together
+no-state t rho e = go (deltaOf rho)
+  where
+    go : (w : Worked) → thenState w (λ d. thenSums (fiveSums (isotherm t) d) (stateIdeal (isotherm t .t) (isotherm t .tau) rho)) ≡ Unknown
+    go Failed = refl
+    go (Number d) = rw (failed-with-temperature t d Delta e) refl

@@ -3,8 +3,6 @@ use Rattle.numeric.specs.declared.working.Worked.{Worked}
 use Rattle.equation.specs.declared.state.Stated.{Stated}
 use Rattle.numeric.proofs.Unique.{OneAnswer, by-equation}
 use Rattle.equation.proofs.pressure.delta_at.Reads as delta-at
-use Rattle.equation.proofs.pressure.tau_at.Reads as tau-at
-use Rattle.equation.proofs.pressure.quarter_at.Reads as quarter-at
 use Rattle.equation.proofs.pressure.pressure_on.Reads as pressure-on
 use Rattle.equation.proofs.pressure.pressure_at.Reads as pressure-at
 use Rattle.equation.proofs.state.state_on.Reads as state-on
@@ -12,12 +10,6 @@ use Rattle.equation.proofs.state.state_at.Reads as state-at
 
 pub delta-at-once : OneAnswer Worked (delta-at.Post tt)
 delta-at-once a r s x y = by-equation
-
-pub tau-at-once : OneAnswer Worked (tau-at.Post tt)
-tau-at-once a r s x y = by-equation
-
-pub quarter-at-once : OneAnswer Worked (quarter-at.Post tt)
-quarter-at-once a r s x y = by-equation
 
 pub pressure-on-once : OneAnswer Worked (pressure-on.Post tt)
 pressure-on-once a r s x y = by-equation

@@ -3,35 +3,23 @@ use lib.Ieee.{Float}
 use Rattle.numeric.specs.Constant.{spanWagner}
 use Rattle.numeric.specs.Working.{then}
 use Rattle.numeric.specs.declared.working.Worked.{Worked}
-use Rattle.roots.specs.declared.exponent.Exponent.{Exponent}
-use Rattle.roots.specs.Root.{root}
 use Rattle.roots.specs.Formula.{Formula, num, one, _⊕_, _⊗_, _⊘_, work}
 use Rattle.rows.specs.Isotherm.{isotherm}
 use Rattle.rows.specs.declared.isotherm.Isotherm.{Isotherm}
 use Rattle.rows.specs.Derivative.{Delta}
 use Rattle.residual.specs.Sum.{residual}
 
--- "δ = ρ/467.6, τ = 304.1282/T"
+-- "δ = ρ/467.6"
 unfoldable pub deltaOf : Float → Worked
 deltaOf rho = work (num rho ⊘ num (spanWagner .density))
-
-unfoldable pub tauOf : Float → Worked
-tauOf t = work (num (spanWagner .temperature) ⊘ num t)
-
--- "Quarters of τ come from a square root taken twice"
-abbrev pub half : Exponent
-half = record { m = 1; k = 2 }
-
-unfoldable pub quarterOf : Float → Worked
-quarterOf tau = then (root half tau) (root half)
 
 -- p = ((ρ·R)·T)·(1 + δφ_δ), with a for δφ_δ
 abbrev pub pressureFormula : Float → Float → Float → Formula
 pressureFormula t rho a = num rho ⊗ num (spanWagner .gas) ⊗ num t ⊗ (one ⊕ num a)
 
 -- on an isotherm, at a density
-unfoldable pub pressureOn : Float → Isotherm → Float → Worked
-pressureOn t iso rho = then (deltaOf rho) (λ delta. then (residual iso delta Delta) (λ a. work (pressureFormula t rho a)))
+unfoldable pub pressureOn : Isotherm → Float → Worked
+pressureOn iso rho = then (deltaOf rho) (λ delta. then (residual iso delta Delta) (λ a. work (pressureFormula (iso .t) rho a)))
 
 unfoldable pub pressure : Float → Float → Worked
-pressure t rho = then (tauOf t) (λ tau. then (quarterOf tau) (λ quarter. pressureOn t (isotherm tau quarter) rho))
+pressure t rho = pressureOn (isotherm t) rho

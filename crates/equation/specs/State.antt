@@ -5,14 +5,14 @@ use Rattle.numeric.specs.Working.{then}
 use Rattle.numeric.specs.declared.working.Worked.{Worked}
 use Rattle.numeric.specs.declared.working.Worked.the-variants.{Number, Failed}
 use Rattle.roots.specs.Formula.{Formula, num, one, two, _⊕_, _⊖_, _⊗_, _⊘_, minus, root, work}
-use Rattle.rows.specs.Isotherm.{isotherm}
+use Rattle.rows.specs.Isotherm.{half, isotherm}
 use Rattle.rows.specs.declared.isotherm.Isotherm.{Isotherm}
 use Rattle.residual.specs.Sum.{fiveSums}
 use Rattle.rows.specs.declared.derivative.Five.{Five}
 use Rattle.residual.specs.declared.sum.Sums.{Sums}
 use Rattle.residual.specs.declared.sum.Sums.the-variants.{Summed, Broken}
 use Rattle.ideal.specs.Ideal.{idealPart}
-use Rattle.equation.specs.Pressure.{half, deltaOf, tauOf, quarterOf, pressureFormula}
+use Rattle.equation.specs.Pressure.{deltaOf, pressureFormula}
 use Rattle.equation.specs.declared.state.State.{State}
 use Rattle.equation.specs.declared.state.Stated.{Stated}
 use Rattle.equation.specs.declared.state.Stated.the-variants.{Known, Unknown}
@@ -79,8 +79,8 @@ unfoldable pub stateIdeal : Float → Float → Float → Five → Stated
 stateIdeal t tau rho s = thenState (idealPart tau .first) (λ i1. thenState (idealPart tau .second) (λ i2. stateOf t s i1 i2 rho))
 
 -- on an isotherm, at a density
-unfoldable pub stateOn : Float → Isotherm → Float → Stated
-stateOn t iso rho = thenState (deltaOf rho) (λ delta. thenSums (fiveSums iso delta) (stateIdeal t (iso .tau) rho))
+unfoldable pub stateOn : Isotherm → Float → Stated
+stateOn iso rho = thenState (deltaOf rho) (λ delta. thenSums (fiveSums iso delta) (stateIdeal (iso .t) (iso .tau) rho))
 
 unfoldable pub state : Float → Float → Stated
-state t rho = thenState (tauOf t) (λ tau. thenState (quarterOf tau) (λ quarter. stateOn t (isotherm tau quarter) rho))
+state t rho = stateOn (isotherm t) rho

@@ -2,8 +2,6 @@
 ghost use mathlib.Core.Path.{_≡_};
 ghost use Rattle.equation.specs.State.{stateWith, stateOf, stateIdeal, stateOn, state};
 use crate::pressure::delta_at;
-use crate::pressure::quarter_at;
-use crate::pressure::tau_at;
 use ideal::ideal::ideal_part;
 use numeric::constant::span_wagner;
 use numeric::working::Worked;
@@ -97,8 +95,8 @@ fn state_ideal(t: f64, tau: f64, rho: f64, s: Five) -> Stated
     state_of(t, s, i1, i2, rho)
 }
 
-pub fn state_on(t: f64, iso: Isotherm, rho: f64) -> Stated
-    ensures { λ r. ⌜ r ≡ stateOn t iso rho ⌝ }
+pub fn state_on(iso: Isotherm, rho: f64) -> Stated
+    ensures { λ r. ⌜ r ≡ stateOn iso rho ⌝ }
 {
     let Worked::Number(delta) = delta_at(rho) else {
         return Stated::Unknown;
@@ -106,17 +104,11 @@ pub fn state_on(t: f64, iso: Isotherm, rho: f64) -> Stated
     let Sums::Summed(s) = five_sums(iso, delta) else {
         return Stated::Unknown;
     };
-    state_ideal(t, iso.tau, rho, s)
+    state_ideal(iso.t, iso.tau, rho, s)
 }
 
 pub fn state_at(t: f64, rho: f64) -> Stated
     ensures { λ r. ⌜ r ≡ state t rho ⌝ }
 {
-    let Worked::Number(tau) = tau_at(t) else {
-        return Stated::Unknown;
-    };
-    let Worked::Number(quarter) = quarter_at(tau) else {
-        return Stated::Unknown;
-    };
-    state_on(t, at_temperature(tau, quarter), rho)
+    state_on(at_temperature(t), rho)
 }

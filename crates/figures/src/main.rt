@@ -2,8 +2,6 @@
 // bits were worked elsewhere (crosscheck/equation.py). One figure a line.
 use critical::critical::at_critical;
 use equation::pressure::pressure_at;
-use equation::pressure::quarter_at;
-use equation::pressure::tau_at;
 use equation::state::State;
 use equation::state::Stated;
 use equation::state::state_at;
@@ -166,15 +164,11 @@ fn three(a: f64, b: f64, c: f64) {
 // The figures of the non-analytic rows by themselves, which are small in the sums: δφ_δ of each row, δ²φ_δδ, and so on.
 // Added to −0 a number is itself.
 fn sharp(t: f64, rho: f64) {
-    let Worked::Number(tau) = tau_at(t) else {
-        return;
-    };
-    let Worked::Number(quarter) = quarter_at(tau) else {
-        return;
-    };
+    let iso = at_temperature(t);
+    let tau = iso.tau;
     let delta = rho / 467.6;
     let rows = non_analytics();
-    let c = at_critical(at_temperature(tau, quarter), delta);
+    let c = at_critical(iso, delta);
     let none = Five {
         d: -0.0,
         dd: -0.0,

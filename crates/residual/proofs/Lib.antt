@@ -1,4 +1,5 @@
 pub mod Sums
 pub mod Figures
 pub mod Totals
+pub mod Failures
 pub mod Unique

@@ -2,13 +2,25 @@
 use Prim.Native.Nat.{ℕ, _/_, _%_}
 use mathlib.Core.List.{List, _++_, map}
 use lib.Ieee.{Float}
+use Rattle.numeric.specs.Constant.{spanWagner}
 use Rattle.numeric.specs.Number.{decimal}
-use Rattle.roots.specs.Formula.{Formula, num, one, _⊖_, _⊗_, _^^_, value}
+use Rattle.roots.specs.declared.exponent.Exponent.{Exponent}
+use Rattle.roots.specs.Formula.{Formula, num, one, _⊖_, _⊗_, _⊘_, _^^_, root, value}
 use Rattle.rows.specs.Row.{polynomials, exponentials, gaussians}
 use Rattle.rows.specs.declared.row.Polynomial.{Polynomial}
 use Rattle.rows.specs.declared.row.Exponential.{Exponential}
 use Rattle.rows.specs.declared.row.Gaussian.{Gaussian}
 use Rattle.rows.specs.declared.isotherm.Isotherm.{Isotherm}
+
+-- "τ = 304.1282/T"; "Quarters of τ come from a square root taken twice"
+unfoldable pub tauOf : Float → Formula
+tauOf t = num (spanWagner .temperature) ⊘ num t
+
+abbrev pub half : Exponent
+half = record { m = 1; k = 2 }
+
+unfoldable pub quarterOf : Float → Formula
+quarterOf t = root half (root half (tauOf t))
 
 -- "τ to j/4 is the whole power j div 4 of τ times the whole power j mod 4 of that quarter root"
 unfoldable pub tauPower : Float → Float → ℕ → Formula
@@ -28,10 +40,13 @@ spread tau r = num (r .beta) ⊗ ((num tau ⊖ num (r .gamma)) ⊗ (num tau ⊖ 
 unfoldable pub cold : Float → Formula
 cold tau = num (decimal 2750 1) ⊗ ((num tau ⊖ one) ⊗ (num tau ⊖ one))
 
-unfoldable pub isotherm : Float → Float → Isotherm
-isotherm tau quarter = record {
-  tau = tau;
-  powers = tauPowers tau quarter;
-  spread = map (λ (r : Gaussian). value (spread tau r)) gaussians;
-  cold = value (cold tau);
-}
+unfoldable pub isotherm : Float → Isotherm
+isotherm t =
+    let tau = value (tauOf t) in
+    record {
+      t = t;
+      tau = tau;
+      powers = tauPowers tau (value (quarterOf t));
+      spread = map (λ (r : Gaussian). value (spread tau r)) gaussians;
+      cold = value (cold tau);
+    }

@@ -1,10 +1,19 @@
-// What hangs on the temperature alone, worked once for a search and handed on by value.
+// What hangs on the temperature alone, in plain f64, worked once for a search and handed on by value.
 ghost use mathlib.Core.Path.{_≡_};
-ghost use Rattle.rows.specs.Isotherm.{quarters, tauPowers, isotherm};
+ghost use Rattle.numeric.specs.Working.{plain};
+ghost use Rattle.roots.specs.Root.{root};
+ghost use Rattle.roots.specs.Formula.{value};
+ghost use Rattle.rows.specs.Isotherm.{half, tauOf, quarters, tauPowers, isotherm};
+use numeric::constant::span_wagner;
 use numeric::power::powers_to_3;
 use numeric::power::powers_to_28;
+use numeric::working::over;
+use numeric::working::plain;
+use roots::exponent::Exponent;
+use roots::root::root;
 
 pub struct Isotherm {
+    pub t: f64,
     pub tau: f64,
     // τᵗ of rows 1 to 39
     pub powers: [f64; 39],
@@ -80,11 +89,23 @@ fn tau_powers(tau: f64, quarter: f64) -> [f64; 39]
     a
 }
 
-// From τ and its quarter root.
-pub fn at_temperature(tau: f64, quarter: f64) -> Isotherm
-    ensures { λ r. ⌜ r ≡ isotherm tau quarter ⌝ }
+fn half_of(x: f64) -> f64
+    ensures { λ r. ⌜ r ≡ plain (root half x) ⌝ }
 {
-    let powers = tau_powers(tau, quarter);
+    plain(root(x, Exponent { m: 1, k: 2 }))
+}
+
+fn tau_at(t: f64) -> f64
+    ensures { λ r. ⌜ r ≡ value (tauOf t) ⌝ }
+{
+    over(span_wagner().temperature, t)
+}
+
+pub fn at_temperature(t: f64) -> Isotherm
+    ensures { λ r. ⌜ r ≡ isotherm t ⌝ }
+{
+    let tau = tau_at(t);
+    let powers = tau_powers(tau, half_of(half_of(tau)));
     let spread = [
         325.0 * ((tau - 1.16) * (tau - 1.16)),
         300.0 * ((tau - 1.19) * (tau - 1.19)),
@@ -94,6 +115,7 @@ pub fn at_temperature(tau: f64, quarter: f64) -> Isotherm
     ];
     let cold = 275.0 * ((tau - 1.0) * (tau - 1.0));
     Isotherm {
+        t,
         tau,
         powers,
         spread,

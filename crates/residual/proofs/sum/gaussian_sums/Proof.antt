@@ -96,11 +96,11 @@ loop-again c =
     let e : a .p .bells ≡ bells (a .iso .spread) (a .p .delta) = ap (λ (q : Point). q .bells) pre in (
       omega arith,
       dues-more (a .all) figures (λ k. onto (checked (of (a .start) k)) (figures k)) i (l .loop .s) (c .grow .result) term (of (b .gaussian-brackets .result)) (c .grow .ensures)
-      (λ k. (
-        rw (gaussian-length (a .iso) (a .p .delta) k) (omega arith),
-        rw (b .gaussian-brackets .ensures, of-five (λ j. value (gaussianBracket (a .p .delta) (a .iso .tau) r j)) k, t .gaussians .ensures, d, e) (gaussian-there (a .iso) (a .p .delta) k i (omega arith)),
-      ))
-      (l .loop .inv .1),
+          (λ k. (
+            rw (gaussian-length (a .iso) (a .p .delta) k) (omega arith),
+            rw (b .gaussian-brackets .ensures, of-five (λ j. value (gaussianBracket (a .p .delta) (a .iso .tau) r j)) k, t .gaussians .ensures, d, e) (gaussian-there (a .iso) (a .p .delta) k i (omega arith)),
+          ))
+          (l .loop .inv .1),
     )
 
 returns : tie.Need-returns Inv-loop μ-loop

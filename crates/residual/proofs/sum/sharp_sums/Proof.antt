@@ -51,14 +51,14 @@ returns c =
     let rows = t .non-analytics .ensures in
     let e = q .at-critical .ensures in
     λ k h.
-        sharpened (a .all) (c2 .sharpen2 .result) (c .sharpen3 .result) _ (row 2) _ n _ (parts (row 2) n (a .iso .tau) (a .iso .cold)) (a .delta) (a .iso .tau) k
-        (ap (λ (l : List NonAnalytic). getD l 2 blank) rows) (ap (λ (x : Critical). x .near) e) (ap (λ (x : Critical). x .third) e) h (c .sharpen3 .ensures)
-        ∙ ap (λ (u : Worked). u +ᵂ sharpFigure (a .iso) (a .delta) k (row 2))
-        (sharpened (a .all) (c1 .sharpen .result) (c2 .sharpen2 .result) _ (row 1) _ n _ (parts (row 1) n (a .iso .tau) (a .iso .cold)) (a .delta) (a .iso .tau) k
-        (ap (λ (l : List NonAnalytic). getD l 1 blank) rows) (ap (λ (x : Critical). x .near) e) (ap (λ (x : Critical). x .second) e) h (c2 .sharpen2 .ensures)
-        ∙ ap (λ (u : Worked). u +ᵂ sharpFigure (a .iso) (a .delta) k (row 1))
-        (sharpened (a .all) (a .start) (c1 .sharpen .result) _ (row 0) _ n _ (parts (row 0) n (a .iso .tau) (a .iso .cold)) (a .delta) (a .iso .tau) k
-        (ap (λ (l : List NonAnalytic). getD l 0 blank) rows) (ap (λ (x : Critical). x .near) e) (ap (λ (x : Critical). x .first) e) h (c1 .sharpen .ensures)))
+    sharpened (a .all) (c2 .sharpen2 .result) (c .sharpen3 .result) _ (row 2) _ n _ (parts (row 2) n (a .iso .tau) (a .iso .cold)) (a .delta) (a .iso .tau) k
+    (ap (λ (l : List NonAnalytic). getD l 2 blank) rows) (ap (λ (x : Critical). x .near) e) (ap (λ (x : Critical). x .third) e) h (c .sharpen3 .ensures)
+    ∙ ap (λ (u : Worked). u +ᵂ sharpFigure (a .iso) (a .delta) k (row 2))
+    (sharpened (a .all) (c1 .sharpen .result) (c2 .sharpen2 .result) _ (row 1) _ n _ (parts (row 1) n (a .iso .tau) (a .iso .cold)) (a .delta) (a .iso .tau) k
+    (ap (λ (l : List NonAnalytic). getD l 1 blank) rows) (ap (λ (x : Critical). x .near) e) (ap (λ (x : Critical). x .second) e) h (c2 .sharpen2 .ensures)
+    ∙ ap (λ (u : Worked). u +ᵂ sharpFigure (a .iso) (a .delta) k (row 1))
+    (sharpened (a .all) (a .start) (c1 .sharpen .result) _ (row 0) _ n _ (parts (row 0) n (a .iso .tau) (a .iso .cold)) (a .delta) (a .iso .tau) k
+    (ap (λ (l : List NonAnalytic). getD l 0 blank) rows) (ap (λ (x : Critical). x .near) e) (ap (λ (x : Critical). x .first) e) h (c1 .sharpen .ensures)))
 
 pub sharp-sums-spec : {M : Type 1} → statement M
 sharp-sums-spec =

@@ -41,10 +41,10 @@ returns c =
     let a = t .before .args in
     let d = own (a .iso) (a .delta) _ (t .at-density .ensures) .1 in
     λ k h.
-        in-turn (a .iso) (a .delta) k _ _ _ _ (p .polynomial-sums .ensures k h ∙ ap (λ (x : Float). total (polynomialFigures (a .iso) x k)) d)
-        (e .exponential-sums .ensures k h ∙ ap (λ (x : Float). onto (checked (of (p .polynomial-sums .result) k)) (exponentialFigures (a .iso) x k)) d)
-        (g .gaussian-sums .ensures k h ∙ ap (λ (x : Float). onto (checked (of (e .exponential-sums .result) k)) (gaussianFigures (a .iso) x k)) d)
-        (c .sharp-sums .ensures k h)
+    in-turn (a .iso) (a .delta) k _ _ _ _ (p .polynomial-sums .ensures k h ∙ ap (λ (x : Float). total (polynomialFigures (a .iso) x k)) d)
+    (e .exponential-sums .ensures k h ∙ ap (λ (x : Float). onto (checked (of (p .polynomial-sums .result) k)) (exponentialFigures (a .iso) x k)) d)
+    (g .gaussian-sums .ensures k h ∙ ap (λ (x : Float). onto (checked (of (e .exponential-sums .result) k)) (gaussianFigures (a .iso) x k)) d)
+    (c .sharp-sums .ensures k h)
 
 pub sums-at-spec : {M : Type 1} → statement M
 sums-at-spec =

@@ -1,0 +1,18 @@
+-- The root is the definition's. Assumes nothing.
+use mathlib.Core.Path.{ap, _∙_}
+use Rattle.numeric.specs.Working.{plain}
+use borrow.Author.Needs.{needs}
+use Rattle.rows.proofs.isotherm.half_of.Statement.{statement}
+use Rattle.rows.proofs.isotherm.half_of.Tie as tie
+
+root-requires : tie.Need-root-requires
+root-requires c κs = search needs
+
+plain-requires : tie.Need-plain-requires
+plain-requires c κs = search needs
+
+returns : tie.Need-returns
+returns c = c .plain .ensures ∙ ap plain (c .before .root .ensures)
+
+pub half-of-spec : {M : Type 1} → statement M
+half-of-spec = tie.close (tie.spec root-requires plain-requires returns)

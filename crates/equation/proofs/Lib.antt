@@ -1,2 +1,3 @@
-pub mod Unique
+pub mod Pressures
 pub mod States
+pub mod Unique

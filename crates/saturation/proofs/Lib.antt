@@ -1,2 +1,3 @@
+pub mod Densities
 pub mod Saturations
 pub mod Unique

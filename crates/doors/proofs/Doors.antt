@@ -1,0 +1,42 @@
+-- The ends of a search have no minus sign, and are numbers that an f64 holds. Assumes nothing.
+use mathlib.Core.Path.{_≡_, sym, subst, _∙_}
+use lib.Dec.{T}
+use lib.Ieee.{Float, binary64, mul, fits, ofInt, round}
+use lib.Ieee.Fits.{mul-fits}
+use lib.Ieee.Scale.{finite}
+use Rattle.numeric.specs.Number.{whole, decimal, fraction, nonneg}
+use Rattle.numeric.specs.Working.{checked}
+use Rattle.numeric.specs.declared.working.Worked.{Worked}
+use Rattle.numeric.specs.declared.working.Worked.the-variants.{Number}
+use Rattle.numeric.proofs.Workings.{checked-number}
+use Rattle.roots.specs.Formula.{num, _⊗_, value, work}
+use Rattle.roots.proofs.Formulas.{once}
+use Rattle.roots.proofs.Orders.{mul-unsigned, unsigned-finite}
+use Rattle.doors.specs.Limits.{document01}
+use Rattle.doors.specs.declared.limits.Limits.{Limits}
+
+-- a product as code works it
+pub product : (a d : Float) (w : Worked) → w ≡ checked (mul binary64 a d) → work (num a ⊗ num d) ≡ w
+unfolding value
+product a d w e = sym (e ∙ once (num a ⊗ num d))
+
+-- of numbers that have no minus sign
+pub product-nonneg : (a d x : Float) → T (nonneg a) → T (nonneg d) → work (num a ⊗ num d) ≡ Number x → T (nonneg x) × T (fits binary64 x)
+unfolding value
+product-nonneg a d x p q e =
+    let n = checked-number (mul binary64 a d) x (once (num a ⊗ num d) ∙ e) in (
+      subst (λ (y : Float). T (nonneg y)) (n .0) (unsigned-finite (mul binary64 a d) (mul-unsigned binary64 a d p q) (n .1)),
+      subst (λ (y : Float). T (fits binary64 y)) (n .0) (mul-fits binary64 a d),
+    )
+
+-- document 01's
+pub record Searchable (l : Limits) : Type 0 where
+  pub from : T (nonneg (l .search .from))
+  pub to : T (nonneg (l .search .to))
+  pub held : T (fits binary64 (l .search .to))
+  pub vapour : T (nonneg (l .vapour))
+  pub liquid : T (nonneg (l .liquid))
+
+pub searchable : Searchable document01
+unfolding document01 decimal fraction whole ofInt round fits
+searchable = record { from = tt; to = tt; held = tt; vapour = tt; liquid = tt }

@@ -1,0 +1,2 @@
+pub mod Searches
+pub mod Doors

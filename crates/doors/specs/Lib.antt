@@ -1,0 +1,7 @@
+pub mod Limits
+pub mod Answer
+pub mod Check
+pub mod Equation
+pub mod Search
+pub mod PressureDoor
+pub mod DensityDoor

@@ -9,7 +9,7 @@ use lib.Ieee.{Float, nan, inf, fin, binary64, lt, fits, odd, ofFields, ofBits, t
 use lib.Ieee.Bits.{ofBits-toBits}
 use lib.Ieee.Exact.{HasValue, odd-sign}
 use Rattle.numeric.specs.Number.{nonneg}
-use Rattle.numeric.specs.Halving.{NotAbove, Above, Worthy, worthy}
+use Rattle.halving.specs.Halving.{NotAbove, Above, Worthy, worthy}
 use Rattle.numeric.specs.declared.working.Worked.the-variants.{Number}
 use Rattle.numeric.proofs.Numbers.{infinity}
 use Rattle.rows.specs.declared.isotherm.Isotherm.{Isotherm}

@@ -1,10 +1,10 @@
 -- The search for a density: "Halve with the worked pressure as the figure and the asked one as the target. Then work the state at the found density". Definitions only.
 use Prim.Native.Nat.{ℕ}
 use lib.Ieee.{Float, binary64, ofBits, toBits}
-use Rattle.numeric.specs.Halving.{Figure, halve}
+use Rattle.halving.specs.Halving.{Figure, halve}
 use Rattle.numeric.specs.declared.working.Worked.{Worked}
-use Rattle.numeric.specs.declared.halving.Crossing.{Crossing}
-use Rattle.numeric.specs.declared.halving.Crossing.the-variants.{At, Nowhere, Broke}
+use Rattle.halving.specs.declared.halving.Crossing.{Crossing}
+use Rattle.halving.specs.declared.halving.Crossing.the-variants.{At, Nowhere, Broke}
 use Rattle.equation.specs.declared.state.Stated.{Stated}
 use Rattle.doors.specs.Answer.{settled}
 use Rattle.doors.specs.declared.answer.Phase.{Phase}

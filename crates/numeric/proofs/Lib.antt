@@ -3,5 +3,4 @@ pub mod Tables
 pub mod Numbers
 pub mod Powers
 pub mod Exponentials
-pub mod Halvings
 pub mod Unique

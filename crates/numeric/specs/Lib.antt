@@ -3,4 +3,3 @@ pub mod Constant
 pub mod Working
 pub mod Power
 pub mod Exponential
-pub mod Halving

@@ -17,8 +17,8 @@ use Rattle.roots.specs.Root.{rootBits, rootOf, searched}
 use Rattle.roots.specs.Formula.{Formula, num, _⊕_, _⊖_, _⊗_, _⊘_, _^^_, minus, size, e^, root, absolute, value, work}
 use Rattle.numeric.specs.declared.working.Worked.{Worked}
 use Rattle.numeric.specs.declared.working.Worked.the-variants.{Number, Failed}
-use Rattle.numeric.specs.declared.halving.Crossing.{Crossing}
-use Rattle.numeric.specs.declared.halving.Crossing.the-variants.{At, Nowhere, Broke}
+use Rattle.halving.specs.declared.halving.Crossing.{Crossing}
+use Rattle.halving.specs.declared.halving.Crossing.the-variants.{At, Nowhere, Broke}
 use Rattle.roots.specs.declared.exponent.Exponent.{Exponent}
 use Rattle.numeric.proofs.Workings.{checked-add, checked-sub, checked-mul, checked-div}
 use Rattle.numeric.proofs.Powers.{checked-power}

@@ -6,7 +6,7 @@ use Rattle.numeric.specs.Number.{whole}
 use Rattle.numeric.specs.Working.{_-ᵂ_, _*ᵂ_, _/ᵂ_}
 use Rattle.numeric.specs.Power.{power, _^ᵂ_}
 use Rattle.numeric.specs.Exponential.{exponential, falling, series, squared}
-use Rattle.numeric.specs.Halving.{halve, narrow, middle}
+use Rattle.halving.specs.Halving.{halve, narrow, middle}
 use Rattle.roots.specs.Root.{root, searched, rootBits, powerAt}
 use Rattle.roots.specs.Formula.{work, absolute}
 use Rattle.roots.specs.Readings.{Starred, readings, sizes}

@@ -7,11 +7,11 @@ use lib.Ieee.Scale.{finite}
 use Rattle.numeric.specs.Number.{whole}
 use Rattle.numeric.specs.Working.{checked, then, pick}
 use Rattle.numeric.specs.Power.{_^ᵂ_}
-use Rattle.numeric.specs.Halving.{Figure, halve}
+use Rattle.halving.specs.Halving.{Figure, halve}
 use Rattle.numeric.specs.declared.working.Worked.{Worked}
 use Rattle.numeric.specs.declared.working.Worked.the-variants.{Number, Failed}
-use Rattle.numeric.specs.declared.halving.Crossing.{Crossing}
-use Rattle.numeric.specs.declared.halving.Crossing.the-variants.{At, Nowhere, Broke}
+use Rattle.halving.specs.declared.halving.Crossing.{Crossing}
+use Rattle.halving.specs.declared.halving.Crossing.the-variants.{At, Nowhere, Broke}
 use Rattle.roots.specs.declared.exponent.Exponent.{Exponent}
 
 -- the k-th whole power of the float with the bits b

@@ -9,7 +9,7 @@ ghost use Rattle.numeric.specs.Number.{nonneg};
 ghost use Rattle.numeric.specs.Power.{power};
 ghost use Rattle.roots.specs.Root.{root, rootBits, searched};
 use crate::exponent::Exponent;
-use numeric::halving::Crossing;
+use halving::halving::Crossing;
 use numeric::power::whole_power;
 use numeric::working::Worked;
 use numeric::working::checked;

@@ -1,9 +1,9 @@
 -- The ends are looked at as the definition has it.  Assumes nothing.
 use mathlib.Core.Path.{_≡_, sym, _∙_}
 use native.Mathlib.Omega.{arith}
-use Rattle.numeric.specs.Halving.{met, first-above, second-not-above, at-first, at-second, failed}
+use Rattle.halving.specs.Halving.{met, first-above, second-not-above, at-first, at-second, failed}
 use Rattle.numeric.proofs.Numbers.{no-nan}
-use Rattle.numeric.proofs.Halvings.{nowhere-back, breaks-back}
+use Rattle.halving.proofs.Halvings.{nowhere-back, breaks-back}
 use Rattle.equation.specs.Pressure.{pressureOn}
 use Rattle.doors.specs.Search.{figure}
 use Rattle.doors.proofs.Searches.{is-above, is-not-above, is-worthy}

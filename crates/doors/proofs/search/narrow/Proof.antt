@@ -3,9 +3,9 @@ use mathlib.Core.Path.{_≡_, sym, ap, _∙_}
 use Prim.Native.Nat.{ℕ, _+_, _-_, _≤_, _<_}
 use native.Mathlib.Omega.{arith}
 use borrow.Author.Needs.{needs}
-use Rattle.numeric.specs.Halving.{halve, middle, failed}
+use Rattle.halving.specs.Halving.{halve, middle, failed}
 use Rattle.numeric.proofs.Numbers.{no-nan}
-use Rattle.numeric.proofs.Halvings.{Narrowing, begins, ends-at, to-upper, to-lower, to-broke}
+use Rattle.halving.proofs.Halvings.{Narrowing, begins, ends-at, to-upper, to-lower, to-broke}
 use Rattle.equation.specs.Pressure.{pressureOn}
 use Rattle.doors.specs.Search.{figure}
 use Rattle.doors.proofs.Searches.{is-above, is-not-above}

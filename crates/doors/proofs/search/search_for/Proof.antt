@@ -2,10 +2,10 @@
 use mathlib.Core.Path.{_≡_, sym, ap, _∙_}
 use native.Mathlib.Omega.{arith}
 use lib.Ieee.{binary64, toBits}
-use Rattle.numeric.specs.Halving.{Found}
-use Rattle.numeric.specs.declared.halving.Crossing.{Crossing}
+use Rattle.halving.specs.Halving.{Found}
+use Rattle.halving.specs.declared.halving.Crossing.{Crossing}
 use Rattle.numeric.proofs.Numbers.{no-nan, nonneg-no-nan}
-use Rattle.numeric.proofs.Halvings.{answer}
+use Rattle.halving.proofs.Halvings.{answer}
 use Rattle.equation.specs.Pressure.{pressureOn}
 use Rattle.equation.specs.State.{stateOn}
 use Rattle.doors.specs.Answer.{settled}

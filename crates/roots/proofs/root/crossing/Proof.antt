@@ -5,7 +5,7 @@ use Prim.Native.Nat.{ℕ, _≤_, _<_, _-_, _+_}
 use native.Mathlib.Omega.{arith}
 use borrow.Author.Needs.{needs}
 use lib.Ieee.{Float}
-use Rattle.numeric.specs.Halving.{NotAbove, Above}
+use Rattle.halving.specs.Halving.{NotAbove, Above}
 use Rattle.roots.specs.Root.{powerAt}
 use Rattle.roots.proofs.Roots.{top, first-not-above, above-at, not-above-at, crossing-is, no-crossing}
 use Rattle.roots.proofs.root.crossing.Statement.{statement}

@@ -7,7 +7,7 @@ use lib.Dec.{T}
 use lib.Ieee.{Float}
 use lib.Ieee.Scale.{finite}
 use Rattle.numeric.specs.declared.working.Worked.{Worked}
-use Rattle.numeric.specs.declared.halving.Crossing.the-variants.{At}
+use Rattle.halving.specs.declared.halving.Crossing.the-variants.{At}
 use Rattle.numeric.specs.Number.{nonneg}
 use Rattle.numeric.specs.Power.{power}
 use Rattle.numeric.specs.Working.{checked, then}

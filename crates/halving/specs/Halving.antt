@@ -5,10 +5,10 @@ use mathlib.Core.Bool.{Bool, true, false, cond}
 use lib.Dec.{leb, eqb}
 use lib.Ieee.{Float, lt}
 use lib.Ieee.Scale.{finite}
 use Rattle.numeric.specs.declared.working.Worked.{Worked}
 use Rattle.numeric.specs.declared.working.Worked.the-variants.{Number, Failed}
-use Rattle.numeric.specs.declared.halving.Crossing.{Crossing}
-use Rattle.numeric.specs.declared.halving.Crossing.the-variants.{At, Nowhere, Broke}
+use Rattle.halving.specs.declared.halving.Crossing.{Crossing}
+use Rattle.halving.specs.declared.halving.Crossing.the-variants.{At, Nowhere, Broke}
 
 -- a figure: what is worked at each number of bits
 abbrev pub Figure : Type 0

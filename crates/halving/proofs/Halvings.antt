@@ -9,12 +9,12 @@ use lib.Dec.{leb, ltb, eqb}
 use borrow.Author.Tests.{eqb-true, eqb-false, eq-eqb, ne-eqb, leb-true, leb-false, le-leb, lt-leb, ltb-true, ltb-false}
 use lib.Ieee.{Float, lt, ofInt}
 use lib.Ieee.Scale.{finite}
 use Rattle.numeric.specs.Number.{whole}
-use Rattle.numeric.specs.Halving.{Figure, Side, under, over, broken, side, ifC, half, ends, middle, narrow, halve, NotAbove, Above, Worthy, worthy, Unworthy, failed, unbounded, Found, NoCrossing, met, first-above, second-not-above, Halves, ended, upper, lower, broke, Breaks, at-first, at-second, at-middle}
+use Rattle.halving.specs.Halving.{Figure, Side, under, over, broken, side, ifC, half, ends, middle, narrow, halve, NotAbove, Above, Worthy, worthy, Unworthy, failed, unbounded, Found, NoCrossing, met, first-above, second-not-above, Halves, ended, upper, lower, broke, Breaks, at-first, at-second, at-middle}
 use Rattle.numeric.specs.declared.working.Worked.{Worked}
 use Rattle.numeric.specs.declared.working.Worked.the-variants.{Number, Failed}
-use Rattle.numeric.specs.declared.halving.Crossing.{Crossing}
-use Rattle.numeric.specs.declared.halving.Crossing.the-variants.{At, Nowhere, Broke}
+use Rattle.halving.specs.declared.halving.Crossing.{Crossing}
+use Rattle.halving.specs.declared.halving.Crossing.the-variants.{At, Nowhere, Broke}
 
 -- ---- the middle
 pub record Between (lo hi : ℕ) : Type 0 where

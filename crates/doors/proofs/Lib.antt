@@ -1,2 +1,4 @@
 pub mod Searches
 pub mod Doors
+pub mod Checks
+pub mod PressureDoors

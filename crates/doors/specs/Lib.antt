@@ -5,3 +5,4 @@ pub mod Equation
 pub mod Search
 pub mod PressureDoor
 pub mod DensityDoor
+pub mod Demands

@@ -33,10 +33,11 @@ product-nonneg a d x p q e =
 pub record Searchable (l : Limits) : Type 0 where
   pub from : T (nonneg (l .search .from))
   pub to : T (nonneg (l .search .to))
+  pub low : T (fits binary64 (l .search .from))
   pub held : T (fits binary64 (l .search .to))
   pub vapour : T (nonneg (l .vapour))
   pub liquid : T (nonneg (l .liquid))
 
 pub searchable : Searchable document01
 unfolding document01 decimal fraction whole ofInt round fits
-searchable = record { from = tt; to = tt; held = tt; vapour = tt; liquid = tt }
+searchable = record { from = tt; to = tt; low = tt; held = tt; vapour = tt; liquid = tt }

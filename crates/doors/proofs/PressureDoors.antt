@@ -164,3 +164,22 @@ module _ (E : Equation) (L : Limits) (sane : Sane E L) where
       go : Explains E L sane t p (pressureDoor E L t p) → Answered E L t p x
       go (refuses n f w) = let z : _≡_ {A = ℕ} 0 1 = cc in absurd (omega arith)
       go (answers y f a) = let q : y ≡ x = cc in subst (Answered E L t p) q a
+
+  -- where the search is reached, 9 exactly where there is no crossing
+  pub no-crossing-exactly : NoCrossingExactly E L
+  unfolding searched
+  no-crossing-exactly t p phase from to past ranged =
+      (λ e. is-nowhere (sym (searches E L sane t p past ranged) ∙ e), λ n. refuses-back E L sane t p (no-crossing past ranged n))
+    where
+      of-state : (s : Stated) → settled phase s ≡ answer.Refused 9 → ⊥
+      of-state Unknown e = let z : _≡_ {A = ℕ} 7 9 = cc in omega arith
+      of-state (Known y) e = let z : _≡_ {A = ℕ} 0 1 = cc in omega arith
+
+      of-crossing : (c : Crossing) → halve (figure (E .pressure t)) p (toBits binary64 from) (toBits binary64 to) ≡ c → found (E .state t) phase c ≡ answer.Refused 9
+          → NoCrossing (figure (E .pressure t)) p (toBits binary64 from) (toBits binary64 to)
+      of-crossing (At r) e g = absurd (of-state (E .state t (ofBits binary64 r)) g)
+      of-crossing Nowhere e g = nowhere (figure (E .pressure t)) p (toBits binary64 from) (toBits binary64 to) (sane .ends t p ranged) e
+      of-crossing Broke e g = let z : _≡_ {A = ℕ} 7 9 = cc in absurd (omega arith)
+
+      is-nowhere : searched (E .pressure t) (E .state t) phase from to p ≡ answer.Refused 9 → NoCrossing (figure (E .pressure t)) p (toBits binary64 from) (toBits binary64 to)
+      is-nowhere g = of-crossing (halve (figure (E .pressure t)) p (toBits binary64 from) (toBits binary64 to)) refl g

@@ -1,7 +1,8 @@
 -- What is demanded of the doors, over any equation and any limits: when each refusal is given, and what an answer means. Definitions only.
-use Prim.Native.Nat.{ℕ, _^_, _<_, _≤_}
+use Prim.Native.Nat.{ℕ, _+_, _^_, _<_, _≤_}
 use mathlib.Core.Path.{_≡_}
 use mathlib.Core.Bool.{true, false, _&&_, not}
+use lib.Dec.{T}
 use lib.Ieee.{Float, binary64, eq, lt, le, ofBits, toBits}
 use lib.Ieee.Scale.{finite}
 use Rattle.numeric.specs.declared.working.Worked.the-variants.{Number, Failed}
@@ -144,6 +145,10 @@ module _ (E : Equation) (L : Limits) where
   abbrev pub PressureAnswers : Type 0
   PressureAnswers = (t p : Float) (x : State) → pressureDoor E L t p ≡ answer.State x → Answered E L t p x
 
+  -- "that density and the next float above lie in the range for its phase", as floats
+  abbrev pub LiesInRange : Type 0
+  LiesInRange = (t p : Float) (x : State) (a : Answered E L t p x) → (x .rho ≡ ofBits binary64 (a .bits)) × T (le (a .from) (x .rho)) × T (le (ofBits binary64 (a .bits + 1)) (a .to))
+
   abbrev pub NoCrossingExactly : Type 0
   NoCrossingExactly = (t p : Float) (phase : Phase) (from to : Float) → PastP E L t p → Ranged E L t p phase from to
       → Exactly (pressureDoor E L t p ≡ answer.Refused 9) (NoCrossing (figure (E .pressure t)) p (toBits binary64 from) (toBits binary64 to))
@@ -154,3 +159,7 @@ module _ (E : Equation) (L : Limits) where
   -- "Whenever this door answers for a temperature and density the other door gave, the eight numbers are the same bits"
   abbrev pub SameEight : Type 0
   SameEight = (t p : Float) (x y : State) → pressureDoor E L t p ≡ answer.State x → densityDoor E L t (x .rho) ≡ answer.State y → eightOf y ≡ eightOf x
+
+-- whatever meets a public function's promise (`Post`, its own `ensures`) has it
+abbrev pub Whatever : {A S : Type 0} → (A → Answer → S → Type 0) → (A → Answer → Type 0) → Type 0
+Whatever {A} {S} Post Q = (a : A) (r : Answer) (s : S) → Post a r s → Q a r

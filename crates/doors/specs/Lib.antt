@@ -6,3 +6,4 @@ pub mod Search
 pub mod PressureDoor
 pub mod DensityDoor
 pub mod Demands
+pub mod Readings

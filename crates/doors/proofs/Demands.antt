@@ -1,0 +1,127 @@
+-- The demands, of the public functions: whatever meets a door's promise has them. Assumes nothing.
+use Prim.Native.Nat.{ℕ, _+_, _^_, _<_, _≤_}
+use mathlib.Core.Path.{_≡_, refl, sym, ap, subst, _∙_}
+use native.Mathlib.Omega.{arith}
+use lib.Dec.{T}
+use lib.Ieee.{Float, binary64, le, fits, ofBits, toBits}
+use lib.Ieee.Bits.{ofBits-toBits}
+use Rattle.numeric.specs.Number.{nonneg}
+use Rattle.numeric.proofs.Numbers.{infinity}
+use Rattle.halving.specs.Halving.{NoCrossing}
+use Rattle.roots.proofs.Orders.{bits-mono}
+use Rattle.equation.specs.declared.state.State as Eight
+use Rattle.equation.specs.declared.state.Stated.the-variants.{Known}
+use Rattle.equation.proofs.States.{pressure-of-state}
+use Rattle.saturation.proofs.Densities.{vapour-nonneg, liquid-nonneg}
+use Rattle.doors.specs.Answer.{withPhase}
+use Rattle.doors.specs.Limits.{document01}
+use Rattle.doors.specs.Equation.{Equation, of1996}
+use Rattle.doors.specs.Search.{figure}
+use Rattle.doors.specs.Demands as demands
+use Rattle.doors.specs.Demands.{Whatever, Exactly, PastP, Ranged, supercritical, RefusesP, Answered, RefusesD, AnsweredD, Sane, Settled, given, not-given, eightOf, SameEight, LiesInRange}
+use Rattle.doors.specs.declared.limits.Limits.{Limits}
+use Rattle.doors.specs.declared.answer.Phase.{Phase}
+use Rattle.doors.specs.declared.answer.State.{State}
+use Rattle.doors.specs.declared.answer.Answer.{Answer}
+use Rattle.doors.specs.declared.answer.Answer.the-variants as answer
+use Rattle.doors.proofs.pressure_door.from_pressure.Reads as from-pressure
+use Rattle.doors.proofs.density_door.from_density.Reads as from-density
+use Rattle.doors.proofs.Doors.{searchable, product-nonneg}
+use Rattle.doors.proofs.Searches.{bits-below}
+use Rattle.doors.proofs.PressureDoors.{pressure-refusals, pressure-answers, no-crossing-exactly}
+use Rattle.doors.proofs.DensityDoors.{density-refusals, density-answers}
+
+-- ---- over any equation and limits: the two doors' numbers are the same bits
+pub same-eight : (E : Equation) (L : Limits) → Sane E L → SameEight E L
+same-eight E L sane t p x y e f =
+    let a = pressure-answers E L sane t p x e in
+    let b = density-answers E L t (x .rho) y f in
+    let r = ap (λ (s : State). s .rho) (a .same) ∙ sane .keeps t _ (a .eight) (a .worked) in
+    let g = sym (ap (E .state t) r ∙ a .worked) ∙ b .stated in
+    let h : a .eight ≡ b .eight = cc in
+    ap eightOf (b .same) ∙ sym h ∙ sym (ap eightOf (a .same))
+
+-- ---- 1996 and document 01's numbers are such
+ends : (x : Float) → T (nonneg x) → T (fits binary64 x) → toBits binary64 x ≤ 2 ^ 63
+ends x n f = let b = bits-below x n f in omega arith
+
+sane-ends : (t p : Float) {phase : Phase} {from to : Float} → Ranged of1996 document01 t p phase from to → toBits binary64 to ≤ 2 ^ 63
+unfolding of1996
+sane-ends t p (supercritical h) = ends (document01 .search .to) (searchable .to) (searchable .held)
+sane-ends t p (demands.vapour {s} {d} {to} cold line off below e q) = let n = product-nonneg (document01 .vapour) d to (searchable .vapour) (vapour-nonneg t d e) q in ends to (n .0) (n .1)
+sane-ends t p (demands.liquid cold line off above e q) = ends (document01 .search .to) (searchable .to) (searchable .held)
+
+sane-keeps : (t rho : Float) (x : Eight.State) → of1996 .state t rho ≡ Known x → x .rho ≡ rho
+unfolding of1996
+sane-keeps t rho x e = pressure-of-state t rho x e .2
+
+pub sane : Sane of1996 document01
+sane = record { ends = sane-ends; keeps = sane-keeps }
+
+-- ---- DEMAND 1: every input is answered or refused, and each refusal is given exactly under its condition
+settled : (r : Answer) → Settled r
+settled (answer.State x) = given x refl
+settled (answer.Refused n) = not-given n refl
+
+pub from-pressure-settles : Whatever (from-pressure.Post tt) (λ a r. Settled r)
+from-pressure-settles a r s h = settled r
+
+pub from-density-settles : Whatever (from-density.Post tt) (λ a r. Settled r)
+from-density-settles a r s h = settled r
+
+pub from-pressure-refuses : Whatever (from-pressure.Post tt) (λ a r. (n : ℕ) → Exactly (r ≡ answer.Refused n) (RefusesP of1996 document01 (a .0) (a .1 .0) n))
+from-pressure-refuses a r s h n =
+    let w = pressure-refusals of1996 document01 sane (a .0) (a .1 .0) n in
+    (λ e. w .0 (sym h ∙ e), λ q. h ∙ w .1 q)
+
+pub from-density-refuses : Whatever (from-density.Post tt) (λ a r. (n : ℕ) → Exactly (r ≡ answer.Refused n) (RefusesD of1996 document01 (a .0) (a .1 .0) n))
+from-density-refuses a r s h n =
+    let w = density-refusals of1996 document01 (a .0) (a .1 .0) n in
+    (λ e. w .0 (sym h ∙ e), λ q. h ∙ w .1 q)
+
+-- ---- DEMAND 3: the density and the next float lie in the range, and the pressure passes the one asked for between them; 9 exactly where there is no crossing
+pub from-pressure-answers : Whatever (from-pressure.Post tt) (λ a r. (x : State) → r ≡ answer.State x → Answered of1996 document01 (a .0) (a .1 .0) x)
+from-pressure-answers a r s h x e = pressure-answers of1996 document01 sane (a .0) (a .1 .0) x (sym h ∙ e)
+
+pub from-pressure-nowhere : Whatever (from-pressure.Post tt) (λ a r. (phase : Phase) (from to : Float) → PastP of1996 document01 (a .0) (a .1 .0) → Ranged of1996 document01 (a .0) (a .1 .0) phase from to
+    → Exactly (r ≡ answer.Refused 9) (NoCrossing (figure (of1996 .pressure (a .0))) (a .1 .0) (toBits binary64 from) (toBits binary64 to)))
+from-pressure-nowhere a r s h phase from to past ranged =
+    let w = no-crossing-exactly of1996 document01 sane (a .0) (a .1 .0) phase from to past ranged in
+    (λ e. w .0 (sym h ∙ e), λ q. h ∙ w .1 q)
+
+pub from-density-answers : Whatever (from-density.Post tt) (λ a r. (x : State) → r ≡ answer.State x → AnsweredD of1996 document01 (a .0) (a .1 .0) x)
+from-density-answers a r s h x e = density-answers of1996 document01 (a .0) (a .1 .0) x (sym h ∙ e)
+
+-- the range, as floats
+record Held (from to : Float) : Type 0 where
+  first : T (fits binary64 from)
+  second : T (fits binary64 to)
+  top : toBits binary64 to < infinity
+
+held-end : (x : Float) → T (nonneg x) → T (fits binary64 x) → toBits binary64 x < infinity
+held-end x n f = bits-below x n f
+
+ranges-held : (t p : Float) {phase : Phase} {from to : Float} → Ranged of1996 document01 t p phase from to → Held from to
+unfolding of1996
+ranges-held t p (supercritical h) = record { first = searchable .low; second = searchable .held; top = held-end (document01 .search .to) (searchable .to) (searchable .held) }
+ranges-held t p (demands.vapour {s} {d} {to} cold line off below e q) =
+    let n = product-nonneg (document01 .vapour) d to (searchable .vapour) (vapour-nonneg t d e) q in
+    record { first = searchable .low; second = n .1; top = held-end to (n .0) (n .1) }
+ranges-held t p (demands.liquid {s} {d} {from} cold line off above e q) =
+    let n = product-nonneg (document01 .liquid) d from (searchable .liquid) (liquid-nonneg t d e) q in
+    record { first = n .1; second = searchable .held; top = held-end (document01 .search .to) (searchable .to) (searchable .held) }
+
+pub lies-in-range : LiesInRange of1996 document01
+lies-in-range t p x a =
+    let h = ranges-held t p (a .ranged) in
+    let g = h .top in
+    let u = a .found .from in
+    let v = a .found .to in
+    let r = ap (λ (s : State). s .rho) (a .same) ∙ sane .keeps t _ (a .eight) (a .worked) in
+    let low = bits-mono (toBits binary64 (a .from)) (a .bits) u (omega arith) .order in
+    let high = bits-mono (a .bits + 1) (toBits binary64 (a .to)) v g .order in
+    (r, subst (λ (y : Float). T (le y (x .rho))) (ofBits-toBits binary64 (a .from) (h .first)) (subst (λ (y : Float). T (le (ofBits binary64 (toBits binary64 (a .from))) y)) (sym r) low), subst (λ (y : Float). T (le (ofBits binary64 (a .bits + 1)) y)) (ofBits-toBits binary64 (a .to) (h .second)) high)
+
+-- ---- where the density door answers for what the pressure door gave, the eight numbers are the same bits
+pub doors-agree : SameEight of1996 document01
+doors-agree = same-eight of1996 document01 sane

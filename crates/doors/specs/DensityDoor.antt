@@ -1,15 +1,15 @@
 -- The density door, from a temperature and a density, step by step (document 01), over any equation and any limits. Definitions only.
 use mathlib.Core.Bool.{_&&_, not}
 use lib.Ieee.{Float, lt, le}
-use Rattle.doors.specs.Answer.{settled, thenAnswer, either}
-use Rattle.doors.specs.Check.{checks, passed}
+use Rattle.refusals.specs.Answer.{settled, thenAnswer, either}
+use Rattle.refusals.specs.Check.{checks, passed}
 use Rattle.doors.specs.Equation.{Equation}
-use Rattle.doors.specs.Limits.{outside}
-use Rattle.doors.specs.declared.limits.Limits.{Limits}
-use Rattle.doors.specs.declared.answer.Phase.{Phase}
-use Rattle.doors.specs.declared.answer.Phase.the-variants.{Vapour, Liquid, Supercritical}
-use Rattle.doors.specs.declared.answer.Answer.{Answer}
-use Rattle.doors.specs.declared.answer.Answer.the-variants as answer
+use Rattle.refusals.specs.Limits.{outside}
+use Rattle.refusals.specs.declared.limits.Limits.{Limits}
+use Rattle.refusals.specs.declared.answer.Phase.{Phase}
+use Rattle.refusals.specs.declared.answer.Phase.the-variants.{Vapour, Liquid, Supercritical}
+use Rattle.refusals.specs.declared.answer.Answer.{Answer}
+use Rattle.refusals.specs.declared.answer.Answer.the-variants as answer
 
 module _ (E : Equation) (L : Limits) where
   -- "Work the pressure; not finite: 7; out of range: 5. Then the rest of the state."

@@ -1,20 +1,20 @@
 // The density door: the state at a temperature and a density (document 01, "The doors, step by step"). A step of the
 // definition and a function of the same shape.
 ghost use mathlib.Core.Path.{_≡_};
-ghost use Rattle.doors.specs.Limits.{document01};
+ghost use Rattle.refusals.specs.Limits.{document01};
 ghost use Rattle.doors.specs.Equation.{of1996};
 ghost use Rattle.doors.specs.DensityDoor.{inPhase, below, within, densityDoor};
-use crate::answer::Answer;
-use crate::answer::Phase;
-use crate::answer::settle;
-use crate::check::Check;
-use crate::check::check_inputs;
-use crate::limits::document_01;
-use crate::limits::is_outside;
 use equation::pressure::pressure_on;
 use equation::state::state_on;
 use numeric::constant::span_wagner;
 use numeric::working::Worked;
+use refusals::answer::Answer;
+use refusals::answer::Phase;
+use refusals::answer::settle;
+use refusals::check::Check;
+use refusals::check::check_inputs;
+use refusals::limits::document_01;
+use refusals::limits::is_outside;
 use rows::isotherm::at_temperature;
 use saturation::saturation::liquid_density;
 use saturation::saturation::vapour_density;

@@ -1,18 +1,18 @@
 // The pressure door: the state at a temperature and a pressure (document 01, "The doors, step by step"). A step of the
 // definition and a function of the same shape.
 ghost use mathlib.Core.Path.{_≡_};
-ghost use Rattle.doors.specs.Limits.{document01};
+ghost use Rattle.refusals.specs.Limits.{document01};
 ghost use Rattle.doors.specs.Equation.{of1996};
 ghost use Rattle.doors.specs.PressureDoor.{vapour, liquid, beneath, entered, pressureDoor};
-use crate::answer::Answer;
-use crate::answer::Phase;
-use crate::check::Check;
-use crate::check::check_inputs;
-use crate::limits::document_01;
 use crate::search::search_at;
 use numeric::constant::span_wagner;
 use numeric::working::Worked;
 use numeric::working::checked;
+use refusals::answer::Answer;
+use refusals::answer::Phase;
+use refusals::check::Check;
+use refusals::check::check_inputs;
+use refusals::limits::document_01;
 use saturation::saturation::liquid_density;
 use saturation::saturation::vapour_density;
 use saturation::saturation::vapour_pressure;

@@ -9,13 +9,13 @@ ghost use Rattle.numeric.specs.Number.{nonneg};
 ghost use Rattle.equation.specs.Pressure.{pressureOn, pressure};
 ghost use Rattle.equation.specs.State.{stateOn, state};
 ghost use Rattle.doors.specs.Search.{figure, searched};
-use crate::answer::Answer;
-use crate::answer::Phase;
-use crate::answer::settle;
 use equation::pressure::pressure_on;
 use equation::state::state_on;
 use halving::halving::Crossing;
 use numeric::working::Worked;
+use refusals::answer::Answer;
+use refusals::answer::Phase;
+use refusals::answer::settle;
 use rows::isotherm::Isotherm;
 use rows::isotherm::at_temperature;
 

@@ -3,9 +3,9 @@ use mathlib.Core.Path.{_≡_, refl, sym, ap, subst, _∙_}
 use Rattle.rows.specs.declared.isotherm.Isotherm.{Isotherm}
 use Rattle.equation.specs.Pressure.{pressureOn, pressure}
 use Rattle.equation.specs.State.{stateOn, state}
-use Rattle.doors.specs.Answer.{settled}
-use Rattle.doors.specs.Limits.{outside}
-use Rattle.doors.specs.declared.limits.Limits.{Limits}
+use Rattle.refusals.specs.Answer.{settled}
+use Rattle.refusals.specs.Limits.{outside}
+use Rattle.refusals.specs.declared.limits.Limits.{Limits}
 use Rattle.doors.specs.Equation.{of1996}
 use Rattle.doors.specs.DensityDoor.{inPhase}
 use borrow.Author.Needs.{needs}

@@ -1,9 +1,9 @@
 -- The checks, and the steps after them. Assumes nothing.
 use mathlib.Core.Path.{_≡_, refl, sym, ap, subst, _∙_}
-use Rattle.doors.specs.Check.{checks, passed}
-use Rattle.doors.specs.Limits.{document01}
-use Rattle.doors.specs.declared.check.Check.{Check}
-use Rattle.doors.specs.declared.limits.Limits.{Limits}
+use Rattle.refusals.specs.Check.{checks, passed}
+use Rattle.refusals.specs.Limits.{document01}
+use Rattle.refusals.specs.declared.check.Check.{Check}
+use Rattle.refusals.specs.declared.limits.Limits.{Limits}
 use Rattle.doors.specs.Equation.{of1996}
 use Rattle.doors.specs.PressureDoor.{entered, pressureDoor}
 use borrow.Author.Needs.{needs}

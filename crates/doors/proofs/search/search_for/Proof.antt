@@ -8,7 +8,7 @@ use Rattle.numeric.proofs.Numbers.{no-nan, nonneg-no-nan}
 use Rattle.halving.proofs.Halvings.{answer}
 use Rattle.equation.specs.Pressure.{pressureOn}
 use Rattle.equation.specs.State.{stateOn}
-use Rattle.doors.specs.Answer.{settled}
+use Rattle.refusals.specs.Answer.{settled}
 use Rattle.doors.specs.Search.{figure, found, searched}
 use Rattle.doors.proofs.Searches.{bits-below}
 use borrow.Author.Needs.{needs}

@@ -6,10 +6,10 @@ use Rattle.numeric.specs.declared.working.Worked.the-variants.{Number, Failed}
 use Rattle.equation.specs.declared.state.State as Eight
 use Rattle.equation.specs.declared.state.Stated.{Stated}
 use Rattle.equation.specs.declared.state.Stated.the-variants.{Known, Unknown}
-use Rattle.doors.specs.declared.answer.Phase.{Phase}
-use Rattle.doors.specs.declared.answer.State.{State}
-use Rattle.doors.specs.declared.answer.Answer.{Answer}
-use Rattle.doors.specs.declared.answer.Answer.the-variants as answer
+use Rattle.refusals.specs.declared.answer.Phase.{Phase}
+use Rattle.refusals.specs.declared.answer.State.{State}
+use Rattle.refusals.specs.declared.answer.Answer.{Answer}
+use Rattle.refusals.specs.declared.answer.Answer.the-variants as answer
 
 -- the eight numbers and a phase
 abbrev pub withPhase : Phase → Eight.State → State

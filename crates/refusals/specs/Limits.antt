@@ -2,8 +2,8 @@
 use mathlib.Core.Bool.{Bool, true, cond}
 use lib.Ieee.{Float, lt}
 use Rattle.numeric.specs.Number.{whole, decimal}
-use Rattle.doors.specs.declared.limits.Range.{Range}
-use Rattle.doors.specs.declared.limits.Limits.{Limits}
+use Rattle.refusals.specs.declared.limits.Range.{Range}
+use Rattle.refusals.specs.declared.limits.Limits.{Limits}
 
 abbrev pub range : Float → Float → Range
 range from to = record { from = from; to = to }

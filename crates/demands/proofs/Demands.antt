@@ -13,23 +13,23 @@ use Rattle.equation.specs.declared.state.State as Eight
 use Rattle.equation.specs.declared.state.Stated.the-variants.{Known}
 use Rattle.equation.proofs.States.{pressure-of-state}
 use Rattle.saturation.proofs.Densities.{vapour-nonneg, liquid-nonneg}
-use Rattle.doors.specs.Answer.{withPhase}
-use Rattle.doors.specs.Limits.{document01}
+use Rattle.refusals.specs.Answer.{withPhase}
+use Rattle.refusals.specs.Limits.{document01}
 use Rattle.doors.specs.Equation.{Equation, of1996}
 use Rattle.doors.specs.Search.{figure}
-use Rattle.doors.specs.Demands as demands
-use Rattle.doors.specs.Demands.{Whatever, Exactly, PastP, Ranged, supercritical, RefusesP, Answered, RefusesD, AnsweredD, Sane, Settled, given, not-given, eightOf, SameEight, LiesInRange}
-use Rattle.doors.specs.declared.limits.Limits.{Limits}
-use Rattle.doors.specs.declared.answer.Phase.{Phase}
-use Rattle.doors.specs.declared.answer.State.{State}
-use Rattle.doors.specs.declared.answer.Answer.{Answer}
-use Rattle.doors.specs.declared.answer.Answer.the-variants as answer
+use Rattle.demands.specs.Demands as demands
+use Rattle.demands.specs.Demands.{Whatever, Exactly, PastP, Ranged, supercritical, RefusesP, Answered, RefusesD, AnsweredD, Sane, Settled, given, not-given, eightOf, SameEight, LiesInRange}
+use Rattle.refusals.specs.declared.limits.Limits.{Limits}
+use Rattle.refusals.specs.declared.answer.Phase.{Phase}
+use Rattle.refusals.specs.declared.answer.State.{State}
+use Rattle.refusals.specs.declared.answer.Answer.{Answer}
+use Rattle.refusals.specs.declared.answer.Answer.the-variants as answer
 use Rattle.doors.proofs.pressure_door.from_pressure.Reads as from-pressure
 use Rattle.doors.proofs.density_door.from_density.Reads as from-density
 use Rattle.doors.proofs.Doors.{searchable, product-nonneg}
 use Rattle.doors.proofs.Searches.{bits-below}
-use Rattle.doors.proofs.PressureDoors.{pressure-refusals, pressure-answers, no-crossing-exactly}
-use Rattle.doors.proofs.DensityDoors.{density-refusals, density-answers}
+use Rattle.demands.proofs.PressureDoors.{pressure-refusals, pressure-answers, no-crossing-exactly}
+use Rattle.demands.proofs.DensityDoors.{density-refusals, density-answers}
 
 -- ---- over any equation and limits: the two doors' numbers are the same bits
 pub same-eight : (E : Equation) (L : Limits) → Sane E L → SameEight E L

@@ -5,10 +5,10 @@ use lib.Ieee.{Float, binary64, div}
 use Rattle.numeric.specs.Number.{whole}
 use Rattle.numeric.specs.declared.working.Worked.{Worked}
 use Rattle.roots.specs.Readings as numerics
-use Rattle.doors.specs.Limits.{document01}
-use Rattle.doors.specs.Check.{checks}
-use Rattle.doors.specs.declared.check.Check.{Check}
-use Rattle.doors.specs.declared.check.Check.the-variants.{Passed, No}
+use Rattle.refusals.specs.Limits.{document01}
+use Rattle.refusals.specs.Check.{checks}
+use Rattle.refusals.specs.declared.check.Check.{Check}
+use Rattle.refusals.specs.declared.check.Check.the-variants.{Passed, No}
 
 -- what a reading is of: a number that is worked, or the checks on the inputs
 pub data Read : Type 0 where

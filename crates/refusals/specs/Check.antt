@@ -2,13 +2,13 @@
 use mathlib.Core.Bool.{Bool, true, false, _&&_, not}
 use lib.Ieee.{Float}
 use lib.Ieee.Scale.{finite}
-use Rattle.doors.specs.Limits.{outside}
-use Rattle.doors.specs.declared.limits.Range.{Range}
-use Rattle.doors.specs.declared.limits.Limits.{Limits}
-use Rattle.doors.specs.declared.answer.Answer.{Answer}
-use Rattle.doors.specs.declared.answer.Answer.the-variants as answer
-use Rattle.doors.specs.declared.check.Check.{Check}
-use Rattle.doors.specs.declared.check.Check.the-variants.{Passed, No}
+use Rattle.refusals.specs.Limits.{outside}
+use Rattle.refusals.specs.declared.limits.Range.{Range}
+use Rattle.refusals.specs.declared.limits.Limits.{Limits}
+use Rattle.refusals.specs.declared.answer.Answer.{Answer}
+use Rattle.refusals.specs.declared.answer.Answer.the-variants as answer
+use Rattle.refusals.specs.declared.check.Check.{Check}
+use Rattle.refusals.specs.declared.check.Check.the-variants.{Passed, No}
 
 abbrev pub if : Bool → Check → Check → Check
 if true a b = a

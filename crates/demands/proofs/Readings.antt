@@ -6,9 +6,9 @@ use Rattle.numeric.specs.Number.{whole, decimal, fraction}
 use Rattle.numeric.specs.declared.working.Worked.{Worked}
 use Rattle.roots.specs.Readings as numerics
 use Rattle.roots.proofs.Readings as numerics-read
-use Rattle.doors.specs.Limits.{document01}
-use Rattle.doors.specs.Check.{checks}
-use Rattle.doors.specs.Readings.{Read, number, Starred, at, of-doors, readings}
+use Rattle.refusals.specs.Limits.{document01}
+use Rattle.refusals.specs.Check.{checks}
+use Rattle.demands.specs.Readings.{Read, number, Starred, at, of-doors, readings}
 
 abbrev worked : List Starred → List Read
 worked rs = map (λ (r : Starred). r .worked) rs

@@ -1,6 +1,6 @@
 // Document 01, "Constants and ranges": ends are inside.
 ghost use mathlib.Core.Path.{_≡_};
-ghost use Rattle.doors.specs.Limits.{outside, document01};
+ghost use Rattle.refusals.specs.Limits.{outside, document01};
 
 pub struct Range {
     pub from: f64,
@@ -67,7 +67,7 @@ pub fn document_01() -> Limits
     DOCUMENT_01
 }
 
-pub(crate) fn is_outside(r: Range, x: f64) -> bool
+pub fn is_outside(r: Range, x: f64) -> bool
     ensures { λ b. ⌜ b ≡ outside r x ⌝ }
 {
     if x < r.from { true } else { r.to < x }

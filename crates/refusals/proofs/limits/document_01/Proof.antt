@@ -2,9 +2,9 @@
 use mathlib.Core.Path.{refl}
 use lib.Ieee.{ofBits, ofInt, round}
 use Rattle.numeric.specs.Number.{decimal, fraction, whole}
-use Rattle.doors.specs.Limits.{document01}
-use Rattle.doors.proofs.limits.document_01.Statement.{statement}
-use Rattle.doors.proofs.limits.document_01.Tie as tie
+use Rattle.refusals.specs.Limits.{document01}
+use Rattle.refusals.proofs.limits.document_01.Statement.{statement}
+use Rattle.refusals.proofs.limits.document_01.Tie as tie
 
 returns : tie.Need-returns
 unfolding document01 decimal fraction whole ofBits ofInt round

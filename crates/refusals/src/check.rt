@@ -1,6 +1,6 @@
 // The checks on a door's inputs, "3, 4, 5, 6 on its inputs" (document 01).
 ghost use mathlib.Core.Path.{_≡_};
-ghost use Rattle.doors.specs.Check.{checks};
+ghost use Rattle.refusals.specs.Check.{checks};
 use crate::limits::Limits;
 use crate::limits::Range;
 use crate::limits::is_outside;
@@ -12,7 +12,7 @@ pub enum Check {
 }
 
 // x is the pressure or the density, with its range and that of its critical box.
-pub(crate) fn check_inputs(l: Limits, asked: Range, critical: Range, t: f64, x: f64) -> Check
+pub fn check_inputs(l: Limits, asked: Range, critical: Range, t: f64, x: f64) -> Check
     ensures { λ r. ⌜ r ≡ checks l asked critical t x ⌝ }
 {
     if is_finite(t) {} else {

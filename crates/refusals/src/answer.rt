@@ -1,6 +1,6 @@
 // What a door answers: a state, or the number of its refusal and nothing else.
 ghost use mathlib.Core.Path.{_≡_};
-ghost use Rattle.doors.specs.Answer.{settled};
+ghost use Rattle.refusals.specs.Answer.{settled};
 use equation::state::Stated;
 
 pub enum Phase {
@@ -28,7 +28,7 @@ pub enum Answer {
 }
 
 // The eight numbers with their phase; 7 where the working failed.
-pub(crate) fn settle(phase: Phase, s: Stated) -> Answer
+pub fn settle(phase: Phase, s: Stated) -> Answer
     ensures { λ r. ⌜ r ≡ settled phase s ⌝ }
 {
     let Stated::Known(x) = s else {

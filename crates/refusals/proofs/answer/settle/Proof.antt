@@ -1,10 +1,10 @@
 -- The eight numbers, or 7. Assumes nothing.
 use mathlib.Core.Path.{_≡_, sym, ap}
 use Rattle.equation.specs.declared.state.Stated.{Stated}
-use Rattle.doors.specs.Answer.{settled}
+use Rattle.refusals.specs.Answer.{settled}
 use borrow.Author.Needs.{needs}
-use Rattle.doors.proofs.answer.settle.Statement.{statement}
-use Rattle.doors.proofs.answer.settle.Tie as tie
+use Rattle.refusals.proofs.answer.settle.Statement.{statement}
+use Rattle.refusals.proofs.answer.settle.Tie as tie
 
 enum-known-s : tie.Need-enum-known-s
 enum-known-s c = search needs

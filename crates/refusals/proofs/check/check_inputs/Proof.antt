@@ -1,9 +1,9 @@
 -- Each answer rewrites with the tests that led to it. Assumes nothing.
 use mathlib.Core.Path.{refl, sym, _∙_}
-use Rattle.doors.specs.Check.{checks}
+use Rattle.refusals.specs.Check.{checks}
 use borrow.Author.Needs.{needs}
-use Rattle.doors.proofs.check.check_inputs.Statement.{statement}
-use Rattle.doors.proofs.check.check_inputs.Tie as tie
+use Rattle.refusals.proofs.check.check_inputs.Statement.{statement}
+use Rattle.refusals.proofs.check.check_inputs.Tie as tie
 
 is-finite-requires : tie.Need-is-finite-requires
 is-finite-requires c κs = search needs

@@ -11,19 +11,19 @@ use Rattle.halving.specs.declared.halving.Crossing.the-variants.{At}
 use Rattle.roots.specs.Formula.{num, _⊗_, work}
 use Rattle.equation.specs.declared.state.State as Eight
 use Rattle.equation.specs.declared.state.Stated.the-variants.{Known, Unknown}
-use Rattle.doors.specs.Answer.{withPhase}
+use Rattle.refusals.specs.Answer.{withPhase}
 use Rattle.doors.specs.Equation.{Equation}
-use Rattle.doors.specs.Limits.{outside}
+use Rattle.refusals.specs.Limits.{outside}
 use Rattle.doors.specs.Search.{figure}
-use Rattle.doors.specs.declared.limits.Range.{Range}
-use Rattle.doors.specs.declared.limits.Limits.{Limits}
-use Rattle.doors.specs.declared.answer.Phase.{Phase}
-use Rattle.doors.specs.declared.answer.Phase.the-variants.{Vapour, Liquid, Supercritical}
-use Rattle.doors.specs.declared.answer.State.{State}
-use Rattle.doors.specs.declared.answer.Answer.{Answer}
-use Rattle.doors.specs.declared.answer.Answer.the-variants as answer
+use Rattle.refusals.specs.declared.limits.Range.{Range}
+use Rattle.refusals.specs.declared.limits.Limits.{Limits}
+use Rattle.refusals.specs.declared.answer.Phase.{Phase}
+use Rattle.refusals.specs.declared.answer.Phase.the-variants.{Vapour, Liquid, Supercritical}
+use Rattle.refusals.specs.declared.answer.State.{State}
+use Rattle.refusals.specs.declared.answer.Answer.{Answer}
+use Rattle.refusals.specs.declared.answer.Answer.the-variants as answer
 use Rattle.doors.specs.PressureDoor.{pressureDoor}
 use Rattle.doors.specs.DensityDoor.{densityDoor}
 
 -- ---- the checks on the inputs: 3, 4, 5, 6, each only where none before it holds
 module _ (L : Limits) (asked critical : Range) (t x : Float) where

@@ -1,7 +1,7 @@
 -- Below the first end, or above the second. Assumes nothing.
 use mathlib.Core.Path.{refl}
-use Rattle.doors.proofs.limits.is_outside.Statement.{statement}
-use Rattle.doors.proofs.limits.is_outside.Tie as tie
+use Rattle.refusals.proofs.limits.is_outside.Statement.{statement}
+use Rattle.refusals.proofs.limits.is_outside.Tie as tie
 
 returns : tie.Need-returns
 returns c = rw (c .if1 .taken) refl

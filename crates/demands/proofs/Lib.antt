@@ -1,0 +1,5 @@
+pub mod Checks
+pub mod PressureDoors
+pub mod DensityDoors
+pub mod Demands
+pub mod Readings

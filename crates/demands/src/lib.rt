@@ -1,0 +1,1 @@
+// What is demanded of the doors, as theorems; no code.

@@ -1,5 +1,7 @@
 // The checks on a door's inputs, "3, 4, 5, 6 on its inputs" (document 01).
 ghost use mathlib.Core.Path.{_≡_};
+ghost use mathlib.Core.Bool.{_&&_};
+ghost use lib.Ieee.Scale.{finite};
 ghost use Rattle.refusals.specs.Check.{checks};
 use crate::limits::Limits;
 use crate::limits::Range;
@@ -11,14 +13,17 @@ pub enum Check {
     No(u8),
 }
 
+fn are_finite(x: f64, y: f64) -> bool
+    ensures { λ r. ⌜ r ≡ finite x && finite y ⌝ }
+{
+    if is_finite(x) { is_finite(y) } else { false }
+}
+
 // x is the pressure or the density, with its range and that of its critical box.
 pub fn check_inputs(l: Limits, asked: Range, critical: Range, t: f64, x: f64) -> Check
     ensures { λ r. ⌜ r ≡ checks l asked critical t x ⌝ }
 {
-    if is_finite(t) {} else {
-        return Check::No(3);
-    }
-    if is_finite(x) {} else {
+    if are_finite(t, x) {} else {
         return Check::No(3);
     }
     if is_outside(l.asked.temperature, t) {

@@ -6,15 +6,6 @@ pub fn say(text: &[u8]) {
     io::write_all(STDOUT_FILENO, text);
 }
 
-// A line of a count: the table, the number, and what it counts.
-pub fn count(table: &[u8], n: u64, of_what: &[u8]) {
-    say(table);
-    say(b": ");
-    io::print_decimal(STDOUT_FILENO, n);
-    say(of_what);
-    say(b"\n");
-}
-
 // The whole number at or below x; 0 where there is none.
 fn whole(x: f64) -> u64 {
     if x > -1.0 {
@@ -26,20 +17,14 @@ fn whole(x: f64) -> u64 {
     0
 }
 
-fn six_digits(n: u64) {
-    io::print_decimal(STDOUT_FILENO, n / 100000 % 10);
-    io::print_decimal(STDOUT_FILENO, n / 10000 % 10);
-    io::print_decimal(STDOUT_FILENO, n / 1000 % 10);
-    io::print_decimal(STDOUT_FILENO, n / 100 % 10);
-    io::print_decimal(STDOUT_FILENO, n / 10 % 10);
-    io::print_decimal(STDOUT_FILENO, n % 10);
-}
-
+// The six places are the last digits of a number of seven.
 fn positive(x: f64) {
     let millionths = whole(x * 1000000.0);
+    let mut digits = [0u8; 20];
+    let k = io::decimal(1000000 + millionths % 1000000, &mut digits);
     io::print_decimal(STDOUT_FILENO, millionths / 1000000);
     say(b".");
-    six_digits(millionths % 1000000);
+    say(&digits[1..k]);
 }
 
 // A number with six places, cut off there.
@@ -61,35 +46,15 @@ fn named(text: &[u8], line: usize, column: usize) {
     say(cell_bytes(text, line, column));
 }
 
-// Where a failure is: the row's first two cells, which tell it from others, and the cell as printed.
-fn where_printed(text: &[u8], line: usize, column: usize) {
+// The line of a failure: the row's first two cells, which tell it from others, the cell as printed, and the number that
+// says how it is wrong, after words of what that is.
+pub fn wrong(text: &[u8], line: usize, column: usize, words: &[u8], x: f64) {
     named(text, line, 0);
     say(b", ");
     named(text, line, 1);
     say(b": printed ");
     named(text, line, column);
-}
-
-// The line of a cell that was found wrong, with the number worked in its place.
-pub fn wrong(text: &[u8], line: usize, column: usize, worked: f64) {
-    where_printed(text, line, column);
-    say(b", worked ");
-    show(worked);
-    say(b"\n");
-}
-
-// The line of a density that was found wrong, with the pressure worked at it, in MPa.
-pub fn wrong_density(text: &[u8], line: usize, column: usize, pressure: f64) {
-    where_printed(text, line, column);
-    say(b", pressure worked there ");
-    show(pressure / 1000000.0);
-    say(b"\n");
-}
-
-// The line of a row whose printed h, u and p/rho do not go together: what is left of h - u - p/rho, in kJ/kg.
-pub fn wrong_difference(text: &[u8], line: usize, column: usize, left: f64) {
-    where_printed(text, line, column);
-    say(b", h - u - p/rho is ");
-    show(left / 1000.0);
+    say(words);
+    show(x);
     say(b"\n");
 }

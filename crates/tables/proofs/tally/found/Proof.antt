@@ -1,7 +1,7 @@
 -- By cases on `right`, what `counted` ensures of each count. Assumes nothing.
 use borrow.Author.Needs.{needs}
-use Rattle.findings.proofs.tally.found.Statement.{statement}
-use Rattle.findings.proofs.tally.found.Tie as tie
+use Rattle.tables.proofs.tally.found.Statement.{statement}
+use Rattle.tables.proofs.tally.found.Tie as tie
 
 counted-requires : tie.Need-counted-requires
 counted-requires c κs = search needs

@@ -3,8 +3,8 @@ use mathlib.Core.Path.{sym, subst}
 use borrow.Author.Needs.{needs}
 use lib.Dec.{T}
 use lib.Ieee.{ofBits, neg}
-use Rattle.findings.proofs.tell.whole.Statement.{statement}
-use Rattle.findings.proofs.tell.whole.Tie as tie
+use Rattle.tables.proofs.tell.whole.Statement.{statement}
+use Rattle.tables.proofs.tell.whole.Tie as tie
 
 truncating-f64-to-u64-requires : tie.Need-truncating-f64-to-u64-requires
 unfolding ofBits neg

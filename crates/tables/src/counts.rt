@@ -1,8 +1,8 @@
 // The counts of a table, one a line.
+use crate::table::line_after;
 use crate::tally::Tally;
 use crate::tell::say;
 use libc::STDOUT_FILENO;
-use tables::table::line_after;
 
 // The table, the number, and what it counts, to the line's end. A count with an empty line is not told.
 fn count(table: &[u8], n: u64, of_what: &[u8]) {

@@ -1,7 +1,7 @@
 // What is counted of a table, a number for each of these. No count goes back; one at its largest stays there.
 ghost use Prim.Native.Nat.{_<_};
 ghost use mathlib.Core.Path.{_≡_};
-ghost use Rattle.findings.specs.Tally.{none, more, counted, found};
+ghost use Rattle.tables.specs.Tally.{none, more, counted, found};
 
 pub const ROWS: usize = 0;
 

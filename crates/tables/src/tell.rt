@@ -1,6 +1,9 @@
 // Lines of standard output.
+ghost use Prim.Native.Nat.{_<_};
+use crate::table::cell_bytes;
+use crate::tally::Tally;
+use crate::tally::found;
 use libc::STDOUT_FILENO;
-use tables::table::cell_bytes;
 
 pub fn say(text: &[u8]) {
     io::write_all(STDOUT_FILENO, text);
@@ -48,7 +51,7 @@ fn named(text: &[u8], line: usize, column: usize) {
 
 // The line of a failure: the row's first two cells, which tell it from others, the cell as printed, and the number that
 // says how it is wrong, after words of what that is.
-pub fn wrong(text: &[u8], line: usize, column: usize, words: &[u8], x: f64) {
+fn wrong(text: &[u8], line: usize, column: usize, words: &[u8], x: f64) {
     named(text, line, 0);
     say(b", ");
     named(text, line, 1);
@@ -57,4 +60,23 @@ pub fn wrong(text: &[u8], line: usize, column: usize, words: &[u8], x: f64) {
     say(words);
     show(x);
     say(b"\n");
+}
+
+// A comparison of a cell, counted, and told where it was not found right.
+pub fn judged(
+    text: &[u8],
+    line: usize,
+    column: usize,
+    tally: Tally,
+    which: usize,
+    right: bool,
+    words: &[u8],
+    x: f64,
+) -> Tally
+    requires { ⌜ which < 12 ⌝ }
+{
+    if !right {
+        wrong(text, line, column, words, x);
+    }
+    found(tally, which, right)
 }

@@ -3,8 +3,8 @@ use Prim.Native.Nat.{_≤_, _-_}
 use native.Mathlib.Omega.{arith}
 use lib.ListN.{length}
 use borrow.Author.Needs.{needs}
-use Rattle.findings.proofs.counts.tell_counts.Statement.{statement}
-use Rattle.findings.proofs.counts.tell_counts.Tie as tie
+use Rattle.tables.proofs.counts.tell_counts.Statement.{statement}
+use Rattle.tables.proofs.counts.tell_counts.Tie as tie
 
 abbrev Inv-loop : tie.InvT-loop
 Inv-loop table words tally at₀ i₀ at i = (i ≤ 12) × (at ≤ length words)

@@ -1,14 +1,11 @@
 // 004's Table 35, its isobars, against the equation (document 01, end of "Readings on each side of a boundary";
 // docs/READING.md, D). Every comparison is made at the printed temperature and pressure, from states worked at the
 // printed density and at one unit of its last digit to each side.
+ghost use Prim.Native.Nat.{_<_};
 use equation::pressure::pressure_at;
 use equation::state::State;
 use equation::state::Stated;
 use equation::state::state_at;
-use findings::tally::Tally;
-use findings::tell::wrong;
-use findings::tell::wrong_density;
-use findings::tell::wrong_difference;
 use numeric::working::plain;
 use tables::decimal::Decimal;
 use tables::decimal::lower;
@@ -16,9 +13,22 @@ use tables::decimal::unit;
 use tables::decimal::upper;
 use tables::decimal::value;
 use tables::table::Cell;
-use tables::table::line_after;
 use tables::table::printed;
 use tables::table::says;
+use tables::tally::CELLS;
+use tables::tally::COMPARED;
+use tables::tally::DAMAGED;
+use tables::tally::DIFFERENCES;
+use tables::tally::DIFFERENCES_LEFT_OUT;
+use tables::tally::IN_CRITICAL_BOX;
+use tables::tally::IN_RANGE;
+use tables::tally::ON_MELTING_LINE;
+use tables::tally::ON_SATURATION_LINE;
+use tables::tally::ROWS;
+use tables::tally::Tally;
+use tables::tally::WITHOUT_DENSITY;
+use tables::tally::counted;
+use tables::tell::judged;
 
 // The columns. Pressures are printed in MPa, u and h in kJ/kg, the heat capacities in kJ/(kg K).
 const P: usize = 0;
@@ -43,15 +53,6 @@ const KILO: f64 = 1000.0;
 
 const MEGA: f64 = 1000000.0;
 
-// What the row is compared for, or why it is not.
-enum Kind {
-    OutOfRange,
-    SaturationLine,
-    MeltingLine,
-    CriticalBox,
-    Compared,
-}
-
 // No number, which no comparison finds right, where the cell is damaged.
 fn number(text: &[u8], line: usize, column: usize, scale: f64) -> f64 {
     match printed(text, line, column) {
@@ -60,51 +61,54 @@ fn number(text: &[u8], line: usize, column: usize, scale: f64) -> f64 {
     }
 }
 
-// Document 01, "Constants and ranges".
-fn in_range(t: f64, p: f64) -> bool {
-    if t < 216.592 || 523.0 < t {
-        return false;
-    }
-    10000.0 <= p && p <= 30000000.0
+// No number is outside: its row is compared, and found wrong.
+fn outside(x: f64, least: f64, most: f64) -> bool {
+    x < least || most < x
 }
 
-fn in_critical_box(t: f64, p: f64) -> bool {
-    if t < 303.1282 || 305.1282 < t {
-        return false;
-    }
-    7000000.0 <= p && p <= 8000000.0
-}
-
-fn kind_of(text: &[u8], line: usize) -> Kind {
+// What the row is counted as: compared, or why it is not, ROWS alone where it is out of range. The range is document
+// 01's, "Constants and ranges".
+fn kind_of(text: &[u8], line: usize) -> usize
+    ensures { λ r. ⌜ r < 12 ⌝ }
+{
     let t = number(text, line, T, 1.0);
     let p = number(text, line, P, MEGA);
-    if !in_range(t, p) {
-        return Kind::OutOfRange;
+    if outside(t, 216.592, 523.0) || outside(p, 10000.0, 30000000.0) {
+        return ROWS;
     }
     if says(text, line, FLAG, b"on saturation line") {
-        return Kind::SaturationLine;
+        return ON_SATURATION_LINE;
     }
     if says(text, line, FLAG, b"on melting line") {
-        return Kind::MeltingLine;
+        return ON_MELTING_LINE;
     }
-    if in_critical_box(t, p) {
-        return Kind::CriticalBox;
+    if outside(t, 303.1282, 305.1282) || outside(p, 7000000.0, 8000000.0) {
+        return COMPARED;
     }
-    Kind::Compared
+    IN_CRITICAL_BOX
+}
+
+fn pressure(t: f64, rho: Decimal) -> f64 {
+    plain(pressure_at(t, value(rho, 1.0)))
 }
 
 // Off the saturation line the pressure rises with the density. So the printed density is right within one unit of its
 // last digit where the printed pressure lies between those worked one unit below and above.
-fn density(text: &[u8], line: usize, tally: Tally, rho: Decimal) -> Tally {
-    let t = number(text, line, T, 1.0);
-    let p = number(text, line, P, MEGA);
-    let below = plain(pressure_at(t, value(lower(rho), 1.0)));
-    let above = plain(pressure_at(t, value(upper(rho), 1.0)));
+fn density(text: &[u8], line: usize, tally: Tally, t: f64, p: f64, rho: Decimal) -> Tally {
+    let below = pressure(t, lower(rho));
+    let above = pressure(t, upper(rho));
     let right = below <= p && p <= above;
-    if !right {
-        wrong_density(text, line, RHO, plain(pressure_at(t, value(rho, 1.0))));
-    }
-    tally.cell(right)
+    let worked = pressure(t, rho);
+    judged(
+        text,
+        line,
+        RHO,
+        tally,
+        CELLS,
+        right,
+        b", pressure worked there ",
+        worked / MEGA,
+    )
 }
 
 // How far p lies on the way from `below` to `above`; beyond either, no further than it.
@@ -123,20 +127,26 @@ fn on_the_way(from: f64, to: f64, share: f64) -> f64 {
 // Right within one unit of the cell's last digit.
 fn quantity(text: &[u8], line: usize, tally: Tally, column: usize, scale: f64, x: f64) -> Tally {
     let Cell::Readable(d) = printed(text, line, column) else {
-        return tally.cell_damaged();
+        return counted(tally, DAMAGED);
     };
     let one = unit(d, scale);
     let y = value(d, scale);
     let right = x - one <= y && y <= x + one;
-    if !right {
-        wrong(text, line, column, x / scale);
-    }
-    tally.cell(right)
+    judged(
+        text,
+        line,
+        column,
+        tally,
+        CELLS,
+        right,
+        b", worked ",
+        x / scale,
+    )
 }
 
 // The quantities at the printed pressure, on the straight line between two states.
-fn quantities(text: &[u8], line: usize, tally: Tally, a: State, b: State) -> Tally {
-    let x = share(number(text, line, P, MEGA), a.p, b.p);
+fn quantities(text: &[u8], line: usize, tally: Tally, p: f64, a: State, b: State) -> Tally {
+    let x = share(p, a.p, b.p);
     let tally = quantity(text, line, tally, U, KILO, on_the_way(a.u, b.u, x));
     let tally = quantity(text, line, tally, H, KILO, on_the_way(a.h, b.h, x));
     let tally = quantity(text, line, tally, CV, KILO, on_the_way(a.cv, b.cv, x));
@@ -146,13 +156,20 @@ fn quantities(text: &[u8], line: usize, tally: Tally, a: State, b: State) -> Tal
 
 // A working that fails has no number, and is told as a wrong density.
 fn not_worked(text: &[u8], line: usize, tally: Tally) -> Tally {
-    wrong_density(text, line, RHO, 0.0 / 0.0);
-    tally.cell(false)
+    judged(
+        text,
+        line,
+        RHO,
+        tally,
+        CELLS,
+        false,
+        b", pressure worked there ",
+        0.0 / 0.0,
+    )
 }
 
 // The states at the printed density and one unit to each side. The printed pressure lies between two of them.
-fn states(text: &[u8], line: usize, tally: Tally, rho: Decimal) -> Tally {
-    let t = number(text, line, T, 1.0);
+fn states(text: &[u8], line: usize, tally: Tally, t: f64, p: f64, rho: Decimal) -> Tally {
     let Stated::Known(a) = state_at(t, value(lower(rho), 1.0)) else {
         return not_worked(text, line, tally);
     };
@@ -162,78 +179,74 @@ fn states(text: &[u8], line: usize, tally: Tally, rho: Decimal) -> Tally {
     let Stated::Known(c) = state_at(t, value(upper(rho), 1.0)) else {
         return not_worked(text, line, tally);
     };
-    if number(text, line, P, MEGA) < b.p {
-        return quantities(text, line, tally, a, b);
+    if p < b.p {
+        return quantities(text, line, tally, p, a, b);
     }
-    quantities(text, line, tally, b, c)
+    quantities(text, line, tally, p, b, c)
 }
 
 // h − u = p/ρ within the printed digits: a unit of h, one of u, and p/ρ² times one of ρ.
-fn difference(text: &[u8], line: usize, tally: Tally, rho: Decimal) -> Tally {
+fn difference(text: &[u8], line: usize, tally: Tally, p: f64, rho: Decimal) -> Tally {
     let Cell::Readable(u) = printed(text, line, U) else {
-        return tally.difference_left_out();
+        return counted(tally, DIFFERENCES_LEFT_OUT);
     };
     let Cell::Readable(h) = printed(text, line, H) else {
-        return tally.difference_left_out();
+        return counted(tally, DIFFERENCES_LEFT_OUT);
     };
-    let quotient = number(text, line, P, MEGA) / value(rho, 1.0);
+    let quotient = p / value(rho, 1.0);
     let left = value(h, KILO) - value(u, KILO) - quotient;
     let room = unit(h, KILO) + unit(u, KILO) + quotient / value(rho, 1.0) * unit(rho, 1.0);
     let right = -room <= left && left <= room;
-    if !right {
-        wrong_difference(text, line, RHO, left);
-    }
-    tally.difference(right)
+    judged(
+        text,
+        line,
+        RHO,
+        tally,
+        DIFFERENCES,
+        right,
+        b", h - u - p/rho is ",
+        left / KILO,
+    )
 }
 
 fn left_out(text: &[u8], line: usize, tally: Tally, column: usize) -> Tally {
     match printed(text, line, column) {
-        Cell::Readable(_) => tally.cell_without_density(),
-        Cell::Damaged => tally.cell_damaged(),
+        Cell::Readable(_) => counted(tally, WITHOUT_DENSITY),
+        Cell::Damaged => counted(tally, DAMAGED),
     }
 }
 
 // Nothing of a row can be compared without its density.
 fn without_density(text: &[u8], line: usize, tally: Tally) -> Tally {
-    let tally = tally.cell_damaged();
+    let tally = counted(tally, DAMAGED);
     let tally = left_out(text, line, tally, U);
     let tally = left_out(text, line, tally, H);
     let tally = left_out(text, line, tally, CV);
     let tally = left_out(text, line, tally, CP);
     let tally = left_out(text, line, tally, W);
-    tally.difference_left_out()
+    counted(tally, DIFFERENCES_LEFT_OUT)
 }
 
 fn compared(text: &[u8], line: usize, tally: Tally) -> Tally {
     let Cell::Readable(rho) = printed(text, line, RHO) else {
         return without_density(text, line, tally);
     };
-    let tally = density(text, line, tally, rho);
-    let tally = states(text, line, tally, rho);
-    difference(text, line, tally, rho)
+    let t = number(text, line, T, 1.0);
+    let p = number(text, line, P, MEGA);
+    let tally = density(text, line, tally, t, p, rho);
+    let tally = states(text, line, tally, t, p, rho);
+    difference(text, line, tally, p, rho)
 }
 
-fn in_our_range(text: &[u8], line: usize, tally: Tally, kind: Kind) -> Tally {
-    match kind {
-        Kind::OutOfRange => tally,
-        Kind::SaturationLine => tally.row_in_range().row_on_saturation_line(),
-        Kind::MeltingLine => tally.row_in_range().row_on_melting_line(),
-        Kind::CriticalBox => tally.row_in_range().row_in_critical_box(),
-        Kind::Compared => compared(text, line, tally.row_in_range().row_compared()),
+pub fn row(text: &[u8], line: usize, tally: Tally) -> Tally {
+    let kind = kind_of(text, line);
+    let tally = counted(tally, ROWS);
+    if kind == ROWS {
+        return tally;
     }
-}
-
-fn row(text: &[u8], line: usize, tally: Tally) -> Tally {
-    in_our_range(text, line, tally.row(), kind_of(text, line))
-}
-
-// The first line names the columns.
-pub fn isobars(text: &[u8]) -> Tally {
-    let mut tally = Tally::new();
-    let mut line = line_after(text, 0);
-    while line < text.len() {
-        tally = row(text, line, tally);
-        line = line_after(text, line);
+    let tally = counted(counted(tally, IN_RANGE), kind);
+    if kind == COMPARED {
+        return compared(text, line, tally);
     }
     tally
 }

@@ -3,17 +3,17 @@ use Prim.Native.Nat.{_≤_, _-_}
 use native.Mathlib.Omega.{arith}
 use lib.ListN.{length}
 use borrow.Author.Needs.{needs}
-use Rattle.table34.proofs.saturated.saturations.Statement.{statement}
-use Rattle.table34.proofs.saturated.saturations.Tie as tie
+use Rattle.isobars.proofs.lines.Statement.{statement}
+use Rattle.isobars.proofs.lines.Tie as tie
 
 abbrev Inv-loop : tie.InvT-loop
-Inv-loop text tally₀ line₀ tally line = line ≤ length text
+Inv-loop text saturation tally₀ line₀ tally line = line ≤ length text
 
 abbrev μ-loop : tie.MeasureT-loop
-μ-loop text tally₀ line₀ tally line = length text - line
+μ-loop text saturation tally₀ line₀ tally line = length text - line
 
-new-requires : tie.Need-new-requires Inv-loop μ-loop
-new-requires c κs = search needs
+none-requires : tie.Need-none-requires Inv-loop μ-loop
+none-requires c κs = search needs
 
 line-after-requires : tie.Need-line-after-requires Inv-loop μ-loop
 line-after-requires c κs = search needs
@@ -36,13 +36,13 @@ loop-again c = search needs
 returns : tie.Need-returns Inv-loop μ-loop
 returns c = search needs
 
-pub saturations-spec : {M : Type 1} → statement M
-saturations-spec =
+pub lines-spec : {M : Type 1} → statement M
+lines-spec =
     tie.close
     (tie.spec
     Inv-loop
     μ-loop
-    new-requires
+    none-requires
     line-after-requires
     loop-holds
     row-requires

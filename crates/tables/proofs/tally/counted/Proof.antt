@@ -1,7 +1,7 @@
 -- The place that was asked for holds what `more` answers. Assumes nothing.
 use borrow.Author.Needs.{needs}
-use Rattle.findings.proofs.tally.counted.Statement.{statement}
-use Rattle.findings.proofs.tally.counted.Tie as tie
+use Rattle.tables.proofs.tally.counted.Statement.{statement}
+use Rattle.tables.proofs.tally.counted.Tie as tie
 
 mul-more : tie.Need-mul-more
 mul-more c = search needs

@@ -2,6 +2,7 @@
 // standard output.
 pub mod counts;
 pub mod decimal;
+pub mod place;
 pub mod table;
 pub mod tally;
 pub mod tell;

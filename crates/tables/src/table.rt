@@ -5,6 +5,7 @@ ghost use lib.ListN.{length};
 use crate::decimal::Decimal;
 use crate::decimal::Printed;
 use crate::decimal::read_decimal;
+use crate::place::place_of;
 
 // The place of `bad_cells` in both tables.
 const BAD_CELLS: usize = 11;
@@ -13,21 +14,6 @@ const BAD_CELLS: usize = 11;
 pub enum Cell {
     Readable(Decimal),
     Damaged,
-}
-
-// The first place of `mark` at or after `at`, or the end.
-fn place_of(text: &[u8], at: usize, mark: u8) -> usize
-    requires { ⌜ at ≤ length (now text) ⌝ }
-    ensures { λ r. ⌜ (at ≤ r) × (r ≤ length (now (text .entry))) ⌝ }
-{
-    let mut i = at;
-    while i < text.len() {
-        if text[i] == mark {
-            return i;
-        }
-        i += 1;
-    }
-    i
 }
 
 fn after(text: &[u8], at: usize, mark: u8) -> usize
@@ -51,42 +37,12 @@ pub fn line_after(text: &[u8], at: usize) -> usize
     text.len()
 }
 
-fn ends_cell(b: u8, quoted: bool) -> bool {
-    if quoted {
-        return false;
-    }
-    if b == b',' {
-        return true;
-    }
-    b == b'\n'
-}
-
-fn quoted_after(b: u8, quoted: bool) -> bool {
-    if b == b'"' { !quoted } else { quoted }
-}
-
-fn cell_end(text: &[u8], at: usize) -> usize
-    requires { ⌜ at ≤ length (now text) ⌝ }
-    ensures { λ r. ⌜ (at ≤ r) × (r ≤ length (now (text .entry))) ⌝ }
-{
-    let mut quoted = false;
-    let mut i = at;
-    while i < text.len() {
-        if ends_cell(text[i], quoted) {
-            return i;
-        }
-        quoted = quoted_after(text[i], quoted);
-        i += 1;
-    }
-    i
-}
-
 // The cell after the one at `at`; where the line ends, the empty cell there.
 fn cell_after(text: &[u8], at: usize) -> usize
     requires { ⌜ at ≤ length (now text) ⌝ }
     ensures { λ r. ⌜ r ≤ length (now (text .entry)) ⌝ }
 {
-    let end = cell_end(text, at);
+    let end = place_of(text, at, b',');
     if end < text.len() {
         if text[end] == b',' {
             return end + 1;
@@ -117,7 +73,7 @@ pub fn cell_bytes(text: &[u8], line: usize, column: usize) -> &[u8]
         return &text[..0];
     }
     let start = cell_start(text, line, column);
-    let end = cell_end(text, start);
+    let end = place_of(text, start, b',');
     &text[start..end]
 }
 

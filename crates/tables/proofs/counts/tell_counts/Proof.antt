@@ -1,4 +1,4 @@
--- Each line of words starts within them, and twelve counts are told at the most. Assumes nothing.
+-- There are twelve counts. The measure is how many are left. Assumes nothing.
 use Prim.Native.Nat.{_≤_, _-_}
 use native.Mathlib.Omega.{arith}
 use lib.ListN.{length}
@@ -15,23 +15,11 @@ abbrev μ-loop : tie.MeasureT-loop
 loop-holds : tie.Need-loop-holds Inv-loop μ-loop
 loop-holds c = search needs
 
-line-after-requires : tie.Need-line-after-requires Inv-loop μ-loop
-line-after-requires c κs = search needs
-
 mul-count : tie.Need-mul-count Inv-loop μ-loop
 mul-count c = search needs
 
 array-read-count : tie.Need-array-read-count Inv-loop μ-loop
 array-read-count c = search needs
-
-sub-count : tie.Need-sub-count Inv-loop μ-loop
-sub-count c = search needs
-
-part-count-start : tie.Need-part-count-start Inv-loop μ-loop
-part-count-start c = search needs
-
-part-count-end : tie.Need-part-count-end Inv-loop μ-loop
-part-count-end c = search needs
 
 count-requires : tie.Need-count-requires Inv-loop μ-loop
 count-requires c κs = search needs
@@ -55,12 +43,8 @@ tell-counts-spec =
     Inv-loop
     μ-loop
     loop-holds
-    line-after-requires
     mul-count
     array-read-count
-    sub-count
-    part-count-start
-    part-count-end
     count-requires
     add-i
     loop-less

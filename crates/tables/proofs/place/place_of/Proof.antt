@@ -2,23 +2,23 @@
 use Prim.Native.Nat.{_≤_, _-_}
 use lib.ListN.{length}
 use borrow.Author.Needs.{needs}
-use Rattle.tables.proofs.table.cell_end.Statement.{statement}
-use Rattle.tables.proofs.table.cell_end.Tie as tie
+use Rattle.tables.proofs.place.place_of.Statement.{statement}
+use Rattle.tables.proofs.place.place_of.Tie as tie
 
 abbrev Inv-loop : tie.InvT-loop
-Inv-loop text at quoted₀ i₀ quoted i = (at ≤ i) × (i ≤ length text)
+Inv-loop text at mark quoted₀ i₀ quoted i = (at ≤ i) × (i ≤ length text)
 
 abbrev μ-loop : tie.MeasureT-loop
-μ-loop text at quoted₀ i₀ quoted i = length text - i
+μ-loop text at mark quoted₀ i₀ quoted i = length text - i
 
 loop-holds : tie.Need-loop-holds Inv-loop μ-loop
 loop-holds c = search needs
 
-shared-slice-read-ends-cell : tie.Need-shared-slice-read-ends-cell Inv-loop μ-loop
-shared-slice-read-ends-cell c = search needs
+shared-slice-read-ends : tie.Need-shared-slice-read-ends Inv-loop μ-loop
+shared-slice-read-ends c = search needs
 
-ends-cell-requires : tie.Need-ends-cell-requires Inv-loop μ-loop
-ends-cell-requires c κs = search needs
+ends-requires : tie.Need-ends-requires Inv-loop μ-loop
+ends-requires c κs = search needs
 
 returns : tie.Need-returns Inv-loop μ-loop
 returns c = search needs
@@ -41,15 +41,15 @@ loop-again c = search needs
 returns-2 : tie.Need-returns-2 Inv-loop μ-loop
 returns-2 c = search needs
 
-pub cell-end-spec : {M : Type 1} → statement M
-cell-end-spec =
+pub place-of-spec : {M : Type 1} → statement M
+place-of-spec =
     tie.close
     (tie.spec
     Inv-loop
     μ-loop
     loop-holds
-    shared-slice-read-ends-cell
-    ends-cell-requires
+    shared-slice-read-ends
+    ends-requires
     returns
     shared-slice-read-quoted-after
     quoted-after-requires

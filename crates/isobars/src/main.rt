@@ -4,6 +4,8 @@
 mod isobar;
 mod saturated;
 
+ghost use mathlib.Core.Path.{_≡_};
+ghost use lib.ListN.{length};
 use tables::counts::tell_counts;
 use tables::table::line_after;
 use tables::tally::FAILURES;
@@ -80,8 +82,14 @@ fn wrong_saturation() {
 }
 
 // 131,072 bytes hold either table.
+fn space() -> [u8; 131072]
+    ensures { λ r. ⌜ 131072 ≡ length r ⌝ }
+{
+    [0; 131072]
+}
+
 fn compare(file: &[u8], saturation: bool, table: &[u8], words: &[u8]) {
-    let mut space = [0u8; 131072];
+    let mut space = space();
     let fd = os::open_read(file);
     if fd < 0 {
         os::fail(file);

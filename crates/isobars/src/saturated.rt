@@ -6,8 +6,8 @@ use numeric::working::plain;
 use saturation::saturation::liquid_density;
 use saturation::saturation::vapour_density;
 use saturation::saturation::vapour_pressure;
+use tables::decimal::Cell;
 use tables::decimal::value;
-use tables::table::Cell;
 use tables::table::printed;
 use tables::table::says;
 use tables::tally::CELLS;
@@ -66,31 +66,29 @@ fn near(
     )
 }
 
-// 0.015 % to 295 K, 0.04 % to 303 K.
-fn liquid(text: &[u8], line: usize, tally: Tally, t: f64) -> Tally {
+// The liquid's 0.015 % to 295 K and 0.04 % to 303 K, the vapour's 0.025 % and 0.08 %.
+fn density(text: &[u8], line: usize, tally: Tally, t: f64, vapour: bool) -> Tally {
+    if vapour {
+        let part = uncertainty(t, 0.00025, 0.0008);
+        return near(text, line, tally, RHO, 1.0, vapour_density(t), part);
+    }
     let part = uncertainty(t, 0.00015, 0.0004);
     near(text, line, tally, RHO, 1.0, liquid_density(t), part)
-}
-
-// 0.025 % to 295 K, 0.08 % to 303 K.
-fn vapour(text: &[u8], line: usize, tally: Tally, t: f64) -> Tally {
-    let part = uncertainty(t, 0.00025, 0.0008);
-    near(text, line, tally, RHO, 1.0, vapour_density(t), part)
 }
 
 // The vapour pressure stands in the rows of both phases, and is compared in the liquid's. The critical point is one
 // row, whose density is that of both.
 fn compared(text: &[u8], line: usize, tally: Tally, t: f64) -> Tally {
     if says(text, line, PHASE, b"vapour") {
-        return vapour(text, line, tally, t);
+        return density(text, line, tally, t, true);
     }
     let p = vapour_pressure(t);
     let tally = near(text, line, tally, P, 1000000.0, p, OF_PRESSURE);
-    let tally = liquid(text, line, tally, t);
+    let tally = density(text, line, tally, t, false);
     if says(text, line, PHASE, b"liquid") {
         return tally;
     }
-    vapour(text, line, tally, t)
+    density(text, line, tally, t, true)
 }
 
 pub fn row(text: &[u8], line: usize, tally: Tally) -> Tally {

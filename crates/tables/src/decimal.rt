@@ -12,9 +12,10 @@ pub struct Decimal {
     pub places: usize,
 }
 
-pub enum Printed {
-    Number(Decimal),
-    Nothing,
+// A cell's number, or none: `bad_cells` names it, or it holds no number.
+pub enum Cell {
+    Readable(Decimal),
+    Damaged,
 }
 
 // What `digits_of` answers where there is no number.
@@ -68,22 +69,22 @@ fn places_of(cell: &[u8], point: usize) -> usize
 }
 
 // A printed number of the tables has at most seven digits; with more than twelve it is none.
-pub fn read_decimal(cell: &[u8]) -> Printed {
+pub fn read_decimal(cell: &[u8]) -> Cell {
     let from = start(cell);
     let point = place_of(cell, from, b'.');
     let places = places_of(cell, point);
     let digits = digits_of(cell, from, point);
     if digits == NONE {
-        return Printed::Nothing;
+        return Cell::Damaged;
     }
     let before = point - from;
     if before + places == 0 {
-        return Printed::Nothing;
+        return Cell::Damaged;
     }
     if 12 < before + places {
-        return Printed::Nothing;
+        return Cell::Damaged;
     }
-    Printed::Number(Decimal {
+    Cell::Readable(Decimal {
         negative: 0 < from,
         digits,
         places,

@@ -1,5 +1,6 @@
 -- The place lies between `at` and the end. The measure is what is left of the text. Assumes nothing.
 use Prim.Native.Nat.{_≤_, _-_}
+use native.Mathlib.Omega.{arith}
 use lib.ListN.{length}
 use borrow.Author.Needs.{needs}
 use Rattle.tables.proofs.place.place_of.Statement.{statement}
@@ -14,20 +15,14 @@ abbrev μ-loop : tie.MeasureT-loop
 loop-holds : tie.Need-loop-holds Inv-loop μ-loop
 loop-holds c = search needs
 
-shared-slice-read-ends : tie.Need-shared-slice-read-ends Inv-loop μ-loop
-shared-slice-read-ends c = search needs
-
-ends-requires : tie.Need-ends-requires Inv-loop μ-loop
-ends-requires c κs = search needs
+shared-slice-read-b : tie.Need-shared-slice-read-b Inv-loop μ-loop
+shared-slice-read-b c = search needs
 
 returns : tie.Need-returns Inv-loop μ-loop
 returns c = search needs
 
-shared-slice-read-quoted-after : tie.Need-shared-slice-read-quoted-after Inv-loop μ-loop
-shared-slice-read-quoted-after c = search needs
-
-quoted-after-requires : tie.Need-quoted-after-requires Inv-loop μ-loop
-quoted-after-requires c κs = search needs
+returns-2 : tie.Need-returns-2 Inv-loop μ-loop
+returns-2 c = search needs
 
 add-i : tie.Need-add-i Inv-loop μ-loop
 add-i c = search needs
@@ -38,8 +33,8 @@ loop-less c = search needs
 loop-again : tie.Need-loop-again Inv-loop μ-loop
 loop-again c = search needs
 
-returns-2 : tie.Need-returns-2 Inv-loop μ-loop
-returns-2 c = search needs
+returns-3 : tie.Need-returns-3 Inv-loop μ-loop
+returns-3 c = search needs
 
 pub place-of-spec : {M : Type 1} → statement M
 place-of-spec =
@@ -48,12 +43,10 @@ place-of-spec =
     Inv-loop
     μ-loop
     loop-holds
-    shared-slice-read-ends
-    ends-requires
+    shared-slice-read-b
     returns
-    shared-slice-read-quoted-after
-    quoted-after-requires
+    returns-2
     add-i
     loop-less
     loop-again
-    returns-2)
+    returns-3)

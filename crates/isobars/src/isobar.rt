@@ -61,19 +61,21 @@ fn number(text: &[u8], line: usize, column: usize, scale: f64) -> f64 {
     }
 }
 
-// No number is outside: its row is compared, and found wrong.
-fn outside(x: f64, least: f64, most: f64) -> bool {
-    x < least || most < x
+// Whether a temperature or a pressure lies outside a box. The number of a damaged cell never does, so that no row is left out
+// as out of range for it.
+fn outside(t: f64, p: f64, coldest: f64, hottest: f64, least: f64, most: f64) -> bool {
+    if t < coldest || hottest < t {
+        return true;
+    }
+    p < least || most < p
 }
 
 // What the row is counted as: compared, or why it is not, ROWS alone where it is out of range. The range is document
 // 01's, "Constants and ranges".
-fn kind_of(text: &[u8], line: usize) -> usize
+fn kind_of(text: &[u8], line: usize, t: f64, p: f64) -> usize
     ensures { λ r. ⌜ r < 12 ⌝ }
 {
-    let t = number(text, line, T, 1.0);
-    let p = number(text, line, P, MEGA);
-    if outside(t, 216.592, 523.0) || outside(p, 10000.0, 30000000.0) {
+    if outside(t, p, 216.592, 523.0, 10000.0, 30000000.0) {
         return ROWS;
     }
     if says(text, line, FLAG, b"on saturation line") {
@@ -82,7 +84,7 @@ fn kind_of(text: &[u8], line: usize) -> usize
     if says(text, line, FLAG, b"on melting line") {
         return ON_MELTING_LINE;
     }
-    if outside(t, 303.1282, 305.1282) || outside(p, 7000000.0, 8000000.0) {
+    if outside(t, p, 303.1282, 305.1282, 7000000.0, 8000000.0) {
         return COMPARED;
     }
     IN_CRITICAL_BOX
@@ -193,9 +195,10 @@ fn difference(text: &[u8], line: usize, tally: Tally, p: f64, rho: Decimal) -> T
     let Cell::Readable(h) = printed(text, line, H) else {
         return counted(tally, DIFFERENCES_LEFT_OUT);
     };
-    let quotient = p / value(rho, 1.0);
+    let density = value(rho, 1.0);
+    let quotient = p / density;
     let left = value(h, KILO) - value(u, KILO) - quotient;
-    let room = unit(h, KILO) + unit(u, KILO) + quotient / value(rho, 1.0) * unit(rho, 1.0);
+    let room = unit(h, KILO) + unit(u, KILO) + quotient / density * unit(rho, 1.0);
     let right = -room <= left && left <= room;
     judged(
         text,
@@ -227,26 +230,26 @@ fn without_density(text: &[u8], line: usize, tally: Tally) -> Tally {
     counted(tally, DIFFERENCES_LEFT_OUT)
 }
 
-fn compared(text: &[u8], line: usize, tally: Tally) -> Tally {
+fn compared(text: &[u8], line: usize, tally: Tally, t: f64, p: f64) -> Tally {
     let Cell::Readable(rho) = printed(text, line, RHO) else {
         return without_density(text, line, tally);
     };
-    let t = number(text, line, T, 1.0);
-    let p = number(text, line, P, MEGA);
     let tally = density(text, line, tally, t, p, rho);
     let tally = states(text, line, tally, t, p, rho);
     difference(text, line, tally, p, rho)
 }
 
 pub fn row(text: &[u8], line: usize, tally: Tally) -> Tally {
-    let kind = kind_of(text, line);
+    let t = number(text, line, T, 1.0);
+    let p = number(text, line, P, MEGA);
+    let kind = kind_of(text, line, t, p);
     let tally = counted(tally, ROWS);
     if kind == ROWS {
         return tally;
     }
     let tally = counted(counted(tally, IN_RANGE), kind);
     if kind == COMPARED {
-        return compared(text, line, tally);
+        return compared(text, line, tally, t, p);
     }
     tally
 }

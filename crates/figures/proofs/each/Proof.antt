@@ -1,6 +1,5 @@
 -- Each number stands within the list. The measure is what is left of it. Assumes nothing.
 use Prim.Native.Nat.{_≤_, _-_}
-use native.Mathlib.Omega.{arith}
 use lib.ListN.{length}
 use borrow.Author.Needs.{needs}
 use Rattle.figures.proofs.each.Statement.{statement}

@@ -1,6 +1,5 @@
 -- There are twelve counts. The measure is how many are left. Assumes nothing.
 use Prim.Native.Nat.{_≤_, _-_}
-use native.Mathlib.Omega.{arith}
 use lib.ListN.{length}
 use borrow.Author.Needs.{needs}
 use Rattle.tables.proofs.counts.tell_counts.Statement.{statement}

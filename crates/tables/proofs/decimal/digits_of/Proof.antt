@@ -1,6 +1,5 @@
 -- A byte is read below the length of the cell. The measure is what is left of it. Assumes nothing.
-use Prim.Native.Nat.{_≤_, _-_}
-use native.Mathlib.Omega.{arith}
+use Prim.Native.Nat.{_-_}
 use lib.ListN.{length}
 use borrow.Author.Needs.{needs}
 use Rattle.tables.proofs.decimal.digits_of.Statement.{statement}

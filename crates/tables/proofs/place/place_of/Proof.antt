@@ -1,6 +1,5 @@
 -- The place lies between `at` and the end. The measure is what is left of the text. Assumes nothing.
 use Prim.Native.Nat.{_≤_, _-_}
-use native.Mathlib.Omega.{arith}
 use lib.ListN.{length}
 use borrow.Author.Needs.{needs}
 use Rattle.tables.proofs.place.place_of.Statement.{statement}

@@ -1,6 +1,5 @@
 -- Each word starts within the words, after the one before. The measure is what is left of them. Assumes nothing.
 use Prim.Native.Nat.{_≤_, _-_}
-use native.Mathlib.Omega.{arith}
 use lib.ListN.{length}
 use borrow.Author.Needs.{needs}
 use Rattle.tables.proofs.table.names.Statement.{statement}

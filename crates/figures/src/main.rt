@@ -15,28 +15,27 @@ use saturation::saturation::liquid_density;
 use saturation::saturation::vapour_density;
 use saturation::saturation::vapour_pressure;
 use sharp::sharp::sharpen;
+use telling::figure;
 use telling::say;
 use telling::show;
 use telling::tell;
 
-fn figure(name: &[u8], x: f64, w: Worked) {
+// The start of a line of a temperature and a density.
+fn at(name: &[u8], t: f64, rho: f64) {
     say(name);
-    say(b" at ");
-    show(x);
-    tell(w);
+    show(t);
+    also(rho);
+}
+
+fn pressure(t: f64, rho: f64) {
+    at(b"pressure at ", t, rho);
+    tell(pressure_at(t, rho));
 }
 
 // The eight numbers, or that there is no state.
 fn state(t: f64, rho: f64) {
-    say(b"pressure at ");
-    show(t);
-    say(b" ");
-    show(rho);
-    tell(pressure_at(t, rho));
-    say(b"state at ");
-    show(t);
-    say(b" ");
-    show(rho);
+    pressure(t, rho);
+    at(b"state at ", t, rho);
     say(b" is");
     match state_at(t, rho) {
         Stated::Known(s) => eight(s),
@@ -62,103 +61,120 @@ fn eight(s: State) {
 }
 
 fn saturated(t: f64) {
-    figure(b"vapour pressure", t, vapour_pressure(t));
-    figure(b"liquid density", t, liquid_density(t));
-    figure(b"vapour density", t, vapour_density(t));
+    figure(b"vapour pressure at ", t, vapour_pressure(t));
+    figure(b"liquid density at ", t, liquid_density(t));
+    figure(b"vapour density at ", t, vapour_density(t));
 }
 
 fn ideal_gas(tau: f64) {
     let i = ideal_part(tau);
     let first = i.first;
     let second = i.second;
-    figure(b"I1", tau, first);
-    figure(b"I2", tau, second);
+    figure(b"I1 at ", tau, first);
+    figure(b"I2 at ", tau, second);
 }
 
-// From the triple point to the critical one.
-fn saturation_line() {
-    saturated(216.592);
-    saturated(220.0);
-    saturated(233.15);
-    saturated(250.0);
-    saturated(273.15);
-    saturated(280.0);
-    saturated(295.5);
-    saturated(300.0);
-    saturated(303.5);
-    saturated(304.1);
-    saturated(304.12);
-    saturated(304.12819999999994);
-    saturated(304.1282);
-    saturated(250.29);
-    saturated(267.1);
-    saturated(217.64);
-    saturated(298.53);
-    saturated(271.99);
+fn each(ideal: bool, xs: &[f64]) {
+    let mut i = 0;
+    while i < xs.len() {
+        if ideal {
+            ideal_gas(xs[i]);
+        } else {
+            saturated(xs[i]);
+        }
+        i += 1;
+    }
 }
 
-// Where a pressure is 0, a density is not above 0, or a working fails.
-fn off_the_line() {
-    saturated(305.0);
-    saturated(50.0);
-    saturated(20.0);
-    saturated(3.1);
-    saturated(2.9);
-    saturated(1.0);
-    saturated(0.4);
-    saturated(1e-300);
-    saturated(0.0);
-    saturated(-0.0);
-    saturated(-5.0);
-    saturated(-1000.0);
-    saturated(1e300);
-    saturated(1.0 / 0.0);
-    saturated(-1.0 / 0.0);
-    saturated(0.0 / 0.0);
+// From the triple point to the critical one, and where a pressure is 0, a density is not above 0, or a working fails.
+fn saturations() {
+    each(
+        false,
+        &[
+            216.592,
+            220.0,
+            233.15,
+            250.0,
+            273.15,
+            280.0,
+            295.5,
+            300.0,
+            303.5,
+            304.1,
+            304.12,
+            304.12819999999994,
+            304.1282,
+            250.29,
+            267.1,
+            217.64,
+            298.53,
+            271.99,
+            305.0,
+            50.0,
+            20.0,
+            3.1,
+            2.9,
+            1.0,
+            0.4,
+            1e-300,
+            0.0,
+            -0.0,
+            -5.0,
+            -1000.0,
+            1e300,
+            1.0 / 0.0,
+            -1.0 / 0.0,
+            0.0 / 0.0,
+        ],
+    );
 }
 
-// From 524 K down to the triple point.
-fn ideal_line() {
-    ideal_gas(0.58);
-    ideal_gas(0.8);
-    ideal_gas(1.0);
-    ideal_gas(1.2);
-    ideal_gas(1.4);
-    ideal_gas(1.4041);
+// From 524 K down to the triple point, and where an exponential is 0 or refused, a divisor is 0 or not finite, or one of
+// the two fails alone.
+fn ideal_gases() {
+    each(
+        true,
+        &[
+            0.58,
+            0.8,
+            1.0,
+            1.2,
+            1.4,
+            1.4041,
+            200.0,
+            230.0,
+            1e160,
+            1e200,
+            1e300,
+            3e-17,
+            1e-17,
+            1e-154,
+            1e-160,
+            1e-200,
+            0.0,
+            -0.0,
+            -1.0,
+            -13.0,
+            -20.0,
+            -25.7,
+            -25.85,
+            -30.0,
+            1.0 / 0.0,
+            -1.0 / 0.0,
+            0.0 / 0.0,
+        ],
+    );
 }
 
-// Where an exponential is 0 or refused, a divisor is 0 or not finite, or one of the two fails alone.
-fn off_the_ideal_line() {
-    ideal_gas(200.0);
-    ideal_gas(230.0);
-    ideal_gas(1e160);
-    ideal_gas(1e200);
-    ideal_gas(1e300);
-    ideal_gas(3e-17);
-    ideal_gas(1e-17);
-    ideal_gas(1e-154);
-    ideal_gas(1e-160);
-    ideal_gas(1e-200);
-    ideal_gas(0.0);
-    ideal_gas(-0.0);
-    ideal_gas(-1.0);
-    ideal_gas(-13.0);
-    ideal_gas(-20.0);
-    ideal_gas(-25.7);
-    ideal_gas(-25.85);
-    ideal_gas(-30.0);
-    ideal_gas(1.0 / 0.0);
-    ideal_gas(-1.0 / 0.0);
-    ideal_gas(0.0 / 0.0);
+fn of_a_row(x: f64) {
+    say(b"rows 40 to 42");
+    tell(checked(x));
 }
 
 fn three(a: f64, b: f64, c: f64) {
-    say(b"rows 40 to 42");
-    tell(checked(a));
-    say(b"rows 40 to 42");
-    tell(checked(b));
-    say(b"rows 40 to 42");
-    tell(checked(c));
+    of_a_row(a);
+    of_a_row(b);
+    of_a_row(c);
 }
 
 // The figures of the non-analytic rows by themselves, which are small in the sums: δφ_δ of each row, δ²φ_δδ, and so on.
@@ -230,10 +246,8 @@ fn no_states() {
 }
 
 fn main() {
-    saturation_line();
-    off_the_line();
-    ideal_line();
-    off_the_ideal_line();
+    saturations();
+    ideal_gases();
     states();
     no_states();
     sharp(290.1, 567.9);

@@ -8,41 +8,31 @@ use roots::exponent::Exponent;
 use roots::exponent::Printed;
 use roots::exponent::worked_as;
 use roots::root::root;
+use telling::figure;
 use telling::say;
-use telling::show;
-use telling::tell;
 
-fn e_to(x: f64) {
-    say(b"e to ");
-    show(x);
-    tell(exponential(x));
+fn numbered(text: &[u8], n: usize) {
+    say(text);
+    io::print_decimal(STDOUT_FILENO, n as u64);
 }
 
 fn root_of(x: f64, m: usize, k: usize) {
-    say(b"root ");
-    io::print_decimal(STDOUT_FILENO, m as u64);
-    say(b"/");
-    io::print_decimal(STDOUT_FILENO, k as u64);
-    say(b" of ");
-    show(x);
-    tell(root(x, Exponent { m, k }));
+    numbered(b"root ", m);
+    numbered(b"/", k);
+    figure(b" of ", x, root(x, Exponent { m, k }));
 }
 
-// A root at an exponent as 004 prints it.
 fn printed_root_of(x: f64, name: &[u8], printed: Printed) {
-    say(b"root ");
-    say(name);
-    say(b" of ");
-    show(x);
-    tell(root(x, worked_as(printed)));
+    figure(name, x, root(x, worked_as(printed)));
 }
 
 fn power_of(x: f64, n: usize) {
-    say(b"power ");
-    io::print_decimal(STDOUT_FILENO, n as u64);
-    say(b" of ");
-    show(x);
-    tell(Worked::Number(whole_power(x, n)));
+    numbered(b"power ", n);
+    figure(b" of ", x, Worked::Number(whole_power(x, n)));
+}
+
+fn e_to(x: f64) {
+    figure(b"e to ", x, exponential(x));
 }
 
 fn exponentials() {
@@ -67,6 +57,14 @@ fn exponentials() {
     e_to(-1e-300);
 }
 
+// At exponents as 004 prints them.
+fn printed_roots_of(x: f64) {
+    printed_root_of(x, b"root 0.34 of ", Printed::Of0_34);
+    printed_root_of(x, b"root 10/6 of ", Printed::Of10_6);
+    printed_root_of(x, b"root 0.875 of ", Printed::Of0_875);
+    printed_root_of(x, b"root 0.925 of ", Printed::Of0_925);
+}
+
 fn roots_of(x: f64) {
     root_of(x, 1, 2);
     root_of(x, 1, 3);
@@ -77,10 +75,7 @@ fn roots_of(x: f64) {
     root_of(x, 7, 8);
     root_of(x, 37, 40);
     root_of(x, 17, 50);
-    printed_root_of(x, b"0.34", Printed::Of0_34);
-    printed_root_of(x, b"10/6", Printed::Of10_6);
-    printed_root_of(x, b"0.875", Printed::Of0_875);
-    printed_root_of(x, b"0.925", Printed::Of0_925);
+    printed_roots_of(x);
 }
 
 fn edges() {

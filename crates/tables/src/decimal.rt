@@ -1,7 +1,9 @@
 // A printed number: its digits as a whole number, and how many of them stand after the point. So its unit, one of
 // the last printed digit, is known, and its value is one division.
-ghost use Prim.Native.Nat.{_≤_, _<_, _+_};
+ghost use Prim.Native.Nat.{_≤_, _+_};
+ghost use lib.ListN.{length};
 ghost use mathlib.Core.Path.{_≡_};
+use crate::place::place_of;
 use numeric::power::whole_power;
 
 pub struct Decimal {
@@ -10,119 +12,83 @@ pub struct Decimal {
     pub places: usize,
 }
 
-pub enum Printed {
-    Number(Decimal),
-    Nothing,
+// A cell's number, or none: `bad_cells` names it, or it holds no number.
+pub enum Cell {
+    Readable(Decimal),
+    Damaged,
 }
 
-// What was read of a number so far.
-struct Begun {
-    digits: u64,
-    places: usize,
-    count: usize,
-    point: bool,
-    good: bool,
-}
+// What `digits_of` answers where there is no number.
+const NONE: u64 = u64::MAX;
 
-// The digit that a byte stands for; 10 for a byte that is no digit.
-fn digit(b: u8) -> u64
-    ensures { λ r. ⌜ r ≤ 10 ⌝ }
-{
+// The number with the digit that a byte stands for behind it.
+fn with_digit(n: u64, b: u8) -> u64 {
+    if 100000000000 < n {
+        return NONE;
+    }
     if b < b'0' {
-        return 10;
+        return NONE;
     }
     let d = b - b'0';
-    if d < 10 { d as u64 } else { 10 }
+    if d < 10 { n * 10 + d as u64 } else { NONE }
 }
 
-// A printed number of the tables has at most seven digits; with more than twelve it is none.
-fn with_digit(n: Begun, d: u64) -> Begun
-    requires { ⌜ d < 10 ⌝ }
-{
-    let digits = n.digits;
-    let places = n.places;
-    let count = n.count;
-    if 100000000000 < digits {
-        return not_good(n);
-    }
-    if 11 < count {
-        return not_good(n);
-    }
-    if 11 < places {
-        return not_good(n);
-    }
-    Begun {
-        digits: digits * 10 + d,
-        places: if n.point { places + 1 } else { places },
-        count: count + 1,
-        point: n.point,
-        good: n.good,
-    }
-}
-
-fn with_point(mut n: Begun) -> Begun {
-    if n.point {
-        n.good = false;
-    }
-    n.point = true;
-    n
-}
-
-fn not_good(mut n: Begun) -> Begun {
-    n.good = false;
-    n
-}
-
-fn with_byte(n: Begun, b: u8) -> Begun {
-    let d = digit(b);
-    if d < 10 {
-        return with_digit(n, d);
-    }
-    if b == b'.' {
-        with_point(n)
-    } else {
-        not_good(n)
-    }
-}
-
-fn has_minus(cell: &[u8]) -> bool {
-    if 0 < cell.len() {
-        cell[0] == b'-'
-    } else {
-        false
-    }
-}
-
-fn after_sign(cell: &[u8]) -> Begun {
-    let mut n = Begun {
-        digits: 0,
-        places: 0,
-        count: 0,
-        point: false,
-        good: true,
-    };
-    let mut i = if has_minus(cell) { 1 } else { 0 };
+fn digits_of(cell: &[u8], from: usize, point: usize) -> u64 {
+    let mut n = 0;
+    let mut i = from;
     while i < cell.len() {
-        n = with_byte(n, cell[i]);
+        if i != point {
+            n = with_digit(n, cell[i]);
+        }
         i += 1;
     }
     n
 }
 
-pub fn read_decimal(cell: &[u8]) -> Printed {
-    let n = after_sign(cell);
-    if n.count == 0 {
-        return Printed::Nothing;
+// Where a cell's number starts, after the sign.
+fn start(cell: &[u8]) -> usize
+    ensures { λ r. ⌜ (r ≤ 1) × (r ≤ length (now (cell .entry))) ⌝ }
+{
+    if 0 < cell.len() {
+        if cell[0] == b'-' {
+            return 1;
+        }
+        return 0;
     }
-    if n.good {
-        Printed::Number(Decimal {
-            negative: has_minus(cell),
-            digits: n.digits,
-            places: n.places,
-        })
-    } else {
-        Printed::Nothing
+    0
+}
+
+// How many digits stand after the point.
+fn places_of(cell: &[u8], point: usize) -> usize
+    ensures { λ r. ⌜ r ≤ length (now (cell .entry)) ⌝ }
+{
+    if point < cell.len() {
+        return cell.len() - point - 1;
     }
+    0
+}
+
+// A printed number of the tables has at most seven digits; with more than twelve it is none.
+pub fn read_decimal(cell: &[u8]) -> Cell {
+    let from = start(cell);
+    let point = place_of(cell, from, b'.');
+    let places = places_of(cell, point);
+    let digits = digits_of(cell, from, point);
+    if digits == NONE {
+        return Cell::Damaged;
+    }
+    let before = point - from;
+    if before + places == 0 {
+        return Cell::Damaged;
+    }
+    if 12 < before + places {
+        return Cell::Damaged;
+    }
+    Cell::Readable(Decimal {
+        negative: 0 < from,
+        digits,
+        places,
+    })
 }
 
 // The value in a unit that `scale` of make one of the printed: kJ/kg at 1000 are J/kg.

@@ -2,83 +2,24 @@
 // the columns; the column `bad_cells` names those whose cell the scan has damaged.
 ghost use Prim.Native.Nat.{_≤_, _<_};
 ghost use lib.ListN.{length};
-use crate::decimal::Decimal;
-use crate::decimal::Printed;
+use crate::decimal::Cell;
 use crate::decimal::read_decimal;
+use crate::place::place_of;
 
 // The place of `bad_cells` in both tables.
 const BAD_CELLS: usize = 11;
-
-// A cell's number, or none: `bad_cells` names it, or it holds no number.
-pub enum Cell {
-    Readable(Decimal),
-    Damaged,
-}
-
-// The first place of `mark` at or after `at`, or the end.
-fn place_of(text: &[u8], at: usize, mark: u8) -> usize
-    requires { ⌜ at ≤ length (now text) ⌝ }
-    ensures { λ r. ⌜ (at ≤ r) × (r ≤ length (now (text .entry))) ⌝ }
-{
-    let mut i = at;
-    while i < text.len() {
-        if text[i] == mark {
-            return i;
-        }
-        i += 1;
-    }
-    i
-}
-
-fn after(text: &[u8], at: usize, mark: u8) -> usize
-    requires { ⌜ at < length (now text) ⌝ }
-    ensures { λ r. ⌜ (at < r) × (r ≤ length (now (text .entry))) ⌝ }
-{
-    let end = place_of(text, at, mark);
-    if end < text.len() {
-        return end + 1;
-    }
-    end
-}
 
 // The start of the next line; past the last, the end.
 pub fn line_after(text: &[u8], at: usize) -> usize
     ensures { λ r. ⌜ (at < length (now (text .entry)) → at < r) × (r ≤ length (now (text .entry))) ⌝ }
 {
     if at < text.len() {
-        return after(text, at, b'\n');
+        let end = place_of(text, at, b'\n');
+        if end < text.len() {
+            return end + 1;
+        }
     }
     text.len()
-}
-
-fn ends_cell(b: u8, quoted: bool) -> bool {
-    if quoted {
-        return false;
-    }
-    if b == b',' {
-        return true;
-    }
-    b == b'\n'
-}
-
-fn quoted_after(b: u8, quoted: bool) -> bool {
-    if b == b'"' { !quoted } else { quoted }
-}
-
-fn cell_end(text: &[u8], at: usize) -> usize
-    requires { ⌜ at ≤ length (now text) ⌝ }
-    ensures { λ r. ⌜ (at ≤ r) × (r ≤ length (now (text .entry))) ⌝ }
-{
-    let mut quoted = false;
-    let mut i = at;
-    while i < text.len() {
-        if ends_cell(text[i], quoted) {
-            return i;
-        }
-        quoted = quoted_after(text[i], quoted);
-        i += 1;
-    }
-    i
 }
 
 // The cell after the one at `at`; where the line ends, the empty cell there.
@@ -86,7 +27,7 @@ fn cell_after(text: &[u8], at: usize) -> usize
     requires { ⌜ at ≤ length (now text) ⌝ }
     ensures { λ r. ⌜ r ≤ length (now (text .entry)) ⌝ }
 {
-    let end = cell_end(text, at);
+    let end = place_of(text, at, b',');
     if end < text.len() {
         if text[end] == b',' {
             return end + 1;
@@ -117,7 +58,7 @@ pub fn cell_bytes(text: &[u8], line: usize, column: usize) -> &[u8]
         return &text[..0];
     }
     let start = cell_start(text, line, column);
-    let end = cell_end(text, start);
+    let end = place_of(text, start, b',');
     &text[start..end]
 }
 
@@ -126,37 +67,26 @@ pub fn says(text: &[u8], line: usize, column: usize, word: &[u8]) -> bool {
     check::same(cell_bytes(text, line, column), word)
 }
 
-fn word_is(words: &[u8], at: usize, word: &[u8]) -> bool
-    requires { ⌜ at ≤ length (now words) ⌝ }
-{
-    let end = place_of(words, at, b' ');
-    check::same(&words[at..end], word)
-}
-
+// Whether a word stands among words that spaces part.
 fn names(words: &[u8], word: &[u8]) -> bool {
     let mut at = 0;
     while at < words.len() {
-        if word_is(words, at, word) {
+        let end = place_of(words, at, b' ');
+        if check::same(&words[at..end], word) {
             return true;
         }
-        at = after(words, at, b' ');
+        if end == words.len() {
+            return false;
+        }
+        at = end + 1;
     }
     false
 }
 
-fn is_damaged(text: &[u8], line: usize, column: usize) -> bool {
-    names(
-        cell_bytes(text, line, BAD_CELLS),
-        cell_bytes(text, 0, column),
-    )
-}
-
 pub fn printed(text: &[u8], line: usize, column: usize) -> Cell {
-    if is_damaged(text, line, column) {
+    let damaged = cell_bytes(text, line, BAD_CELLS);
+    if names(damaged, cell_bytes(text, 0, column)) {
         return Cell::Damaged;
     }
-    match read_decimal(cell_bytes(text, line, column)) {
-        Printed::Number(d) => Cell::Readable(d),
-        Printed::Nothing => Cell::Damaged,
-    }
+    read_decimal(cell_bytes(text, line, column))
 }

@@ -1,4 +1,4 @@
-// What the programs that run figures say: numbers as the sixteen hexadecimal digits of their bits, since a printed
+// What the programs that run figures say, one a line: numbers as the sixteen hexadecimal digits of their bits, since a printed
 // decimal could hide the last one.
 use libc::STDOUT_FILENO;
 use numeric::working::Worked;
@@ -24,4 +24,11 @@ pub fn tell(w: Worked) {
         Worked::Failed => say(b"refused"),
     }
     say(b"\n");
+}
+
+// A figure at x, or of it, as its name says.
+pub fn figure(name: &[u8], x: f64, w: Worked) {
+    say(name);
+    show(x);
+    tell(w);
 }

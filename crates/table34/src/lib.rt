@@ -1,2 +1,0 @@
-// 004's Table 34, saturation, against the auxiliary equations.
-pub mod saturated;

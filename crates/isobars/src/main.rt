@@ -104,7 +104,7 @@ fn compare_isobars() {
         b"isobars.csv",
         false,
         b"isobars",
-        b" rows\n in range\n of them on the saturation line\n on the melting line\n in the critical box\n compared\n cells compared\n cells left out, damaged in the scan\n cells left out, the row's density damaged\n compared in h - u = p/rho\n left out of it, a cell damaged in the scan\n failures\n",
+        b" rows\n in range\n of them on the saturation line\n on the melting line\n in the critical box\n compared\n cells compared\n cells left out, damaged in the scan\n\n compared in h - u = p/rho\n left out of it, a cell damaged in the scan\n failures\n",
     );
 }
 

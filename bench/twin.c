@@ -47,27 +47,29 @@ EXP double expo(double x) {
     return 1.0 / falling(-x);
 }
 
-/* The guess and the search outward of crates/roots/src/root.rt. */
+/* The guess of crates/roots/src/root.rt, and its search: the guess and its neighbours side by side, then outward. */
 static inline uint64_t guess(double x, int m, int k, double t) {
     uint64_t b = bits(x);
     double z = of_bits((b & 0x000fffffffffffffull) + 0x3ff0000000000000ull);
     double w = (z - 1.4142135623730951) / (z + 1.4142135623730951);
-    double v = w * w;
-    double high = 0.4121985831111324 + v * (0.3205988979753252 + v * 0.2623081892525388);
-    double series = 2.8853900817779268 + v * (0.9617966939259756 + v * (0.5770780163555853 + v * high));
+    double v = w * w, vv = v * v;
+    double high = 0.5770780163555853 + v * 0.4121985831111324 + vv * (0.3205988979753252 + v * 0.2623081892525388);
+    double series = 2.8853900817779268 + v * 0.9617966939259756 + vv * high;
     double exponent = of_bits((b >> 52) % 2048 + 0x4330000000000000ull) - 4503599627371519.0;
     double l = (exponent + 0.5 + w * series) * ((double)m / (double)k);
     double n = l + 6755399441055744.0;
     if (n < 9007199254740992.0) {
         double f = l - (n - 6755399441055744.0);
-        double h2 = 0.00015403530393381606
-            + f * (0.000015252733804059838 + f * (0.0000013215486790144305 + f * 0.00000010178086009239696));
-        double middle = 0.05550410866482158 + f * (0.009618129107628477 + f * (0.0013333558146428441 + f * h2));
-        double part = 1.0 + f * (0.6931471805599453 + f * (0.2402265069591007 + f * middle));
+        double ff = f * f;
+        double high = 0.0013333558146428441 + f * 0.00015403530393381606
+            + ff * (0.000015252733804059838 + f * 0.0000013215486790144305 + ff * 0.00000010178086009239696);
+        double part = 1.0 + f * 0.6931471805599453 + ff * (0.2402265069591007 + f * 0.05550410866482158)
+            + ff * ff * (0.009618129107628477 + f * high);
         uint64_t e = (bits(n) % 4096 + 1023) % 4096 % 2047;
         double y = of_bits(e << 52) * part;
-        double p = power(y, k);
-        double g = y + y * ((t - p) / (p * (double)k));
+        double p = 1.0, square = y;
+        for (int left = k; left > 0; left /= 2) { if (left % 2 == 1) p = p * square; square = square * square; }
+        double g = y + y * ((t - p) * (1.0 / (t * (double)k)));
         if (g > 0.0 && bits(g) <= TOP) return bits(g);
     }
     return 0;
@@ -79,13 +81,11 @@ ROOT double root(double x, int m, int k) {
     double t = power(x, m);
     if (!finite_(t)) return NAN;
     uint64_t at = guess(x, m, k, t), lo = 0, hi = TOP, width = 1;
-#ifdef ROOT3   /* the guess and its neighbours side by side; the same answer, sooner */
     if (0 < at && at < TOP) {
         double x0 = of_bits(at - 1), x1 = of_bits(at), x2 = of_bits(at + 1), a = x0, b = x1, c = x2;
         for (int i = 1; i < k; i++) { a = a * x0; b = b * x1; c = c * x2; }
         if (t < b) { if (a <= t) return x0; } else if (t < c) return x1;
     }
-#endif
     while (lo + 1 < hi) {
         uint64_t mid = lo + (hi - lo) / 2;
         if (lo < at && at < hi) mid = at;
@@ -356,3 +356,58 @@ double twin_probe(double t, double rho, double step, uint32_t n) {
 
 double twin_root(double x, uint64_t m, uint64_t k) { double r = root(x, (int)m, (int)k); return r == r ? r : -1.0; }
 double twin_exp(double x) { double r = expo(x); return r == r ? r : -1.0; }
+
+/* ---- 10 Saturation, and the pressure door */
+
+static double vapour_pressure(double t) {
+    double tau = TC / t, x = 1.0 - t / TC;
+    double s = -7.0602087 * x + 1.9391218 * root(x, 3, 2) + -1.6463597 * power(x, 2) + -3.2995634 * power(x, 4);
+    return 7377300.0 * expo(tau * s);
+}
+
+static double liquid_density(double t) {
+    double x = 1.0 - t / TC;
+    return RHOC * expo(1.9245108 * root(x, 17, 50) + -0.62385555 * root(x, 1, 2) + -0.32731127 * root(x, 5, 3) + 0.39245142 * root(x, 11, 6));
+}
+
+static double vapour_density(double t) {
+    double x = 1.0 - t / TC;
+    return RHOC * expo(-1.7074879 * root(x, 17, 50) + -0.82274670 * root(x, 1, 2) + -4.6008549 * x
+        + -10.111178 * (power(x, 2) * root(x, 1, 3)) + -29.742252 * (power(x, 4) * root(x, 2, 3)));
+}
+
+long twin_worked;   /* how many pressures the searches worked */
+
+/* The sound speed in the state at T and p, or minus the number of the refusal. */
+double twin_door(double t, double p) {
+    if (!finite_(t) || !finite_(p)) return -3.0;
+    if (t < 216.592 || 523.0 < t) return -4.0;
+    if (p < 10000.0 || 30000000.0 < p) return -5.0;
+    if (!(t < 303.1282 || 305.1282 < t) && !(p < 7000000.0 || 8000000.0 < p)) return -6.0;
+    double from = 0.05, to = 1400.0;
+    if (t < TC) {
+        double s = vapour_pressure(t), d;
+        if (!finite_(s)) return -7.0;
+        if (p == s) return -8.0;
+        d = p < s ? 1.01 * vapour_density(t) : 0.99 * liquid_density(t);
+        if (!(0.0 < d && d < INFINITY)) return -7.0;
+        if (p < s) to = d; else from = d;
+    }
+    isotherm iso;
+    if (!isotherm_at(t, &iso)) return -7.0;
+    uint64_t lo = bits(from), hi = bits(to);
+    if (hi <= lo) return -9.0;
+    double a = pressure_on(t, &iso, from), b = pressure_on(t, &iso, to);
+    twin_worked += 2;
+    if (!finite_(a) || !finite_(b)) return -7.0;
+    if (p < a || !(p < b)) return -9.0;
+    while (lo + 1 < hi) {
+        uint64_t mid = lo + (hi - lo) / 2;
+        double x = pressure_on(t, &iso, of_bits(mid));
+        twin_worked++;
+        if (!finite_(x)) return -7.0;
+        if (p < x) hi = mid; else lo = mid;
+    }
+    double out[8];
+    return twin_state_all(t, of_bits(lo), out) ? out[7] : -7.0;
+}

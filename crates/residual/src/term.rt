@@ -31,17 +31,13 @@ pub(crate) fn at_density(iso: Isotherm, delta: f64) -> Point
     let x = delta - 1.0;
     let xx = x * x;
     let spread = iso.spread;
-    let d2 = delta * delta;
-    let d3 = d2 * delta;
-    let d4 = d3 * delta;
-    let d5 = d4 * delta;
     let decays = [
-        decay(delta),
-        decay(d2),
-        decay(d3),
-        decay(d4),
-        decay(d5),
-        decay(d5 * delta),
+        decay(powers[1]),
+        decay(powers[2]),
+        decay(powers[3]),
+        decay(powers[4]),
+        decay(powers[5]),
+        decay(powers[6]),
     ];
     let bells = [
         decay(25.0 * xx + spread[0]),

@@ -10,7 +10,7 @@ use Rattle.roots.specs.Exponent.{workedAs}
 use Rattle.roots.specs.Formula.{Formula, num, one, _⊕_, _⊖_, _⊗_, _⊘_, _^^_, minus, size, e^, root, value}
 use Rattle.rows.specs.Row.{nonAnalytics}
 use Rattle.rows.specs.declared.row.NonAnalytic.{NonAnalytic}
-use Rattle.rows.specs.declared.isotherm.Isotherm.{Isotherm}
+use Rattle.isotherm.specs.declared.isotherm.Isotherm.{Isotherm}
 use Rattle.critical.specs.declared.critical.Near.{Near}
 use Rattle.critical.specs.declared.critical.Edge.{Edge}
 use Rattle.critical.specs.declared.critical.Critical.{Critical}

@@ -12,7 +12,7 @@ use roots::exponent::Exponent;
 use roots::exponent::Printed;
 use roots::exponent::worked_as;
 use roots::root::root;
-use rows::isotherm::Isotherm;
+use isotherm::isotherm::Isotherm;
 use rows::row::NonAnalytic;
 use rows::row::non_analytics;
 

@@ -12,7 +12,7 @@ use Rattle.numeric.specs.Number.{nonneg}
 use Rattle.halving.specs.Halving.{NotAbove, Above, Worthy, worthy}
 use Rattle.numeric.specs.declared.working.Worked.the-variants.{Number}
 use Rattle.numeric.proofs.Numbers.{infinity}
-use Rattle.rows.specs.declared.isotherm.Isotherm.{Isotherm}
+use Rattle.isotherm.specs.declared.isotherm.Isotherm.{Isotherm}
 use Rattle.equation.specs.Pressure.{pressureOn}
 use Rattle.equation.proofs.Pressures.{pressure-finite}
 use Rattle.doors.specs.Search.{figure}

@@ -15,7 +15,7 @@ use refusals::check::Check;
 use refusals::check::check_inputs;
 use refusals::limits::document_01;
 use refusals::limits::is_outside;
-use rows::isotherm::at_temperature;
+use isotherm::isotherm::at_temperature;
 use saturation::saturation::liquid_density;
 use saturation::saturation::vapour_density;
 

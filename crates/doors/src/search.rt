@@ -16,8 +16,8 @@ use numeric::working::Worked;
 use refusals::answer::Answer;
 use refusals::answer::Phase;
 use refusals::answer::settle;
-use rows::isotherm::Isotherm;
-use rows::isotherm::at_temperature;
+use isotherm::isotherm::Isotherm;
+use isotherm::isotherm::at_temperature;
 
 // From lo, where the pressure is not above p, to hi, where it is above.
 fn narrow(iso: Isotherm, p: f64, from: u64, to: u64) -> Crossing

@@ -7,9 +7,9 @@ use Rattle.numeric.specs.Working.{then}
 use Rattle.numeric.specs.declared.working.Worked.{Worked}
 use Rattle.numeric.specs.declared.working.Worked.the-variants.{Number, Failed}
 use Rattle.roots.specs.Formula.{work}
-use Rattle.rows.specs.declared.isotherm.Isotherm.{Isotherm}
+use Rattle.isotherm.specs.declared.isotherm.Isotherm.{Isotherm}
 use Rattle.rows.specs.Derivative.{Delta, DeltaDelta, Tau, TauTau, DeltaTau}
-use Rattle.rows.specs.Isotherm.{quarterOf, isotherm}
+use Rattle.isotherm.specs.Isotherm.{quarterOf, isotherm}
 use Rattle.residual.specs.Sum.{residual, together, fiveSums, thenSum}
 use Rattle.rows.specs.declared.derivative.Five.{Five}
 use Rattle.residual.specs.declared.sum.Sums.{Sums}

@@ -4,8 +4,8 @@ use Rattle.numeric.specs.Constant.{spanWagner}
 use Rattle.numeric.specs.Working.{then}
 use Rattle.numeric.specs.declared.working.Worked.{Worked}
 use Rattle.roots.specs.Formula.{Formula, num, one, _⊕_, _⊗_, _⊘_, work}
-use Rattle.rows.specs.Isotherm.{isotherm}
-use Rattle.rows.specs.declared.isotherm.Isotherm.{Isotherm}
+use Rattle.isotherm.specs.Isotherm.{isotherm}
+use Rattle.isotherm.specs.declared.isotherm.Isotherm.{Isotherm}
 use Rattle.rows.specs.Derivative.{Delta}
 use Rattle.residual.specs.Sum.{residual}
 

@@ -6,8 +6,8 @@ use numeric::constant::span_wagner;
 use numeric::working::Worked;
 use numeric::working::checked;
 use residual::sum::slope_at;
-use rows::isotherm::Isotherm;
-use rows::isotherm::at_temperature;
+use isotherm::isotherm::Isotherm;
+use isotherm::isotherm::at_temperature;
 
 pub(crate) fn delta_at(rho: f64) -> Worked
     ensures { λ r. ⌜ r ≡ deltaOf rho ⌝ }

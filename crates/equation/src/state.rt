@@ -12,8 +12,8 @@ use residual::sum::five_sums;
 use roots::exponent::Exponent;
 use roots::root::root;
 use rows::derivative::Five;
-use rows::isotherm::Isotherm;
-use rows::isotherm::at_temperature;
+use isotherm::isotherm::Isotherm;
+use isotherm::isotherm::at_temperature;
 
 // T, p, ρ, u, h, cᵥ, cₚ and the sound speed, in K, Pa, kg/m³, J and m/s.
 pub struct State {

@@ -9,7 +9,7 @@ use ideal::ideal::ideal_part;
 use numeric::working::Worked;
 use numeric::working::checked;
 use rows::derivative::Five;
-use rows::isotherm::at_temperature;
+use isotherm::isotherm::at_temperature;
 use rows::row::non_analytics;
 use saturation::saturation::liquid_density;
 use saturation::saturation::vapour_density;

@@ -1,5 +1,7 @@
 // The readings of document 01 that are run, and exponentials and roots whose bits were worked elsewhere
 // (crosscheck/numerics.py): one a line, numbers as the sixteen hexadecimal digits of their bits.
+mod answers;
+
 use libc::STDOUT_FILENO;
 use numeric::exponential::exponential;
 use numeric::power::whole_power;
@@ -122,4 +124,5 @@ fn main() {
     roots_of(1.4042);
     roots_of(17.77);
     roots_of(1000.0);
+    answers::run();
 }

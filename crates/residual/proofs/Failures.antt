@@ -12,8 +12,8 @@ use Rattle.roots.specs.Formula.{_⊗_, value, work}
 use Rattle.roots.proofs.Formulas.{once}
 use Rattle.rows.specs.Derivative.{Derivative}
 use Rattle.rows.specs.Row.{polynomials, exponentials, gaussians}
-use Rattle.rows.specs.Isotherm.{quarterOf, tauPower, tauPowers, quarters, isotherm}
-use Rattle.rows.specs.declared.isotherm.Isotherm.{Isotherm}
+use Rattle.isotherm.specs.Isotherm.{quarterOf, tauPower, tauPowers, quarters, isotherm}
+use Rattle.isotherm.specs.declared.isotherm.Isotherm.{Isotherm}
 use Rattle.residual.specs.Term.{polynomialTerm, polynomialBracket}
 use Rattle.residual.specs.Sum.{onto, total, polynomialFigures, figures, residual}
 use Rattle.residual.proofs.Figures.{no-polynomial}

@@ -19,7 +19,7 @@ use Rattle.roots.proofs.Formulas.{once}
 use Rattle.rows.specs.declared.row.Polynomial.{Polynomial}
 use Rattle.rows.specs.declared.row.Exponential.{Exponential}
 use Rattle.rows.specs.declared.row.Gaussian.{Gaussian}
-use Rattle.rows.specs.declared.isotherm.Isotherm.{Isotherm}
+use Rattle.isotherm.specs.declared.isotherm.Isotherm.{Isotherm}
 use Rattle.rows.specs.Derivative.{Derivative, Delta, DeltaDelta, Tau, TauTau, DeltaTau}
 use Rattle.rows.specs.Row.{polynomials, exponentials, gaussians}
 use Rattle.residual.specs.Term.{polynomialTerm, polynomialBracket, exponentialTerm, exponentialBracket, decay, decays, gaussianTerm, gaussianBracket, bell, bells}

@@ -18,7 +18,7 @@ use numeric::working::checked;
 use rows::derivative::Five;
 use rows::derivative::first;
 use rows::derivative::grow;
-use rows::isotherm::Isotherm;
+use isotherm::isotherm::Isotherm;
 use rows::row::Exponential;
 use rows::row::Gaussian;
 use rows::row::Polynomial;

@@ -7,7 +7,7 @@ ghost use Rattle.residual.specs.Term.{point};
 use numeric::exponential::exponential;
 use numeric::power::powers_to_10;
 use numeric::working::plain;
-use rows::isotherm::Isotherm;
+use isotherm::isotherm::Isotherm;
 
 // The powers of δ, e^(−δᶜ) for c from 1 to 6, and the exponentials of rows 35 to 39.
 pub struct Point {

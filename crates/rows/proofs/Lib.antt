@@ -1,4 +1,2 @@
-pub mod Fills
-pub mod Isotherms
 pub mod Derivatives
 pub mod Unique

@@ -1,22 +1,17 @@
 -- No second answer meets a public function's promise. Assumes nothing.
 use mathlib.Core.List.{List}
 use Rattle.rows.specs.declared.derivative.Five.{Five}
-use Rattle.rows.specs.declared.isotherm.Isotherm.{Isotherm}
 use Rattle.rows.specs.declared.row.Polynomial.{Polynomial}
 use Rattle.rows.specs.declared.row.Exponential.{Exponential}
 use Rattle.rows.specs.declared.row.Gaussian.{Gaussian}
 use Rattle.rows.specs.declared.row.NonAnalytic.{NonAnalytic}
 use Rattle.numeric.proofs.Unique.{OneAnswer, by-equation}
-use Rattle.rows.proofs.isotherm.at_temperature.Reads as at-temperature
 use Rattle.rows.proofs.derivative.first.Reads as first
 use Rattle.rows.proofs.derivative.grow.Reads as grow
 use Rattle.rows.proofs.row.polynomials.Reads as polynomials
 use Rattle.rows.proofs.row.exponentials.Reads as exponentials
 use Rattle.rows.proofs.row.gaussians.Reads as gaussians
 use Rattle.rows.proofs.row.non_analytics.Reads as non-analytics
-
-pub at-temperature-once : OneAnswer Isotherm (at-temperature.Post tt)
-at-temperature-once a r s x y = by-equation
 
 pub polynomials-once : OneAnswer (List Polynomial) (polynomials.Post tt)
 polynomials-once a r s x y = by-equation

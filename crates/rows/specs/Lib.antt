@@ -1,3 +1,2 @@
 pub mod Row
 pub mod Derivative
-pub mod Isotherm

@@ -1,4 +1,3 @@
-// The rows of the residual part (004, section 6.2, Table 31), and what of them hangs on the temperature alone.
+// Table 31, row by row, and how the rows' figures are added up (004, section 6.2).
 pub mod derivative;
-pub mod isotherm;
 pub mod row;

@@ -7,7 +7,7 @@ use Rattle.roots.specs.Formula.{Formula, num, one, two, _⊕_, _⊖_, _⊗_, _�
 use Rattle.rows.specs.Derivative.{Derivative, Delta, DeltaDelta, Tau, TauTau, DeltaTau}
 use Rattle.rows.specs.Row.{nonAnalytics}
 use Rattle.rows.specs.declared.row.NonAnalytic.{NonAnalytic}
-use Rattle.rows.specs.declared.isotherm.Isotherm.{Isotherm}
+use Rattle.isotherm.specs.declared.isotherm.Isotherm.{Isotherm}
 use Rattle.critical.specs.Critical.{Around, Parts, around, parts}
 
 -- ---- the derivatives

@@ -1,6 +1,6 @@
 -- Each step is the definition's. Assumes nothing.
 use mathlib.Core.Path.{_≡_, refl, sym, ap, subst, _∙_}
-use Rattle.rows.specs.declared.isotherm.Isotherm.{Isotherm}
+use Rattle.isotherm.specs.declared.isotherm.Isotherm.{Isotherm}
 use Rattle.equation.specs.Pressure.{pressureOn, pressure}
 use Rattle.equation.specs.State.{stateOn, state}
 use Rattle.refusals.specs.Answer.{settled}

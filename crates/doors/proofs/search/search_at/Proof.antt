@@ -2,7 +2,7 @@
 use mathlib.Core.Path.{refl, ap, _∙_}
 use Rattle.equation.specs.Pressure.{pressureOn, pressure}
 use Rattle.equation.specs.State.{stateOn, state}
-use Rattle.rows.specs.declared.isotherm.Isotherm.{Isotherm}
+use Rattle.isotherm.specs.declared.isotherm.Isotherm.{Isotherm}
 use Rattle.doors.specs.Search.{searched}
 use borrow.Author.Needs.{needs}
 use Rattle.doors.proofs.search.search_at.Statement.{statement}

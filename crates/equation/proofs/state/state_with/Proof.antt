@@ -6,7 +6,7 @@ use Rattle.numeric.specs.Working.{checked}
 use Rattle.roots.specs.Formula.{Formula, value, work}
 use Rattle.roots.specs.Formula.{num, _⊖_, _⊗_, _⊘_}
 use Rattle.roots.proofs.Formulas.{once, once-root}
-use Rattle.rows.specs.Isotherm.{half}
+use Rattle.isotherm.specs.Isotherm.{half}
 use Rattle.equation.specs.State.{thermal, sag, pull, stiffness, heatV, heatP, sound, stateWith}
 use borrow.Author.Needs.{needs}
 use Rattle.equation.proofs.state.state_with.Statement.{statement}

@@ -11,7 +11,7 @@ use Rattle.numeric.specs.Working.{checked}
 use Rattle.roots.specs.Formula.{value}
 use Rattle.rows.specs.Derivative.{Derivative, of}
 use Rattle.rows.specs.declared.row.Polynomial.{Polynomial}
-use Rattle.rows.specs.declared.isotherm.Isotherm.{Isotherm}
+use Rattle.isotherm.specs.declared.isotherm.Isotherm.{Isotherm}
 use Rattle.rows.specs.Row.{polynomials}
 use Rattle.rows.proofs.Derivatives.{of-five}
 use Rattle.residual.specs.declared.term.Point.{Point}

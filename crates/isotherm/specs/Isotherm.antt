@@ -6,11 +6,11 @@ use Rattle.numeric.specs.Constant.{spanWagner}
 use Rattle.numeric.specs.Number.{decimal}
 use Rattle.roots.specs.declared.exponent.Exponent.{Exponent}
 use Rattle.roots.specs.Formula.{Formula, num, one, _⊖_, _⊗_, _⊘_, _^^_, root, value}
 use Rattle.rows.specs.Row.{polynomials, exponentials, gaussians}
 use Rattle.rows.specs.declared.row.Polynomial.{Polynomial}
 use Rattle.rows.specs.declared.row.Exponential.{Exponential}
 use Rattle.rows.specs.declared.row.Gaussian.{Gaussian}
-use Rattle.rows.specs.declared.isotherm.Isotherm.{Isotherm}
+use Rattle.isotherm.specs.declared.isotherm.Isotherm.{Isotherm}
 
 -- "τ = 304.1282/T"; "Quarters of τ come from a square root taken twice"
 unfoldable pub tauOf : Float → Formula

@@ -8,11 +8,11 @@ use lib.ListN.{length, getD, length-map}
 use lib.Ieee.{Float, nan, binary64, mul}
 use Rattle.numeric.specs.Power.{powers}
 use Rattle.roots.specs.Formula.{value}
-use Rattle.rows.specs.Isotherm.{quarters, tauPower, tauPowers}
-use Rattle.rows.proofs.Fills.{Filled, fill-more, fill-all}
-use Rattle.rows.proofs.Isotherms.{count, small, power-there}
-use Rattle.rows.proofs.isotherm.tau_powers.Statement.{statement}
-use Rattle.rows.proofs.isotherm.tau_powers.Tie as tie
+use Rattle.isotherm.specs.Isotherm.{quarters, tauPower, tauPowers}
+use Rattle.isotherm.proofs.Fills.{Filled, fill-more, fill-all}
+use Rattle.isotherm.proofs.Isotherms.{count, small, power-there}
+use Rattle.isotherm.proofs.isotherm.tau_powers.Statement.{statement}
+use Rattle.isotherm.proofs.isotherm.tau_powers.Tie as tie
 
 long : (tau quarter : Float) → length (tauPowers tau quarter) ≡ 39
 unfolding tauPowers

@@ -3,7 +3,7 @@ ghost use mathlib.Core.Path.{_≡_};
 ghost use Rattle.numeric.specs.Working.{plain};
 ghost use Rattle.roots.specs.Root.{root};
 ghost use Rattle.roots.specs.Formula.{value};
-ghost use Rattle.rows.specs.Isotherm.{half, tauOf, quarters, tauPowers, isotherm};
+ghost use Rattle.isotherm.specs.Isotherm.{half, tauOf, quarters, tauPowers, isotherm};
 use numeric::constant::span_wagner;
 use numeric::power::powers_to_3;
 use numeric::power::powers_to_28;

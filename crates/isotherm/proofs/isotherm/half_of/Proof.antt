@@ -2,8 +2,8 @@
 use mathlib.Core.Path.{ap, _∙_}
 use Rattle.numeric.specs.Working.{plain}
 use borrow.Author.Needs.{needs}
-use Rattle.rows.proofs.isotherm.half_of.Statement.{statement}
-use Rattle.rows.proofs.isotherm.half_of.Tie as tie
+use Rattle.isotherm.proofs.isotherm.half_of.Statement.{statement}
+use Rattle.isotherm.proofs.isotherm.half_of.Tie as tie
 
 root-requires : tie.Need-root-requires
 root-requires c κs = search needs

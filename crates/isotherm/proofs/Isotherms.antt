@@ -13,9 +13,9 @@ use Rattle.numeric.specs.Number.{decimal}
 use Rattle.numeric.specs.Power.{power, powers}
 use Rattle.numeric.proofs.Powers.{powers-at}
 use Rattle.roots.specs.Formula.{value}
 use Rattle.rows.specs.Row.{polynomials, exponentials, gaussians, nonAnalytics}
 use Rattle.rows.specs.declared.row.NonAnalytic.{NonAnalytic}
-use Rattle.rows.specs.Isotherm.{quarters, tauPower, tauPowers}
+use Rattle.isotherm.specs.Isotherm.{quarters, tauPower, tauPowers}
 
 -- within the list the default does not matter
 pub getD-map-lt : {A B : Type 0} (f : A → B) (l : List A) (i : ℕ) (d : A) (e : B) → i < length l → getD (map f l) i e ≡ f (getD l i d)

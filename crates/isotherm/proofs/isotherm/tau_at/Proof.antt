@@ -1,10 +1,10 @@
 -- One quotient. Assumes nothing.
 use mathlib.Core.Path.{refl}
 use Rattle.roots.specs.Formula.{value}
-use Rattle.rows.specs.Isotherm.{tauOf}
+use Rattle.isotherm.specs.Isotherm.{tauOf}
 use borrow.Author.Needs.{needs}
-use Rattle.rows.proofs.isotherm.tau_at.Statement.{statement}
-use Rattle.rows.proofs.isotherm.tau_at.Tie as tie
+use Rattle.isotherm.proofs.isotherm.tau_at.Statement.{statement}
+use Rattle.isotherm.proofs.isotherm.tau_at.Tie as tie
 
 span-wagner-requires : tie.Need-span-wagner-requires
 span-wagner-requires c κs = search needs

@@ -3,11 +3,11 @@ use mathlib.Core.Path.{refl}
 use lib.Ieee.{ofBits, ofInt, round}
 use Rattle.numeric.specs.Number.{decimal, fraction, whole}
 use Rattle.roots.specs.Formula.{value}
 use Rattle.rows.specs.Row.{gaussians}
-use Rattle.rows.specs.Isotherm.{quarterOf, isotherm, spread, cold}
+use Rattle.isotherm.specs.Isotherm.{quarterOf, isotherm, spread, cold}
 use borrow.Author.Needs.{needs}
-use Rattle.rows.proofs.isotherm.at_temperature.Statement.{statement}
-use Rattle.rows.proofs.isotherm.at_temperature.Tie as tie
+use Rattle.isotherm.proofs.isotherm.at_temperature.Statement.{statement}
+use Rattle.isotherm.proofs.isotherm.at_temperature.Tie as tie
 
 tau-at-requires : tie.Need-tau-at-requires
 tau-at-requires c κs = search needs

@@ -1,0 +1,3 @@
+pub mod Fills
+pub mod Isotherms
+pub mod Unique

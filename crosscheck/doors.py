@@ -1,0 +1,127 @@
+"""The doors worked a second time, from document 01 ("Constants and ranges", "The doors, step by step"): what the program `readings` must print of them, after numerics.py's
+lines. `python3 numerics.py; python3 doors.py` is all of it.
+"""
+import math
+import sys
+
+sys.dont_write_bytecode = True
+import equation
+import figures
+import numerics
+
+PRESSURES = [
+    (250.0, 5000000.0), (300.0, 5000000.0), (400.0, 5000000.0), (216.5919, 5000000.0), (216.592, 5000000.0),
+    (523.0, 5000000.0), (523.0001, 5000000.0), (300.0, 9999.0), (300.0, 10000.0), (300.0, 30000001.0),
+    (303.1282, 7000000.0), (303.1281, 7000000.0), (216.59199999999998, 5000000.0), (523.0000000000001, 5000000.0), (300.0, 9999.999999999998),
+    (300.0, 10000.000000000002), (300.0, 29999999.999999996), (300.0, 30000000.0), (300.0, 30000000.000000004), (216.592, 10000.0),
+    (216.592, 30000000.0), (523.0, 10000.0), (523.0, 30000000.0), (-0.0, 5000000.0), (5e-324, 5000000.0),
+    (1e+308, 5000000.0), (-300.0, 5000000.0), (300.0, -0.0), (300.0, 5e-324), (300.0, 1e+308),
+    (200.0, 1.0), (250.0, 1785029.0653665012), (250.0, 1785029.065366501), (250.0, 1785029.0653665015), (303.12819999999994, 7000000.0),
+    (303.1282, 6999999.999999999), (303.1282, 8000000.0), (303.1282, 8000000.000000001), (305.1282, 7000000.0), (305.1282, 8000000.0),
+    (305.12820000000005, 8000000.0), (304.0, 7500000.0), (304.12819999999994, 6900000.0), (304.1282, 6900000.0), (304.1282, 8100000.0),
+    (304.12820000000005, 12000000.0),
+]
+DENSITIES = [
+    (250.0, 1058.86), (300.0, 128.4), (400.0, 72.804), (250.0, 46.646153870768245), (250.0, 46.64615387076825),
+    (250.0, 500.0), (250.0, 1045.9895507737242), (250.0, 1045.9895507737244), (523.0, 1300.0), (300.0, 0.1),
+    (523.0, 0.1), (523.0, 0.2), (216.59199999999998, 100.0), (523.0000000000001, 100.0), (300.0, 0.09999999999999999),
+    (300.0, 1300.0000000000002), (300.0, -0.0), (300.0, 5e-324), (-0.0, 100.0), (303.1282, 350.7),
+    (303.1282, 350.69999999999993), (303.12819999999994, 350.7), (305.1282, 584.5), (305.1282, 584.5000000000001), (305.12820000000005, 584.5),
+    (304.1282, 467.6), (304.12819999999994, 340.0), (304.1282, 340.0), (304.1282, 600.0),
+]
+INF, NAN = float("inf"), float("nan")
+
+
+class Refusal(Exception):
+    """By its number."""
+
+
+def worked(f, *args):
+    try:
+        x = f(*args)
+    except figures.Failure:
+        raise Refusal(7)
+    return x.x if isinstance(x, figures.Num) else x
+
+
+def checks(t, x, low, high, box_low, box_high):
+    if not (math.isfinite(t) and math.isfinite(x)):
+        raise Refusal(3)
+    if not 216.592 <= t <= 523.0:
+        raise Refusal(4)
+    if not low <= x <= high:
+        raise Refusal(5)
+    if 303.1282 <= t <= 305.1282 and box_low <= x <= box_high:
+        raise Refusal(6)
+
+
+def state(phase, t, rho):
+    try:
+        return phase, [x.x for x in equation.state(t, rho)]
+    except figures.Failure:
+        raise Refusal(7)
+
+
+def pressure_figure(t):
+    def figure(b):
+        try:
+            return equation.pressure(t, numerics.number(b)).x
+        except figures.Failure:
+            return NAN
+    return figure
+
+
+def by_pressure(t, p):
+    checks(t, p, 10000.0, 30000000.0, 7000000.0, 8000000.0)
+    phase, low, high = "supercritical", 0.05, 1400.0
+    if t < 304.1282:
+        s = worked(figures.vapour_pressure, t)
+        if p == s:
+            raise Refusal(8)
+        if p < s:
+            phase, high = "vapour", 1.01 * worked(figures.vapour_density, t)
+        else:
+            phase, low = "liquid", 0.99 * worked(figures.liquid_density, t)
+        if not math.isfinite(low) or not math.isfinite(high):
+            raise Refusal(7)
+    found = numerics.halve(pressure_figure(t), p, numerics.bits(low), numerics.bits(high))
+    if found is None:
+        raise Refusal(7)
+    if found == "no crossing":
+        raise Refusal(9)
+    return state(phase, t, numerics.number(found))
+
+
+def by_density(t, rho):
+    checks(t, rho, 0.1, 1300.0, 350.7, 584.5)
+    phase = "supercritical"
+    if t < 304.1282:
+        vapour, liquid = worked(figures.vapour_density, t), worked(figures.liquid_density, t)
+        if vapour < rho < liquid:
+            raise Refusal(8)
+        phase = "liquid" if vapour < rho else "vapour"
+    if not 10000.0 <= worked(equation.pressure, t, rho) <= 30000000.0:
+        raise Refusal(5)
+    return state(phase, t, rho)
+
+
+def tell(name, door, t, x):
+    where = f"T {numerics.show(t)} and {name} {numerics.show(x)}"
+    try:
+        phase, eight = door(t, x)
+    except Refusal as r:
+        print(f"{where} refused by {r.args[0]}")
+        return
+    named = zip(["p", "rho", "u", "h", "cv", "cp", "w"], eight[1:])
+    print(f"{where} {phase} " + " ".join(f"{n} {numerics.show(v)}" for n, v in named))
+
+
+if __name__ == "__main__":
+    for t, p in PRESSURES:
+        tell("p", by_pressure, t, p)
+    for t, rho in DENSITIES:
+        tell("rho", by_density, t, rho)
+    for t, p in [(INF, 5000000.0), (NAN, 5000000.0), (300.0, -INF), (200.0, NAN)]:
+        tell("p", by_pressure, t, p)
+    for t, rho in [(-INF, 100.0), (NAN, NAN), (300.0, INF)]:
+        tell("rho", by_density, t, rho)

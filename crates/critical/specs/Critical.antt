@@ -70,10 +70,11 @@ near n = record { e = value (n .e); x = value (n .X); r = value (n .r); v = valu
 abbrev pub edge : Parts → Edge
 edge g = record { theta = value (g .θ); delta = value (g .Δ); p0 = value (g .P₀); p1 = value (g .P₁); psi = value (g .Ψ); low = value (g .low) }
 
--- row 40 and those after it
+-- no row, for a place that the table does not have
 abbrev pub blank : NonAnalytic
 blank = record { n = nan; a = nan; half = false; b = nan; root = Of0_34; ka = nan; kb = nan; kc = nan; kd = nan }
 
+-- row 40 is at place 0
 abbrev pub row : ℕ → NonAnalytic
 row i = getD nonAnalytics i blank
 

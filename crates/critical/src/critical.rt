@@ -5,6 +5,7 @@ ghost use Rattle.numeric.specs.Working.{plain};
 ghost use Rattle.roots.specs.Root.{root};
 ghost use Rattle.roots.specs.Formula.{absolute, value};
 ghost use Rattle.critical.specs.Critical.{around, near, raised, lowered, heldNear, heldEdge, parts, based, edge, critical};
+use isotherm::isotherm::Isotherm;
 use numeric::exponential::exponential;
 use numeric::working::over;
 use numeric::working::plain;
@@ -12,7 +13,6 @@ use roots::exponent::Exponent;
 use roots::exponent::Printed;
 use roots::exponent::worked_as;
 use roots::root::root;
-use isotherm::isotherm::Isotherm;
 use rows::row::NonAnalytic;
 use rows::row::non_analytics;
 

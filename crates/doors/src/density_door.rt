@@ -6,6 +6,7 @@ ghost use Rattle.doors.specs.Equation.{of1996};
 ghost use Rattle.doors.specs.DensityDoor.{inPhase, below, within, densityDoor};
 use equation::pressure::pressure_on;
 use equation::state::state_on;
+use isotherm::isotherm::at_temperature;
 use numeric::constant::span_wagner;
 use numeric::working::Worked;
 use refusals::answer::Answer;
@@ -15,7 +16,6 @@ use refusals::check::Check;
 use refusals::check::check_inputs;
 use refusals::limits::document_01;
 use refusals::limits::is_outside;
-use isotherm::isotherm::at_temperature;
 use saturation::saturation::liquid_density;
 use saturation::saturation::vapour_density;
 

@@ -12,12 +12,12 @@ ghost use Rattle.doors.specs.Search.{figure, searched};
 use equation::pressure::pressure_on;
 use equation::state::state_on;
 use halving::halving::Crossing;
+use isotherm::isotherm::Isotherm;
+use isotherm::isotherm::at_temperature;
 use numeric::working::Worked;
 use refusals::answer::Answer;
 use refusals::answer::Phase;
 use refusals::answer::settle;
-use isotherm::isotherm::Isotherm;
-use isotherm::isotherm::at_temperature;
 
 // From lo, where the pressure is not above p, to hi, where it is above.
 fn narrow(iso: Isotherm, p: f64, from: u64, to: u64) -> Crossing

@@ -1,7 +1,6 @@
 -- The state at a temperature and a density (docs/ARRANGEMENT.md, section 9; 004, Table 3): each field by its own formula, or a failure. Definitions only.
 use lib.Ieee.{Float}
 use Rattle.numeric.specs.Constant.{spanWagner}
-use Rattle.numeric.specs.Working.{then}
 use Rattle.numeric.specs.declared.working.Worked.{Worked}
 use Rattle.numeric.specs.declared.working.Worked.the-variants.{Number, Failed}
 use Rattle.roots.specs.Formula.{Formula, num, one, two, _⊕_, _⊖_, _⊗_, _⊘_, minus, root, work}

@@ -2,12 +2,12 @@
 // handed on by value, so that no probe of a search works it again.
 ghost use mathlib.Core.Path.{_≡_};
 ghost use Rattle.equation.specs.Pressure.{deltaOf, pressureOn, pressure};
+use isotherm::isotherm::Isotherm;
+use isotherm::isotherm::at_temperature;
 use numeric::constant::span_wagner;
 use numeric::working::Worked;
 use numeric::working::checked;
 use residual::sum::slope_at;
-use isotherm::isotherm::Isotherm;
-use isotherm::isotherm::at_temperature;
 
 pub(crate) fn delta_at(rho: f64) -> Worked
     ensures { λ r. ⌜ r ≡ deltaOf rho ⌝ }

@@ -3,6 +3,8 @@ ghost use mathlib.Core.Path.{_≡_};
 ghost use Rattle.equation.specs.State.{stateWith, stateOf, stateIdeal, stateOn, state};
 use crate::pressure::delta_at;
 use ideal::ideal::ideal_part;
+use isotherm::isotherm::Isotherm;
+use isotherm::isotherm::at_temperature;
 use numeric::constant::span_wagner;
 use numeric::working::Worked;
 use numeric::working::checked;
@@ -12,8 +14,6 @@ use residual::sum::five_sums;
 use roots::exponent::Exponent;
 use roots::root::root;
 use rows::derivative::Five;
-use isotherm::isotherm::Isotherm;
-use isotherm::isotherm::at_temperature;
 
 // T, p, ρ, u, h, cᵥ, cₚ and the sound speed, in K, Pa, kg/m³, J and m/s.
 pub struct State {

@@ -1,4 +1,4 @@
--- What hangs on the temperature alone, in plain f64: a number here that is not finite fails whatever is worked from it. Definitions only.
+-- What hangs on the temperature alone, in plain f64. Where τ or its quarter root fails, so does every sum (residual, proofs/Failures.antt). Definitions only.
 use Prim.Native.Nat.{ℕ, _/_, _%_}
 use mathlib.Core.List.{List, _++_, map}
 use lib.Ieee.{Float}

@@ -1,4 +1,4 @@
--- What fails with the temperature: τ and its quarter root enter the second row, so where either fails each sum does. Assumes nothing.
+-- What fails with the temperature: the quarter root, which fails where τ does, stands in the second row, so each sum fails with it. Assumes nothing.
 use mathlib.Core.Path.{_≡_, refl, sym, ap, _∙_}
 use mathlib.Core.List.{List, [], _∷_, _++_}
 use lib.ListN.{getD}

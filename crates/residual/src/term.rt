@@ -4,10 +4,10 @@ ghost use lib.Ieee.{neg};
 ghost use Rattle.numeric.specs.Exponential.{exponential};
 ghost use Rattle.numeric.specs.Working.{plain};
 ghost use Rattle.residual.specs.Term.{point};
+use isotherm::isotherm::Isotherm;
 use numeric::exponential::exponential;
 use numeric::power::powers_to_10;
 use numeric::working::plain;
-use isotherm::isotherm::Isotherm;
 
 // The powers of δ, e^(−δᶜ) for c from 1 to 6, and the exponentials of rows 35 to 39.
 pub struct Point {

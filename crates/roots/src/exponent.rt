@@ -2,7 +2,7 @@
 ghost use mathlib.Core.Path.{_≡_};
 ghost use Rattle.roots.specs.Exponent.{workedAs};
 
-// m/k, below 2.
+// m/k; `root` refuses one that is not below 2.
 pub struct Exponent {
     pub m: usize,
     pub k: usize,

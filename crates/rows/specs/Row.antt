@@ -13,7 +13,7 @@ use Rattle.rows.specs.declared.row.Exponential.{Exponential}
 use Rattle.rows.specs.declared.row.Gaussian.{Gaussian}
 use Rattle.rows.specs.declared.row.NonAnalytic.{NonAnalytic}
 
--- the fourteen digits, and how many of them stand after the point
+-- the fourteen digits, and how many places stand after the point
 abbrev pub plus : ℕ → ℕ → Float
 plus digits places = decimal digits places
 
@@ -70,7 +70,7 @@ exponentials =
     ∷ exponential (minus 30335118055646 17) 8 56 6
     ∷ []
 
--- n, d, t in quarters, α, β, γ in hundredths; ε is 1 in every row
+-- n, d, t in quarters, α, β, and γ in hundredths; ε is 1 in every row
 abbrev pub gaussian : Float → ℕ → ℕ → ℕ → ℕ → ℕ → Gaussian
 gaussian n d q alpha beta gamma = record {
   n = n;

@@ -12,7 +12,7 @@ use Rattle.critical.specs.Critical.{Around, Parts, around, parts}
 
 -- ---- the derivatives
 module _ (row : NonAnalytic) (n : Around) (g : Parts) where
-  -- P₂ = P₁/Δ, "only where a second derivative is worked"
+  -- P₂ = P₁/Δ, which the second derivatives alone work
   abbrev pub P₂ : Formula
   P₂ = g .P₁ ⊘ g .Δ
 
@@ -66,7 +66,7 @@ module _ (row : NonAnalytic) (n : Around) (g : Parts) where
 
   -- ---- the brackets
   module _ (delta tau : Float) where
-    -- k = δ·ψ_δ, g = 1 + k, l = δ·P_δ
+    -- δ·ψ_δ, 1 + δ·ψ_δ and δ·P_δ
     abbrev pub ripple : Formula
     ripple = num delta ⊗ psiD
 

@@ -3,10 +3,10 @@ use Prim.Native.Nat.{ℕ}
 use mathlib.Core.Bool.{Bool, true, false}
 use lib.ListN.{getD}
 use lib.Ieee.{Float, nan}
-use Rattle.roots.specs.declared.exponent.Printed.{Printed}
-use Rattle.roots.specs.declared.exponent.Printed.the-variants.{Of0_34, Of10_6}
-use Rattle.roots.specs.declared.exponent.Exponent.{Exponent}
-use Rattle.roots.specs.Exponent.{workedAs}
+use Rattle.exponents.specs.declared.exponent.Printed.{Printed}
+use Rattle.exponents.specs.declared.exponent.Printed.the-variants.{Of0_34, Of10_6}
+use Rattle.exponents.specs.declared.exponent.Exponent.{Exponent}
+use Rattle.exponents.specs.Exponent.{workedAs}
 use Rattle.roots.specs.Formula.{Formula, num, one, _⊕_, _⊖_, _⊗_, _⊘_, _^^_, minus, size, e^, root, value}
 use Rattle.rows.specs.Row.{nonAnalytics}
 use Rattle.rows.specs.declared.row.NonAnalytic.{NonAnalytic}

@@ -10,7 +10,7 @@ use Rattle.numeric.specs.declared.working.Worked.{Worked}
 use Rattle.numeric.specs.declared.working.Worked.the-variants.{Number}
 use Rattle.roots.specs.Formula.{work}
 use Rattle.roots.proofs.Formulas.{sound, then-sound, work-sound}
-use Rattle.rows.specs.Derivative.{Delta}
+use Rattle.derivatives.specs.Derivative.{Delta}
 use Rattle.isotherm.specs.declared.isotherm.Isotherm.{Isotherm}
 use Rattle.residual.specs.Sum.{residual}
 use Rattle.equation.specs.Pressure.{deltaOf, pressureFormula, pressureOn}

@@ -8,10 +8,10 @@ use Rattle.numeric.specs.declared.working.Worked.{Worked}
 use Rattle.numeric.specs.declared.working.Worked.the-variants.{Number, Failed}
 use Rattle.roots.specs.Formula.{work}
 use Rattle.isotherm.specs.declared.isotherm.Isotherm.{Isotherm}
-use Rattle.rows.specs.Derivative.{Delta, DeltaDelta, Tau, TauTau, DeltaTau}
+use Rattle.derivatives.specs.Derivative.{Delta, DeltaDelta, Tau, TauTau, DeltaTau}
 use Rattle.isotherm.specs.Isotherm.{quarterOf, isotherm}
 use Rattle.residual.specs.Sum.{residual, together, fiveSums, thenSum}
-use Rattle.rows.specs.declared.derivative.Five.{Five}
+use Rattle.derivatives.specs.declared.derivative.Five.{Five}
 use Rattle.residual.specs.declared.sum.Sums.{Sums}
 use Rattle.residual.specs.declared.sum.Sums.the-variants.{Summed, Broken}
 use Rattle.residual.proofs.Failures.{failed-with-temperature}

@@ -6,7 +6,7 @@ use Rattle.numeric.specs.declared.working.Worked.{Worked}
 use Rattle.roots.specs.Formula.{Formula, num, one, _⊕_, _⊗_, _⊘_, work}
 use Rattle.isotherm.specs.Isotherm.{isotherm}
 use Rattle.isotherm.specs.declared.isotherm.Isotherm.{Isotherm}
-use Rattle.rows.specs.Derivative.{Delta}
+use Rattle.derivatives.specs.Derivative.{Delta}
 use Rattle.residual.specs.Sum.{residual}
 
 -- "δ = ρ/467.6"

@@ -7,7 +7,7 @@ use Rattle.roots.specs.Formula.{Formula, num, one, two, _⊕_, _⊖_, _⊗_, _�
 use Rattle.isotherm.specs.Isotherm.{half, isotherm}
 use Rattle.isotherm.specs.declared.isotherm.Isotherm.{Isotherm}
 use Rattle.residual.specs.Sum.{fiveSums}
-use Rattle.rows.specs.declared.derivative.Five.{Five}
+use Rattle.derivatives.specs.declared.derivative.Five.{Five}
 use Rattle.residual.specs.declared.sum.Sums.{Sums}
 use Rattle.residual.specs.declared.sum.Sums.the-variants.{Summed, Broken}
 use Rattle.ideal.specs.Ideal.{idealPart}

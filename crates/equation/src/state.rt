@@ -2,6 +2,8 @@
 ghost use mathlib.Core.Path.{_≡_};
 ghost use Rattle.equation.specs.State.{stateWith, stateOf, stateIdeal, stateOn, state};
 use crate::pressure::delta_at;
+use derivatives::derivative::Five;
+use exponents::exponent::Exponent;
 use ideal::ideal::ideal_part;
 use isotherm::isotherm::Isotherm;
 use isotherm::isotherm::at_temperature;
@@ -11,9 +13,7 @@ use numeric::working::checked;
 use numeric::working::over;
 use residual::sum::Sums;
 use residual::sum::five_sums;
-use roots::exponent::Exponent;
 use roots::root::root;
-use rows::derivative::Five;
 
 // T, p, ρ, u, h, cᵥ, cₚ and the sound speed, in K, Pa, kg/m³, J and m/s.
 pub struct State {

@@ -1,6 +1,7 @@
 // The saturation figures at temperatures, I₁ and I₂ of the ideal part at values of τ, and pressures and states; their
 // bits were worked elsewhere (crosscheck/equation.py). One figure a line.
 use critical::critical::at_critical;
+use derivatives::derivative::Five;
 use equation::pressure::pressure_at;
 use equation::state::State;
 use equation::state::Stated;
@@ -9,7 +10,6 @@ use ideal::ideal::ideal_part;
 use isotherm::isotherm::at_temperature;
 use numeric::working::Worked;
 use numeric::working::checked;
-use rows::derivative::Five;
 use rows::row::non_analytics;
 use saturation::saturation::liquid_density;
 use saturation::saturation::vapour_density;

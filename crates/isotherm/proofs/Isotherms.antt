@@ -10,8 +10,8 @@ use lib.ListN.{length, getD}
 use lib.Ieee.{Float, nan, binary64, mul}
 use lib.Ieee.Fits.{and-l, and-r}
 use Rattle.numeric.specs.Number.{decimal}
-use Rattle.numeric.specs.Power.{power, powers}
-use Rattle.numeric.proofs.Powers.{powers-at}
+use Rattle.powers.specs.Power.{power, powers}
+use Rattle.powers.proofs.Powers.{powers-at}
 use Rattle.roots.specs.Formula.{value}
 use Rattle.rows.specs.Row.{polynomials, exponentials, gaussians, nonAnalytics}
 use Rattle.rows.specs.declared.row.NonAnalytic.{NonAnalytic}

@@ -4,7 +4,7 @@ use mathlib.Core.List.{List, _++_, map}
 use lib.Ieee.{Float}
 use Rattle.numeric.specs.Constant.{spanWagner}
 use Rattle.numeric.specs.Number.{decimal}
-use Rattle.roots.specs.declared.exponent.Exponent.{Exponent}
+use Rattle.exponents.specs.declared.exponent.Exponent.{Exponent}
 use Rattle.roots.specs.Formula.{Formula, num, one, _⊖_, _⊗_, _⊘_, _^^_, root, value}
 use Rattle.rows.specs.Row.{polynomials, exponentials, gaussians}
 use Rattle.rows.specs.declared.row.Polynomial.{Polynomial}

@@ -4,12 +4,12 @@ ghost use Rattle.numeric.specs.Working.{plain};
 ghost use Rattle.roots.specs.Root.{root};
 ghost use Rattle.roots.specs.Formula.{value};
 ghost use Rattle.isotherm.specs.Isotherm.{half, tauOf, quarters, tauPowers, isotherm};
+use exponents::exponent::Exponent;
 use numeric::constant::span_wagner;
-use numeric::power::powers_to_3;
-use numeric::power::powers_to_28;
 use numeric::working::over;
 use numeric::working::plain;
-use roots::exponent::Exponent;
+use powers::power::powers_to_3;
+use powers::power::powers_to_28;
 use roots::root::root;
 
 pub struct Isotherm {

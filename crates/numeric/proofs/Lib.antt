@@ -1,6 +1,3 @@
 pub mod Workings
-pub mod Tables
 pub mod Numbers
-pub mod Powers
-pub mod Exponentials
 pub mod Unique

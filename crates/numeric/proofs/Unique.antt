@@ -1,16 +1,10 @@
 -- No second answer meets a public function's promise. `Post` is the function's own `ensures`, read at a call. Assumes nothing.
 use mathlib.Core.Path.{_≡_, sym, _∙_}
 use mathlib.Core.Bool.{Bool}
-use mathlib.Core.List.{List}
 use lib.Ieee.{Float}
 use Rattle.numeric.specs.declared.working.Worked.{Worked}
 use Rattle.numeric.specs.declared.constant.Constants.{Constants}
 use Rattle.numeric.proofs.constant.span_wagner.Reads as span-wagner
-use Rattle.numeric.proofs.exponential.exponential.Reads as exponential
-use Rattle.numeric.proofs.power.powers_to_3.Reads as powers-to-3
-use Rattle.numeric.proofs.power.powers_to_10.Reads as powers-to-10
-use Rattle.numeric.proofs.power.powers_to_28.Reads as powers-to-28
-use Rattle.numeric.proofs.power.whole_power.Reads as whole-power
 use Rattle.numeric.proofs.working.checked.Reads as checked
 use Rattle.numeric.proofs.working.is_finite.Reads as is-finite
 use Rattle.numeric.proofs.working.over.Reads as over
@@ -35,21 +29,6 @@ over-once a r s x y = by-equation
 
 pub plain-once : OneAnswer Float (plain.Post tt)
 plain-once a r s x y = by-equation
-
-pub whole-power-once : OneAnswer Float (whole-power.Post tt)
-whole-power-once a r s x y = by-equation
-
-pub powers-to-3-once : OneAnswer (List Float) (powers-to-3.Post tt)
-powers-to-3-once a r s x y = by-equation
-
-pub powers-to-10-once : OneAnswer (List Float) (powers-to-10.Post tt)
-powers-to-10-once a r s x y = by-equation
-
-pub powers-to-28-once : OneAnswer (List Float) (powers-to-28.Post tt)
-powers-to-28-once a r s x y = by-equation
-
-pub exponential-once : OneAnswer Worked (exponential.Post tt)
-exponential-once a r s x y = by-equation
 
 pub span-wagner-once : OneAnswer Constants (span-wagner.Post tt)
 span-wagner-once a r s x y = by-equation

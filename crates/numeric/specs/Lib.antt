@@ -1,5 +1,3 @@
 pub mod Number
 pub mod Constant
 pub mod Working
-pub mod Power
-pub mod Exponential

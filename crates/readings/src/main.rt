@@ -2,13 +2,13 @@
 // (crosscheck/numerics.py): one a line, numbers as the sixteen hexadecimal digits of their bits.
 mod answers;
 
+use exponents::exponent::Exponent;
+use exponents::exponent::Printed;
+use exponents::exponent::worked_as;
 use libc::STDOUT_FILENO;
-use numeric::exponential::exponential;
-use numeric::power::whole_power;
 use numeric::working::Worked;
-use roots::exponent::Exponent;
-use roots::exponent::Printed;
-use roots::exponent::worked_as;
+use powers::exponential::exponential;
+use powers::power::whole_power;
 use roots::root::root;
 use telling::figure;
 use telling::say;

@@ -4,13 +4,13 @@ use mathlib.Core.List.{List, [], _∷_, _++_}
 use lib.ListN.{getD}
 use lib.Ieee.{Float, nan, ofInt}
 use Rattle.numeric.specs.Number.{whole}
-use Rattle.numeric.specs.Power.{_^ᵂ_}
+use Rattle.powers.specs.Power.{_^ᵂ_}
 use Rattle.numeric.specs.Working.{checked, _+ᵂ_, _*ᵂ_}
 use Rattle.numeric.specs.declared.working.Worked.{Worked}
 use Rattle.numeric.specs.declared.working.Worked.the-variants.{Number, Failed}
 use Rattle.roots.specs.Formula.{_⊗_, value, work}
 use Rattle.roots.proofs.Formulas.{once}
-use Rattle.rows.specs.Derivative.{Derivative}
+use Rattle.derivatives.specs.Derivative.{Derivative}
 use Rattle.rows.specs.Row.{polynomials, exponentials, gaussians}
 use Rattle.isotherm.specs.Isotherm.{quarterOf, tauPower, tauPowers, quarters, isotherm}
 use Rattle.isotherm.specs.declared.isotherm.Isotherm.{Isotherm}

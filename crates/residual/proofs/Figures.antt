@@ -9,18 +9,18 @@ use lib.Dec.{T, ltb, ltb→lt}
 use lib.ListN.{length, getD}
 use lib.Ieee.{Float, nan, binary64, mul}
 use lib.Ieee.Fits.{and-l, and-r}
-use Rattle.numeric.specs.Power.{power, powers}
+use Rattle.powers.specs.Power.{power, powers}
 use Rattle.numeric.specs.Working.{checked}
 use Rattle.numeric.specs.declared.working.Worked.{Worked}
 use Rattle.numeric.specs.declared.working.Worked.the-variants.{Failed}
-use Rattle.numeric.proofs.Powers.{powers-at}
+use Rattle.powers.proofs.Powers.{powers-at}
 use Rattle.roots.specs.Formula.{Formula, num, _⊗_, _^^_, value, work}
 use Rattle.roots.proofs.Formulas.{once}
 use Rattle.rows.specs.declared.row.Polynomial.{Polynomial}
 use Rattle.rows.specs.declared.row.Exponential.{Exponential}
 use Rattle.rows.specs.declared.row.Gaussian.{Gaussian}
 use Rattle.isotherm.specs.declared.isotherm.Isotherm.{Isotherm}
-use Rattle.rows.specs.Derivative.{Derivative, Delta, DeltaDelta, Tau, TauTau, DeltaTau}
+use Rattle.derivatives.specs.Derivative.{Derivative, Delta, DeltaDelta, Tau, TauTau, DeltaTau}
 use Rattle.rows.specs.Row.{polynomials, exponentials, gaussians}
 use Rattle.residual.specs.Term.{polynomialTerm, polynomialBracket, exponentialTerm, exponentialBracket, decay, decays, gaussianTerm, gaussianBracket, bell, bells}
 use Rattle.residual.specs.Sum.{polynomialFigure, polynomialFigures, exponentialFigure, exponentialFigures, gaussianFigure, gaussianFigures}

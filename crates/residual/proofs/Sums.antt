@@ -15,9 +15,9 @@ use Rattle.numeric.specs.declared.working.Worked.{Worked}
 use Rattle.numeric.specs.declared.working.Worked.the-variants.{Failed}
 use Rattle.numeric.proofs.Workings.{checked-add}
 use Rattle.residual.specs.Term.{numbered}
-use Rattle.rows.specs.Derivative.{Derivative, of, times, grown, asked}
-use Rattle.rows.specs.declared.derivative.Five.{Five}
-use Rattle.rows.proofs.Derivatives.{of-five, of-grown}
+use Rattle.derivatives.specs.Derivative.{Derivative, of, times, grown, asked}
+use Rattle.derivatives.specs.declared.derivative.Five.{Five}
+use Rattle.derivatives.proofs.Derivatives.{of-five, of-grown}
 use Rattle.residual.specs.Sum.{onto, total, Meet}
 
 -- ---- one kind of rows after another

@@ -7,8 +7,8 @@ use lib.ListN.{length}
 use lib.Ieee.{Float}
 use Rattle.numeric.specs.declared.working.Worked.{Worked}
 use Rattle.numeric.specs.declared.working.Worked.the-variants.{Number}
-use Rattle.rows.specs.Derivative.{Derivative, Delta, DeltaDelta, Tau, TauTau, DeltaTau, of}
-use Rattle.rows.specs.declared.derivative.Five.{Five}
+use Rattle.derivatives.specs.Derivative.{Derivative, Delta, DeltaDelta, Tau, TauTau, DeltaTau, of}
+use Rattle.derivatives.specs.declared.derivative.Five.{Five}
 use Rattle.isotherm.specs.declared.isotherm.Isotherm.{Isotherm}
 use Rattle.sharp.specs.Sharp.{sharpFigures}
 use Rattle.residual.specs.Sum.{onto, total, polynomialFigures, exponentialFigures, gaussianFigures, figures, residual, together}

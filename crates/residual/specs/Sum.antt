@@ -19,8 +19,8 @@ use Rattle.rows.specs.declared.row.Gaussian.{Gaussian}
 use Rattle.isotherm.specs.declared.isotherm.Isotherm.{Isotherm}
 use Rattle.residual.specs.declared.sum.Sums.{Sums}
 use Rattle.residual.specs.declared.sum.Sums.the-variants.{Summed, Broken}
-use Rattle.rows.specs.Derivative.{Derivative, Delta, DeltaDelta, Tau, TauTau, DeltaTau, of, asked}
-use Rattle.rows.specs.declared.derivative.Five.{Five}
+use Rattle.derivatives.specs.Derivative.{Derivative, Delta, DeltaDelta, Tau, TauTau, DeltaTau, of, asked}
+use Rattle.derivatives.specs.declared.derivative.Five.{Five}
 
 -- w, and then each figure added to it, in order
 unfoldable pub onto : Worked → List Worked → Worked

@@ -4,7 +4,7 @@ use mathlib.Core.List.{List, [], _∷_, map}
 use lib.ListN.{getD}
 use lib.Ieee.{Float, nan}
 use Rattle.numeric.specs.Number.{whole}
-use Rattle.numeric.specs.Power.{powers}
+use Rattle.powers.specs.Power.{powers}
 use Rattle.roots.specs.Formula.{Formula, num, one, two, _⊕_, _⊖_, _⊗_, _⊘_, _^^_, minus, e^, value}
 use Rattle.rows.specs.declared.row.Polynomial.{Polynomial}
 use Rattle.rows.specs.declared.row.Exponential.{Exponential}
@@ -12,7 +12,7 @@ use Rattle.rows.specs.declared.row.Gaussian.{Gaussian}
 use Rattle.rows.specs.Row.{gaussians}
 use Rattle.isotherm.specs.declared.isotherm.Isotherm.{Isotherm}
 use Rattle.residual.specs.declared.term.Point.{Point}
-use Rattle.rows.specs.Derivative.{Derivative, Delta, DeltaDelta, Tau, TauTau, DeltaTau}
+use Rattle.derivatives.specs.Derivative.{Derivative, Delta, DeltaDelta, Tau, TauTau, DeltaTau}
 
 -- t = j/4
 abbrev pub quarters : ℕ → Formula

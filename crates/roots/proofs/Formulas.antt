@@ -10,8 +10,8 @@ use lib.Ieee.{Float, nan, inf, fin, binary64}
 use lib.Ieee.Scale.{finite}
 use Rattle.numeric.specs.Number.{whole}
 use Rattle.numeric.specs.Working.{checked, over, plain, then, pick, both, _+ᵂ_, _-ᵂ_, _*ᵂ_, _/ᵂ_}
-use Rattle.numeric.specs.Power.{power, _^ᵂ_}
-use Rattle.numeric.specs.Exponential.{exponential, falling, squared, series}
+use Rattle.powers.specs.Power.{power, _^ᵂ_}
+use Rattle.powers.specs.Exponential.{exponential, falling, squared, series}
 use Rattle.roots.specs.Root as Root
 use Rattle.roots.specs.Root.{rootBits, rootOf, searched}
 use Rattle.roots.specs.Formula.{Formula, num, _⊕_, _⊖_, _⊗_, _⊘_, _^^_, minus, size, e^, root, absolute, value, work}
@@ -19,9 +19,9 @@ use Rattle.numeric.specs.declared.working.Worked.{Worked}
 use Rattle.numeric.specs.declared.working.Worked.the-variants.{Number, Failed}
 use Rattle.halving.specs.declared.halving.Crossing.{Crossing}
 use Rattle.halving.specs.declared.halving.Crossing.the-variants.{At, Nowhere, Broke}
-use Rattle.roots.specs.declared.exponent.Exponent.{Exponent}
+use Rattle.exponents.specs.declared.exponent.Exponent.{Exponent}
 use Rattle.numeric.proofs.Workings.{checked-add, checked-sub, checked-mul, checked-div}
-use Rattle.numeric.proofs.Powers.{checked-power}
+use Rattle.powers.proofs.Powers.{checked-power}
 use Rattle.roots.proofs.Orders.{bits-finite}
 use Rattle.roots.proofs.Roots.{crossing-below}
 

@@ -1,4 +1,3 @@
-pub mod Exponents
 pub mod Orders
 pub mod Roots
 pub mod Formulas

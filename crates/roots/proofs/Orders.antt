@@ -16,7 +16,7 @@ use lib.Ieee.Order.{le-of-values, round-mono}
 use lib.Ieee.Positive.{num, den, den-pos, through}
 use lib.Ieee.Scale.{finite}
 use Rattle.numeric.specs.Number.{whole, nonneg}
-use Rattle.numeric.specs.Power.{power}
+use Rattle.powers.specs.Power.{power}
 use Rattle.numeric.proofs.Numbers.{infinity}
 
 -- not negative, the infinity included

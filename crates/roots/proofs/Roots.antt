@@ -14,13 +14,13 @@ use Rattle.numeric.specs.declared.working.Worked.the-variants.{Number, Failed}
 use Rattle.halving.specs.declared.halving.Crossing.the-variants.{At, Nowhere, Broke}
 use Rattle.numeric.specs.Number.{whole, nonneg}
 use Rattle.numeric.specs.Working.{checked, then}
-use Rattle.numeric.specs.Power.{power, _^ᵂ_}
+use Rattle.powers.specs.Power.{power, _^ᵂ_}
 use Rattle.halving.specs.Halving.{halve, NotAbove, Above, worthy, failed, second-not-above, at-second}
 use Rattle.roots.specs.Root.{powerAt, rootBits, rootOf, searched}
-use Rattle.numeric.proofs.Tables.{at}
+use Rattle.powers.proofs.Tables.{at}
 use Rattle.numeric.proofs.Numbers.{infinity}
 use Rattle.numeric.proofs.Workings.{checked-finite, checked-failed, checked-number}
-use Rattle.numeric.proofs.Powers.{power-next, checked-power}
+use Rattle.powers.proofs.Powers.{power-next, checked-power}
 use Rattle.halving.proofs.Halvings.{Rises, Works, answer, nowhere-back, breaks-back, unique-crossing}
 use Rattle.roots.proofs.Orders.{Ordered, bits-mono, power-mono, never-falls}
 

@@ -6,12 +6,12 @@ use lib.Ieee as Ieee
 use lib.Ieee.{Float, binary64}
 use Rattle.numeric.specs.Number.{whole}
 use Rattle.numeric.specs.Working.{checked, over, plain, then, _+ᵂ_, _-ᵂ_, _*ᵂ_, _/ᵂ_}
-use Rattle.numeric.specs.Power.{power, _^ᵂ_}
-use Rattle.numeric.specs.Exponential.{exponential}
+use Rattle.powers.specs.Power.{power, _^ᵂ_}
+use Rattle.powers.specs.Exponential.{exponential}
 use Rattle.roots.specs.Root as Root
 use Rattle.numeric.specs.declared.working.Worked.{Worked}
 use Rattle.numeric.specs.declared.working.Worked.the-variants.{Number}
-use Rattle.roots.specs.declared.exponent.Exponent.{Exponent}
+use Rattle.exponents.specs.declared.exponent.Exponent.{Exponent}
 
 infixl 6 _⊕_ _⊖_
 infixl 7 _⊗_ _⊘_

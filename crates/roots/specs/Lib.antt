@@ -1,4 +1,3 @@
-pub mod Exponent
 pub mod Root
 pub mod Formula
 pub mod Readings

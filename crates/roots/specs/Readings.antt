@@ -2,13 +2,13 @@
 use mathlib.Core.List.{List, [], _∷_}
 use lib.Ieee as Ieee
 use Rattle.numeric.specs.Number.{whole}
-use Rattle.numeric.specs.Power.{power}
-use Rattle.numeric.specs.Exponential.{exponential}
+use Rattle.powers.specs.Power.{power}
+use Rattle.powers.specs.Exponential.{exponential}
 use Rattle.roots.specs.Root.{root}
 use Rattle.roots.specs.Formula.{num, size, work}
 use Rattle.numeric.specs.declared.working.Worked.{Worked}
 use Rattle.numeric.specs.declared.working.Worked.the-variants.{Number}
-use Rattle.roots.specs.declared.exponent.Exponent.{Exponent}
+use Rattle.exponents.specs.declared.exponent.Exponent.{Exponent}
 
 pub record Starred : Type 0 where
   pub worked : Worked

@@ -6,13 +6,13 @@ use lib.Ieee.{Float, binary64}
 use lib.Ieee.Scale.{finite}
 use Rattle.numeric.specs.Number.{whole}
 use Rattle.numeric.specs.Working.{checked, then, pick}
-use Rattle.numeric.specs.Power.{_^ᵂ_}
+use Rattle.powers.specs.Power.{_^ᵂ_}
 use Rattle.halving.specs.Halving.{Figure, halve}
 use Rattle.numeric.specs.declared.working.Worked.{Worked}
 use Rattle.numeric.specs.declared.working.Worked.the-variants.{Number, Failed}
 use Rattle.halving.specs.declared.halving.Crossing.{Crossing}
 use Rattle.halving.specs.declared.halving.Crossing.the-variants.{At, Nowhere, Broke}
-use Rattle.roots.specs.declared.exponent.Exponent.{Exponent}
+use Rattle.exponents.specs.declared.exponent.Exponent.{Exponent}
 
 -- the k-th whole power of the float with the bits b
 unfoldable pub powerAt : ℕ → Figure

@@ -6,14 +6,14 @@ ghost use Prim.Native.Nat.{_+_, _≤_, _<_};
 ghost use lib.Dec.{T};
 ghost use lib.Ieee.{binary64, ofBits};
 ghost use Rattle.numeric.specs.Number.{nonneg};
-ghost use Rattle.numeric.specs.Power.{power};
+ghost use Rattle.powers.specs.Power.{power};
 ghost use Rattle.roots.specs.Root.{root, rootBits, searched};
-use crate::exponent::Exponent;
+use exponents::exponent::Exponent;
 use halving::halving::Crossing;
-use numeric::power::whole_power;
 use numeric::working::Worked;
 use numeric::working::checked;
 use numeric::working::is_finite;
+use powers::power::whole_power;
 
 // The k-th whole power of the float with the bits b.
 fn power_at(b: u64, k: usize) -> f64

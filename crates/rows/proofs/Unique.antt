@@ -1,13 +1,10 @@
 -- No second answer meets a public function's promise. Assumes nothing.
 use mathlib.Core.List.{List}
-use Rattle.rows.specs.declared.derivative.Five.{Five}
 use Rattle.rows.specs.declared.row.Polynomial.{Polynomial}
 use Rattle.rows.specs.declared.row.Exponential.{Exponential}
 use Rattle.rows.specs.declared.row.Gaussian.{Gaussian}
 use Rattle.rows.specs.declared.row.NonAnalytic.{NonAnalytic}
 use Rattle.numeric.proofs.Unique.{OneAnswer, by-equation}
-use Rattle.rows.proofs.derivative.first.Reads as first
-use Rattle.rows.proofs.derivative.grow.Reads as grow
 use Rattle.rows.proofs.row.polynomials.Reads as polynomials
 use Rattle.rows.proofs.row.exponentials.Reads as exponentials
 use Rattle.rows.proofs.row.gaussians.Reads as gaussians
@@ -24,9 +21,3 @@ gaussians-once a r s x y = by-equation
 
 pub non-analytics-once : OneAnswer (List NonAnalytic) (non-analytics.Post tt)
 non-analytics-once a r s x y = by-equation
-
-pub first-once : OneAnswer Five (first.Post tt)
-first-once a r s x y = by-equation
-
-pub grow-once : OneAnswer Five (grow.Post tt)
-grow-once a r s x y = by-equation

@@ -5,9 +5,9 @@ use lib.Dec.{eqb}
 use lib.Ieee as Ieee
 use lib.Ieee.{Float}
 use Rattle.numeric.specs.Number.{fraction, decimal, whole}
-use Rattle.roots.specs.Exponent.{asPrinted}
-use Rattle.roots.specs.declared.exponent.Printed.{Printed}
-use Rattle.roots.specs.declared.exponent.Printed.the-variants.{Of0_875, Of0_925}
+use Rattle.exponents.specs.Exponent.{asPrinted}
+use Rattle.exponents.specs.declared.exponent.Printed.{Printed}
+use Rattle.exponents.specs.declared.exponent.Printed.the-variants.{Of0_875, Of0_925}
 use Rattle.rows.specs.declared.row.Polynomial.{Polynomial}
 use Rattle.rows.specs.declared.row.Exponential.{Exponential}
 use Rattle.rows.specs.declared.row.Gaussian.{Gaussian}

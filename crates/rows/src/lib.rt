@@ -1,3 +1,2 @@
-// Table 31, row by row, and how the rows' figures are added up (004, section 6.2).
-pub mod derivative;
+// The rows of the residual part, as Table 31 prints them (004, section 6.2).
 pub mod row;

@@ -2,7 +2,7 @@
 // (specs/Row.antt) by one computation.
 ghost use mathlib.Core.Path.{_≡_};
 ghost use Rattle.rows.specs.Row.{polynomials, exponentials, gaussians, nonAnalytics};
-use roots::exponent::Printed;
+use exponents::exponent::Printed;
 
 // Rows 1 to 7: the coefficient, the power of δ, and that of τ in quarters.
 pub struct Polynomial {

@@ -7,16 +7,16 @@ ghost use Rattle.roots.specs.Formula.{num, value, work};
 ghost use Rattle.saturation.specs.Saturation.{eq-3-13, eq-3-14, eq-3-15};
 ghost use Rattle.saturation.specs.Saturation.{theta, tau, pressureSum, liquidSum, vapourSum, densityOf, aboveZero};
 ghost use Rattle.saturation.specs.Saturation.{vapourPressure, liquidDensity, vapourDensity};
+use exponents::exponent::Exponent;
+use exponents::exponent::Printed;
+use exponents::exponent::worked_as;
 use numeric::constant::span_wagner;
-use numeric::exponential::exponential;
-use numeric::power::whole_power;
 use numeric::working::Worked;
 use numeric::working::checked;
 use numeric::working::over;
 use numeric::working::plain;
-use roots::exponent::Exponent;
-use roots::exponent::Printed;
-use roots::exponent::worked_as;
+use powers::exponential::exponential;
+use powers::power::whole_power;
 use roots::root::root;
 
 // The coefficients of eqs. (3.13) and (3.14).

@@ -8,10 +8,10 @@ use Rattle.numeric.specs.declared.working.Worked.{Worked}
 use Rattle.numeric.proofs.Workings.{checked-add}
 use Rattle.roots.specs.Formula.{_⊗_, value, work}
 use Rattle.roots.proofs.Formulas.{once}
-use Rattle.rows.specs.Derivative.{Derivative, Delta, DeltaDelta, Tau, TauTau, DeltaTau, of, grown, asked}
-use Rattle.rows.specs.declared.derivative.Five.{Five}
+use Rattle.derivatives.specs.Derivative.{Derivative, Delta, DeltaDelta, Tau, TauTau, DeltaTau, of, grown, asked}
+use Rattle.derivatives.specs.declared.derivative.Five.{Five}
 use Rattle.rows.specs.declared.row.NonAnalytic.{NonAnalytic}
-use Rattle.rows.proofs.Derivatives.{of-grown}
+use Rattle.derivatives.proofs.Derivatives.{of-grown}
 use Rattle.critical.specs.Critical.{Around, Parts, near, edge, heldNear, heldEdge}
 use Rattle.critical.specs.declared.critical.Near.{Near}
 use Rattle.critical.specs.declared.critical.Edge.{Edge}

@@ -1,5 +1,5 @@
 -- No second answer meets a public function's promise. Assumes nothing.
-use Rattle.rows.specs.declared.derivative.Five.{Five}
+use Rattle.derivatives.specs.declared.derivative.Five.{Five}
 use Rattle.numeric.proofs.Unique.{OneAnswer, by-equation}
 use Rattle.sharp.proofs.sharp.sharpen.Reads as sharpen
 

@@ -2,14 +2,14 @@
 // so far: all five, or the first, which a pressure needs.
 ghost use mathlib.Core.Path.{_≡_};
 ghost use Rattle.roots.specs.Formula.{value};
-ghost use Rattle.rows.specs.Derivative.{five, grown};
+ghost use Rattle.derivatives.specs.Derivative.{five, grown};
 ghost use Rattle.critical.specs.Critical.{heldNear, heldEdge};
 ghost use Rattle.sharp.specs.Sharp.{bend, bracketD, sharpTerm, sharpBracket};
 use critical::critical::Edge;
 use critical::critical::Near;
+use derivatives::derivative::Five;
+use derivatives::derivative::grow;
 use numeric::working::over;
-use rows::derivative::Five;
-use rows::derivative::grow;
 use rows::row::NonAnalytic;
 
 // m = Δ_δ/(δ−1)

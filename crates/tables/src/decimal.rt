@@ -4,7 +4,7 @@ ghost use Prim.Native.Nat.{_≤_, _+_};
 ghost use lib.ListN.{length};
 ghost use mathlib.Core.Path.{_≡_};
 use crate::place::place_of;
-use numeric::power::whole_power;
+use powers::power::whole_power;
 
 pub struct Decimal {
     pub negative: bool,

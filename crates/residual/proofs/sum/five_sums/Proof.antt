@@ -1,7 +1,7 @@
 -- Each sum is the definition's. Assumes nothing.
 use mathlib.Core.Path.{_∙_}
 use Rattle.numeric.specs.Working.{checked}
-use Rattle.rows.specs.Derivative.{of}
+use Rattle.derivatives.specs.Derivative.{of}
 use Rattle.residual.specs.Sum.{residual, fiveSums}
 use Rattle.residual.proofs.Totals.{together-same}
 use borrow.Author.Needs.{needs}

@@ -2,7 +2,7 @@
 use mathlib.Core.Path.{refl}
 use lib.Ieee.{ofBits, ofInt}
 use Rattle.numeric.specs.Number.{whole}
-use Rattle.numeric.specs.Power.{power}
+use Rattle.powers.specs.Power.{power}
 use Rattle.roots.specs.Formula.{value}
 use Rattle.residual.specs.Term.{gaussianBracket}
 use borrow.Author.Needs.{needs}

@@ -1,6 +1,6 @@
 -- The first sum, tested. Assumes nothing.
 use mathlib.Core.Path.{ap, _∙_}
-use Rattle.rows.specs.Derivative.{Delta}
+use Rattle.derivatives.specs.Derivative.{Delta}
 use borrow.Author.Needs.{needs}
 use Rattle.residual.proofs.sum.slope_at.Statement.{statement}
 use Rattle.residual.proofs.sum.slope_at.Tie as tie

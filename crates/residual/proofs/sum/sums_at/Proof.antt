@@ -2,7 +2,7 @@
 use mathlib.Core.Path.{_≡_, refl, sym, ap, subst, _∙_}
 use lib.Ieee.{Float}
 use Rattle.numeric.specs.Working.{checked}
-use Rattle.rows.specs.Derivative.{of}
+use Rattle.derivatives.specs.Derivative.{of}
 use Rattle.isotherm.specs.declared.isotherm.Isotherm.{Isotherm}
 use Rattle.residual.specs.declared.term.Point.{Point}
 use Rattle.residual.specs.Term.{point}

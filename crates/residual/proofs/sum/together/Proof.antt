@@ -1,6 +1,6 @@
 -- Each step is the definition's. Assumes nothing.
 use mathlib.Core.Path.{_≡_, sym, _∙_}
-use Rattle.rows.specs.Derivative.{Delta, DeltaDelta, Tau, TauTau, DeltaTau}
+use Rattle.derivatives.specs.Derivative.{Delta, DeltaDelta, Tau, TauTau, DeltaTau}
 use Rattle.residual.specs.Sum.{together}
 use Rattle.residual.proofs.Totals.{all-summed}
 use borrow.Author.Needs.{needs}

@@ -2,7 +2,7 @@
 use mathlib.Core.Path.{refl}
 use lib.Ieee.{ofBits, ofInt, round}
 use Rattle.numeric.specs.Number.{decimal, fraction, whole}
-use Rattle.numeric.specs.Power.{power, powers}
+use Rattle.powers.specs.Power.{power, powers}
 use Rattle.roots.specs.Formula.{value}
 use Rattle.rows.specs.Row.{gaussians}
 use Rattle.residual.specs.Term.{point, decays, decay, bells, bell}

@@ -3,8 +3,8 @@ use mathlib.Core.Path.{_≡_, refl, ap, _∙_}
 use Prim.Native.Nat.{ℕ, _≤_, _+_, _-_}
 use native.Mathlib.Omega.{arith}
 use lib.Ieee.{Float, binary64, mul}
-use Rattle.numeric.specs.Power.{power}
-use Rattle.numeric.proofs.Powers.{power-next}
+use Rattle.powers.specs.Power.{power}
+use Rattle.powers.proofs.Powers.{power-next}
 use Rattle.roots.proofs.root.three_powers.Statement.{statement}
 use Rattle.roots.proofs.root.three_powers.Tie as tie
 

@@ -3,7 +3,7 @@ use mathlib.Core.Path.{refl}
 use lib.Ieee.{ofBits, ofInt, round, div}
 use Rattle.numeric.specs.Number.{fraction, whole}
 use Rattle.roots.specs.Formula.{value}
-use Rattle.numeric.specs.Power.{power}
+use Rattle.powers.specs.Power.{power}
 use Rattle.sharp.specs.Sharp.{sharpBracket}
 use borrow.Author.Needs.{needs}
 use Rattle.sharp.proofs.sharp.brackets.Statement.{statement}

@@ -1,0 +1,2 @@
+// The exponents of roots (document 01, "Root").
+pub mod exponent;

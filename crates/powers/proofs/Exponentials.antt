@@ -1,0 +1,43 @@
+-- A turn of each loop of the exponential, worked in plain f64 and tested at the end. Assumes nothing.
+use mathlib.Core.Path.{_≡_, refl, sym, ap, _∙_}
+use Prim.Native.Nat.{ℕ, zero, suc, _-_, _<_, _≤_}
+use native.Mathlib.Numerals.{sub-one}
+use native.Mathlib.Omega.{arith}
+use lib.Dec.{T}
+use lib.Ieee.{Float, binary64, mul, sub, div, ofInt}
+use lib.Ieee.Scale.{finite}
+use Rattle.numeric.specs.declared.working.Worked.{Worked}
+use Rattle.numeric.specs.Number.{whole}
+use Rattle.numeric.specs.Working.{checked, _-ᵂ_, _*ᵂ_, _/ᵂ_}
+use Rattle.powers.specs.Exponential.{series, squared}
+use Rattle.powers.proofs.Tables.{at}
+use Rattle.numeric.proofs.Workings.{checked-sub, checked-mul, checked-div}
+
+divisor-finite : (k : ℕ) → k ≤ 14 → T (finite (whole k))
+unfolding whole ofInt
+divisor-finite k h = at 15 (λ n. finite (whole n)) tt k (omega arith)
+
+pub series-turn : (y : Float) (k : ℕ) (s : Float) → 0 < k → k ≤ 14
+    → series (checked y) k (checked s) ≡ series (checked y) (k - 1) (checked (sub binary64 (whole 1) (mul binary64 (div binary64 y (whole k)) s)))
+unfolding series
+series-turn y zero s h l = absurd (omega arith)
+series-turn y (suc k) s h l =
+    rw sub-one
+    (ap (series (checked y) k)
+    (sym (checked-sub (whole 1) _
+    ∙ ap (λ (w : Worked). checked (whole 1) -ᵂ w) (checked-mul _ s ∙ ap (λ (w : Worked). w *ᵂ checked s) (checked-div y (whole (suc k)) (divisor-finite (suc k) l))))))
+
+pub squared-turn : (n : ℕ) (s : Float) → 0 < n → squared n (checked s) ≡ squared (n - 1) (checked (mul binary64 s s))
+unfolding squared
+squared-turn zero s h = absurd (omega arith)
+squared-turn (suc n) s h = rw sub-one (ap (squared n) (sym (checked-mul s s)))
+
+pub series-end : (y : Worked) (k : ℕ) (s : Worked) → k ≤ 0 → series y k s ≡ s
+unfolding series
+series-end y zero s h = refl
+series-end y (suc k) s h = absurd (omega arith)
+
+pub squared-end : (n : ℕ) (s : Worked) → n ≤ 0 → squared n s ≡ s
+unfolding squared
+squared-end zero s h = refl
+squared-end (suc n) s h = absurd (omega arith)

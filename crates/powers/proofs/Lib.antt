@@ -1,0 +1,4 @@
+pub mod Tables
+pub mod Powers
+pub mod Exponentials
+pub mod Unique

@@ -1,0 +1,85 @@
+-- Each return is the arm of the definition that the tests before it lead to. Assumes nothing.
+use mathlib.Core.Path.{_≡_, sym, ap, _∙_}
+use borrow.Author.Needs.{needs}
+use lib.Ieee.{ofBits, ofInt}
+use Rattle.numeric.specs.declared.working.Worked.{Worked}
+use Rattle.numeric.specs.Number.{whole}
+use Rattle.numeric.specs.Working.{checked, _/ᵂ_}
+use Rattle.powers.specs.Exponential.{exponential}
+use Rattle.powers.proofs.exponential.exponential.Statement.{statement}
+use Rattle.powers.proofs.exponential.exponential.Tie as tie
+use Rattle.powers.proofs.exponential.exponential.Reads as reads
+use Rattle.powers.proofs.exponential.exponential.Lts as lts
+use Rattle.powers.proofs.exponential.falling.Reads as falling-reads
+use Rattle.numeric.proofs.working.checked.Reads as checked-reads
+use Rattle.numeric.proofs.working.is_finite.Reads as is-finite-reads
+
+-- past the tests: 1 divided by the exponential of −x
+rising : (c : tie.After-falling2) → exponential (c .before .before .before .before .before .before .args .x) ≡ checked (whole 1) /ᵂ c .falling2 .result
+unfolding exponential ofBits ofInt whole
+rising c =
+    let d = c .before in
+    let f = sym (d .before .before .before .before .is-finite .ensures) ∙ d .before .before .before .if1 .taken in
+    simp (exponential, f, d .before .before .if2 .left, d .before .if3 .left, d .if4 .left, c .falling2 .ensures)
+
+is-finite-requires : tie.Need-is-finite-requires
+is-finite-requires c κs = search needs
+
+returns : tie.Need-returns
+unfolding exponential
+returns c = simp (exponential, sym (c .before .is-finite .ensures) ∙ c .if1 .left)
+
+returns-2 : tie.Need-returns-2
+unfolding exponential ofBits ofInt whole
+returns-2 c = simp (exponential, sym (c .before .before .is-finite .ensures) ∙ c .before .if1 .taken, c .if2 .taken)
+
+returns-3 : tie.Need-returns-3
+unfolding exponential ofBits ofInt whole
+returns-3 c = simp (exponential, sym (c .before .before .before .is-finite .ensures) ∙ c .before .before .if1 .taken, c .before .if2 .left, c .if3 .taken)
+
+falling-requires : tie.Need-falling-requires
+falling-requires c κs = search needs
+
+returns-4 : tie.Need-returns-4
+unfolding exponential ofBits ofInt whole
+returns-4 c =
+    let d = c .before in
+    let f = sym (d .before .before .before .before .is-finite .ensures) ∙ d .before .before .before .if1 .taken in
+    c .falling .ensures ∙ simp (exponential, f, d .before .before .if2 .left, d .before .if3 .left, d .if4 .taken)
+
+falling-requires-2 : tie.Need-falling-requires-2
+falling-requires-2 c κs = search needs
+
+enum-known-e : tie.Need-enum-known-e
+enum-known-e c = search needs
+
+enum-told : tie.Need-enum-told
+enum-told c = search needs
+
+returns-5 : tie.Need-returns-5
+unfolding _/ᵂ_ ofInt whole
+returns-5 c = sym (rising (c .before .before) ∙ ap (λ (w : Worked). checked (whole 1) /ᵂ w) (c .enum-told .given .1))
+
+checked-requires : tie.Need-checked-requires
+checked-requires c κs = search needs
+
+returns-6 : tie.Need-returns-6
+unfolding _/ᵂ_ ofBits ofInt whole
+returns-6 c = c .checked .ensures ∙ sym (rising (c .before .before .before .before) ∙ ap (λ (w : Worked). checked (whole 1) /ᵂ w) (c .before .before .e .given .1))
+
+pub exponential-spec : {M : Type 1} → statement M
+exponential-spec =
+    tie.close
+    (tie.spec
+    is-finite-requires
+    returns
+    returns-2
+    returns-3
+    falling-requires
+    returns-4
+    falling-requires-2
+    enum-known-e
+    enum-told
+    returns-5
+    checked-requires
+    returns-6)

@@ -1,4 +1,4 @@
--- The demands, of the public functions: whatever meets a door's promise has them. Assumes nothing.
+-- The demands, over any equation and limits, of 1996 with document 01's numbers, and of the public functions: whatever meets a door's promise has them. Assumes nothing.
 use Prim.Native.Nat.{ℕ, _+_, _^_, _<_, _≤_}
 use mathlib.Core.Path.{_≡_, refl, sym, ap, subst, _∙_}
 use native.Mathlib.Omega.{arith}
@@ -17,8 +17,10 @@ use Rattle.refusals.specs.Answer.{withPhase}
 use Rattle.refusals.specs.Limits.{document01}
 use Rattle.doors.specs.Equation.{Equation, of1996}
 use Rattle.doors.specs.Search.{figure}
+use Rattle.doors.specs.DensityDoor.{densityDoor}
 use Rattle.demands.specs.Demands as demands
-use Rattle.demands.specs.Demands.{Whatever, Exactly, PastP, Ranged, supercritical, RefusesP, Answered, RefusesD, AnsweredD, Sane, Settled, given, not-given, eightOf, SameEight, LiesInRange}
+use Rattle.demands.specs.Demands.{Whatever, Exactly, Barred, no-number, no-temperature, no-value, in-box, PastP, Ranged, supercritical, RefusesP, barred, line-fails, on-line, vapour-fails, vapour-end-fails, liquid-fails, liquid-end-fails, no-crossing, probe-fails, state-fails, Answered, RefusesD, stopped, no-vapour, no-liquid, between, no-pressure, pressure-outside, no-state, AnsweredD, Sane, Settled, given, not-given, eightOf, SameEight, LiesInRange}
+use Rattle.refusals.specs.declared.limits.Range.{Range}
 use Rattle.refusals.specs.declared.limits.Limits.{Limits}
 use Rattle.refusals.specs.declared.answer.Phase.{Phase}
 use Rattle.refusals.specs.declared.answer.State.{State}
@@ -59,16 +61,6 @@ pub sane : Sane of1996 document01
 sane = record { ends = sane-ends; keeps = sane-keeps }
 
 -- ---- DEMAND 1: every input is answered or refused, and each refusal is given exactly under its condition
-settled : (r : Answer) → Settled r
-settled (answer.State x) = given x refl
-settled (answer.Refused n) = not-given n refl
-
-pub from-pressure-settles : Whatever (from-pressure.Post tt) (λ a r. Settled r)
-from-pressure-settles a r s h = settled r
-
-pub from-density-settles : Whatever (from-density.Post tt) (λ a r. Settled r)
-from-density-settles a r s h = settled r
-
 pub from-pressure-refuses : Whatever (from-pressure.Post tt) (λ a r. (n : ℕ) → Exactly (r ≡ answer.Refused n) (RefusesP of1996 document01 (a .0) (a .1 .0) n))
 from-pressure-refuses a r s h n =
     let w = pressure-refusals of1996 document01 sane (a .0) (a .1 .0) n in
@@ -78,6 +70,44 @@ pub from-density-refuses : Whatever (from-density.Post tt) (λ a r. (n : ℕ) �
 from-density-refuses a r s h n =
     let w = density-refusals of1996 document01 (a .0) (a .1 .0) n in
     (λ e. w .0 (sym h ∙ e), λ q. h ∙ w .1 q)
+
+-- so no other number is given
+of-checks : {L : Limits} {asked critical : Range} {t x : Float} {n : ℕ} → Barred L asked critical t x n → (3 ≤ n) × (n ≤ 9)
+of-checks (no-number e) = (omega arith, omega arith)
+of-checks (no-temperature e f) = (omega arith, omega arith)
+of-checks (no-value e f g) = (omega arith, omega arith)
+of-checks (in-box e f g h) = (omega arith, omega arith)
+
+of-pressure : {t p : Float} {n : ℕ} → RefusesP of1996 document01 t p n → (3 ≤ n) × (n ≤ 9)
+of-pressure (barred b) = of-checks b
+of-pressure (line-fails q c e) = (omega arith, omega arith)
+of-pressure (on-line q c e f) = (omega arith, omega arith)
+of-pressure (vapour-fails q c e f g h) = (omega arith, omega arith)
+of-pressure (vapour-end-fails q c e f g h i) = (omega arith, omega arith)
+of-pressure (liquid-fails q c e f g h) = (omega arith, omega arith)
+of-pressure (liquid-end-fails q c e f g h i) = (omega arith, omega arith)
+of-pressure (no-crossing q r e) = (omega arith, omega arith)
+of-pressure (probe-fails q r e f) = (omega arith, omega arith)
+of-pressure (state-fails q r e f) = (omega arith, omega arith)
+
+of-density : {t rho : Float} {n : ℕ} → RefusesD of1996 document01 t rho n → (3 ≤ n) × (n ≤ 9)
+of-density (stopped b) = of-checks b
+of-density (no-vapour q c e) = (omega arith, omega arith)
+of-density (no-liquid q c e f) = (omega arith, omega arith)
+of-density (between q c e f g h) = (omega arith, omega arith)
+of-density (no-pressure q r e) = (omega arith, omega arith)
+of-density (pressure-outside q r e f) = (omega arith, omega arith)
+of-density (no-state q r e f g) = (omega arith, omega arith)
+
+settled : (r : Answer) → ((n : ℕ) → r ≡ answer.Refused n → (3 ≤ n) × (n ≤ 9)) → Settled r
+settled (answer.State x) h = given x refl
+settled (answer.Refused n) h = not-given n refl (h n refl .0) (h n refl .1)
+
+pub from-pressure-settles : Whatever (from-pressure.Post tt) (λ a r. Settled r)
+from-pressure-settles a r s h = settled r (λ n e. of-pressure (from-pressure-refuses a r s h n .0 e))
+
+pub from-density-settles : Whatever (from-density.Post tt) (λ a r. Settled r)
+from-density-settles a r s h = settled r (λ n e. of-density (from-density-refuses a r s h n .0 e))
 
 -- ---- DEMAND 3: the density and the next float lie in the range, and the pressure passes the one asked for between them; 9 exactly where there is no crossing
 pub from-pressure-answers : Whatever (from-pressure.Post tt) (λ a r. (x : State) → r ≡ answer.State x → Answered of1996 document01 (a .0) (a .1 .0) x)
@@ -125,3 +155,8 @@ lies-in-range t p x a =
 -- ---- where the density door answers for what the pressure door gave, the eight numbers are the same bits
 pub doors-agree : SameEight of1996 document01
 doors-agree = same-eight of1996 document01 sane
+
+pub from-density-agrees : Whatever (from-pressure.Post tt) (λ a r. (x : State) → r ≡ answer.State x
+    → Whatever (from-density.Post tt) (λ b q. b .0 ≡ a .0 → b .1 .0 ≡ x .rho → (y : State) → q ≡ answer.State y → eightOf y ≡ eightOf x))
+from-density-agrees a r s h x e b q u k f g y l =
+    doors-agree (a .0) (a .1 .0) x y (sym h ∙ e) (sym (ap (λ (d : Float). densityDoor of1996 document01 (a .0) d) g) ∙ sym (ap (λ (t : Float). densityDoor of1996 document01 t (b .1 .0)) f) ∙ sym k ∙ l)

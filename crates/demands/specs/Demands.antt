@@ -122,7 +122,7 @@ Exactly A B = (A → B) × (B → A)
 -- "Any .. numbers, blanks, infinities and non-numbers get an answer or one of document 01's refusals, by its order. A refused state carries no figures."
 pub data Settled (a : Answer) : Type 0 where
   given : (x : State) → a ≡ answer.State x → Settled a
-  not-given : (n : ℕ) → a ≡ answer.Refused n → Settled a
+  not-given : (n : ℕ) → a ≡ answer.Refused n → 3 ≤ n → n ≤ 9 → Settled a
 
 -- the eight numbers of a state
 abbrev pub eightOf : State → Eight.State

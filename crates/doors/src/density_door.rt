@@ -14,6 +14,7 @@ use refusals::answer::Phase;
 use refusals::answer::settle;
 use refusals::check::Check;
 use refusals::check::check_inputs;
+use refusals::check::refusal;
 use refusals::limits::document_01;
 use refusals::limits::is_outside;
 use saturation::saturation::liquid_density;
@@ -67,8 +68,8 @@ pub fn from_density(t: f64, rho: f64) -> Answer
 {
     let l = document_01();
     let c = check_inputs(l, l.asked.density, l.critical.density, t, rho);
-    match c {
-        Check::No(n) => Answer::Refused(n),
-        Check::Passed => enter(t, rho),
-    }
+    let Check::Passed = c else {
+        return refusal(c);
+    };
+    enter(t, rho)
 }

@@ -12,6 +12,7 @@ use refusals::answer::Answer;
 use refusals::answer::Phase;
 use refusals::check::Check;
 use refusals::check::check_inputs;
+use refusals::check::refusal;
 use refusals::limits::document_01;
 use saturation::saturation::liquid_density;
 use saturation::saturation::vapour_density;
@@ -75,8 +76,8 @@ pub fn from_pressure(t: f64, p: f64) -> Answer
 {
     let l = document_01();
     let c = check_inputs(l, l.asked.pressure, l.critical.pressure, t, p);
-    match c {
-        Check::No(n) => Answer::Refused(n),
-        Check::Passed => enter(t, p),
-    }
+    let Check::Passed = c else {
+        return refusal(c);
+    };
+    enter(t, p)
 }

@@ -1,5 +1,5 @@
 // The search for the density at which the pressure worked on an isotherm passes the one asked for. Nothing is taken of
-// the curve's shape, so each probe is where the definition's is (numeric, specs/Halving.antt).
+// the curve's shape, so each probe is where the definition's is (halving, specs/Halving.antt).
 ghost use mathlib.Core.Path.{_≡_};
 ghost use Prim.Native.Nat.{_<_};
 ghost use lib.Dec.{T};

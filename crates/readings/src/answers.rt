@@ -23,6 +23,7 @@ fn tell_number(name: &[u8], x: f64) {
 }
 
 fn tell_state(x: State) {
+    tell_number(b" T ", x.t);
     tell_number(b" p ", x.p);
     tell_number(b" rho ", x.rho);
     tell_number(b" u ", x.u);
@@ -57,6 +58,14 @@ fn by_density(t: f64, rho: f64) {
     tell_number(b"T ", t);
     tell_number(b" and rho ", rho);
     tell_answer(from_density(t, rho));
+}
+
+// The density that the pressure door gives, put to the other door.
+fn by_both(t: f64, p: f64) {
+    let Answer::State(x) = from_pressure(t, p) else {
+        return;
+    };
+    by_density(x.t, x.rho);
 }
 
 // A temperature and a pressure or a density, one after the other.
@@ -166,6 +175,24 @@ fn pressures() {
         8100000.0,
         304.12820000000005,
         12000000.0,
+        216.59200000000004,
+        5000000.0,
+        522.9999999999999,
+        5000000.0,
+        300.0,
+        -5000000.0,
+        305.1282,
+        6999999.999999999,
+        305.1282,
+        8000000.000000001,
+        217.0,
+        500000.0,
+        217.0,
+        600000.0,
+        303.1,
+        7100000.0,
+        303.1,
+        7300000.0,
     ];
     each(false, &list);
 }
@@ -230,6 +257,42 @@ fn densities() {
         340.0,
         304.1282,
         600.0,
+        216.592,
+        1178.0,
+        216.59200000000004,
+        1178.0,
+        522.9999999999999,
+        100.0,
+        5e-324,
+        100.0,
+        1e308,
+        100.0,
+        -300.0,
+        100.0,
+        300.0,
+        1e308,
+        300.0,
+        -100.0,
+        300.0,
+        0.10000000000000002,
+        300.0,
+        1299.9999999999998,
+        303.1282,
+        584.5,
+        303.1282,
+        584.5000000000001,
+        305.1282,
+        350.7,
+        305.1282,
+        350.69999999999993,
+        217.0,
+        13.0,
+        217.0,
+        1177.0,
+        303.1,
+        300.0,
+        303.1,
+        560.0,
     ];
     each(true, &list);
 }
@@ -241,13 +304,21 @@ fn no_numbers() {
     by_pressure(nan, 5000000.0);
     by_pressure(300.0, -infinity);
     by_pressure(200.0, nan);
+    by_pressure(-infinity, 5000000.0);
+    by_pressure(300.0, infinity);
+    by_pressure(300.0, nan);
     by_density(-infinity, 100.0);
     by_density(nan, nan);
     by_density(300.0, infinity);
+    by_density(300.0, nan);
+    by_density(nan, 100.0);
 }
 
 pub fn run() {
     pressures();
     densities();
     no_numbers();
+    by_both(250.0, 5000000.0);
+    by_both(300.0, 5000000.0);
+    by_both(400.0, 5000000.0);
 }

@@ -1,5 +1,5 @@
-// The readings of document 01 that are run, and exponentials and roots whose bits were worked elsewhere
-// (crosscheck/numerics.py): one a line, numbers as the sixteen hexadecimal digits of their bits.
+// The readings of document 01 that are run, exponentials and roots, and states by the two doors, whose bits were worked
+// elsewhere (crosscheck/numerics.py and doors.py): one a line, numbers as the sixteen hexadecimal digits of their bits.
 mod answers;
 
 use exponents::exponent::Exponent;

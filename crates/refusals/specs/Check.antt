@@ -27,3 +27,7 @@ checks l asked critical t x =
 abbrev pub passed : Check → Answer → Answer
 passed (No n) a = answer.Refused n
 passed Passed a = a
+
+-- the refusal alone, of a check that was not passed
+abbrev pub refusal : Check → Answer
+refusal c = passed c (answer.Refused 0)

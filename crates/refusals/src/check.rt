@@ -2,7 +2,8 @@
 ghost use mathlib.Core.Path.{_≡_};
 ghost use mathlib.Core.Bool.{_&&_};
 ghost use lib.Ieee.Scale.{finite};
-ghost use Rattle.refusals.specs.Check.{checks};
+ghost use Rattle.refusals.specs.Check.{checks, refusal};
+use crate::answer::Answer;
 use crate::limits::Limits;
 use crate::limits::Range;
 use crate::limits::is_outside;
@@ -39,4 +40,14 @@ pub fn check_inputs(l: Limits, asked: Range, critical: Range, t: f64, x: f64) ->
         return Check::Passed;
     }
     Check::No(6)
+}
+
+// The refusal of a check that was not passed, handed on.
+pub fn refusal(c: Check) -> Answer
+    ensures { λ r. ⌜ r ≡ refusal c ⌝ }
+{
+    match c {
+        Check::No(n) => Answer::Refused(n),
+        Check::Passed => Answer::Refused(0),
+    }
 }

@@ -1,6 +1,6 @@
 -- The checks, and the steps after them. Assumes nothing.
-use mathlib.Core.Path.{_≡_, refl, sym, ap, subst, _∙_}
-use Rattle.refusals.specs.Check.{checks, passed}
+use mathlib.Core.Path.{_≡_, refl, sym, ap, _∙_}
+use Rattle.refusals.specs.Check.{checks, passed, refusal}
 use Rattle.refusals.specs.Limits.{document01}
 use Rattle.refusals.specs.declared.check.Check.{Check}
 use Rattle.refusals.specs.declared.limits.Limits.{Limits}
@@ -16,22 +16,25 @@ document-01-requires c κs = search needs
 check-inputs-requires : tie.Need-check-inputs-requires
 check-inputs-requires c κs = search needs
 
-enum-known-c : tie.Need-enum-known-c
-enum-known-c c = search needs
-
 enum-told : tie.Need-enum-told
 enum-told c = search needs
 
-enter-requires : tie.Need-enter-requires
-enter-requires c κs = search needs
+enum-told-2 : tie.Need-enum-told-2
+enum-told-2 c = search needs
+
+refusal-requires : tie.Need-refusal-requires
+refusal-requires c κs = search needs
 
 returns : tie.Need-returns
 unfolding densityDoor
 returns c =
     let a = c .before .before .before .before .before .args in
     let k = c .before .before .before in
-    let e = sym (k .check-inputs .ensures ∙ ap (λ (l : Limits). checks l (l .asked .density) (l .critical .density) (a .t) (a .rho)) (k .before .document-01 .ensures)) ∙ c .before .c .given .1 in
-    sym (ap (λ (w : Check). passed w (within of1996 document01 (a .t) (a .rho))) e)
+    let e = sym (k .check-inputs .ensures ∙ ap (λ (l : Limits). checks l (l .asked .density) (l .critical .density) (a .t) (a .rho)) (k .before .document-01 .ensures)) ∙ c .before .enum-told2 .given .1 in
+    c .refusal .ensures ∙ ap refusal (c .before .enum-told2 .given .1) ∙ sym (ap (λ (w : Check). passed w (within of1996 document01 (a .t) (a .rho))) e)
+
+enter-requires : tie.Need-enter-requires
+enter-requires c κs = search needs
 
 returns-2 : tie.Need-returns-2
 unfolding densityDoor
@@ -47,8 +50,9 @@ from-density-spec =
     (tie.spec
     document-01-requires
     check-inputs-requires
-    enum-known-c
     enum-told
-    enter-requires
+    enum-told-2
+    refusal-requires
     returns
+    enter-requires
     returns-2)

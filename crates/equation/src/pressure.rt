@@ -18,13 +18,14 @@ pub(crate) fn delta_at(rho: f64) -> Worked
 pub fn pressure_on(iso: Isotherm, rho: f64) -> Worked
     ensures { λ r. ⌜ r ≡ pressureOn iso rho ⌝ }
 {
+    let t = iso.t;
     let Worked::Number(delta) = delta_at(rho) else {
         return Worked::Failed;
     };
     let Worked::Number(a) = slope_at(iso, delta) else {
         return Worked::Failed;
     };
-    checked(rho * span_wagner().gas * iso.t * (1.0 + a))
+    checked(rho * span_wagner().gas * t * (1.0 + a))
 }
 
 pub fn pressure_at(t: f64, rho: f64) -> Worked

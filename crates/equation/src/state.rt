@@ -98,13 +98,15 @@ fn state_ideal(t: f64, tau: f64, rho: f64, s: Five) -> Stated
 pub fn state_on(iso: Isotherm, rho: f64) -> Stated
     ensures { λ r. ⌜ r ≡ stateOn iso rho ⌝ }
 {
+    let t = iso.t;
+    let tau = iso.tau;
     let Worked::Number(delta) = delta_at(rho) else {
         return Stated::Unknown;
     };
     let Sums::Summed(s) = five_sums(iso, delta) else {
         return Stated::Unknown;
     };
-    state_ideal(iso.t, iso.tau, rho, s)
+    state_ideal(t, tau, rho, s)
 }
 
 pub fn state_at(t: f64, rho: f64) -> Stated

@@ -101,25 +101,3 @@ pub fn value(d: Decimal, scale: f64) -> f64 {
 pub fn unit(d: Decimal, scale: f64) -> f64 {
     scale / whole_power(10.0, d.places)
 }
-
-// A density less one unit of its last digit.
-pub fn lower(mut d: Decimal) -> Decimal
-    ensures { λ r. ⌜ (r .digits ≤ d .digits) × (d .digits ≤ r .digits + 1) × (r .places ≡ d .places) ⌝ }
-{
-    let digits = d.digits;
-    if 0 < digits {
-        d.digits = digits - 1;
-    }
-    d
-}
-
-// A density and one unit of its last digit.
-pub fn upper(mut d: Decimal) -> Decimal
-    ensures { λ r. ⌜ (d .digits ≤ r .digits) × (r .digits ≤ d .digits + 1) × (r .places ≡ d .places) ⌝ }
-{
-    let digits = d.digits;
-    if digits < u64::MAX {
-        d.digits = digits + 1;
-    }
-    d
-}

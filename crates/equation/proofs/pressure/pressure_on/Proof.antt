@@ -11,13 +11,13 @@ use Rattle.equation.proofs.pressure.pressure_on.Statement.{statement}
 use Rattle.equation.proofs.pressure.pressure_on.Tie as tie
 
 worked : (c : tie.After-checked)
-    → (let n = c .before .before .before .before .before in
+    → (let n = c .before .before .before .before in
     let a = n .before .before .before .before .before .before .before .args in c .checked .result ≡ work (pressureFormula (a .iso .t) (a .rho) (n .a .given .0 .0)))
 unfolding value ofBits ofInt whole
 worked c =
-    let n = c .before .before .before .before .before in
+    let n = c .before .before .before .before in
     let a = n .before .before .before .before .before .before .before .args in
-    c .checked .ensures ∙ rw (c .before .before .before .span-wagner .ensures) (once (pressureFormula (a .iso .t) (a .rho) (n .a .given .0 .0)))
+    c .checked .ensures ∙ rw (c .before .before .span-wagner .ensures) (once (pressureFormula (a .iso .t) (a .rho) (n .a .given .0 .0)))
 
 delta-at-requires : tie.Need-delta-at-requires
 delta-at-requires c κs = search needs
@@ -57,7 +57,7 @@ checked-requires c κs = search needs
 returns-3 : tie.Need-returns-3
 unfolding pressureOn
 returns-3 c =
-    let l = c .before .before .before .before .before in
+    let l = c .before .before .before .before in
     let m = l .before .before in
     let n = m .before .before in
     worked c ∙ simp (pressureOn, sym (n .before .before .delta-at .ensures) ∙ n .delta .given .1, sym (m .slope-at .ensures) ∙ l .a .given .1)

@@ -1,8 +1,7 @@
 // A printed number: its digits as a whole number, and how many of them stand after the point. So its unit, one of
 // the last printed digit, is known, and its value is one division.
-ghost use Prim.Native.Nat.{_≤_, _+_};
+ghost use Prim.Native.Nat.{_≤_};
 ghost use lib.ListN.{length};
-ghost use mathlib.Core.Path.{_≡_};
 use crate::place::place_of;
 use powers::power::whole_power;
 

@@ -1,0 +1,4 @@
+pub mod Decimals
+pub mod Parses
+pub mod Fields
+pub mod Printed

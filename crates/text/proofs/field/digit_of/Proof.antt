@@ -1,0 +1,14 @@
+use Rattle.text.proofs.Fields.{digit-low, digit-high}
+use native.Mathlib.Omega.{arith}
+use borrow.Author.Needs.{needs}
+use Rattle.text.proofs.field.digit_of.Statement.{statement}
+use Rattle.text.proofs.field.digit_of.Tie as tie
+
+sub-result : tie.Need-sub-result
+sub-result c = omega (arith, digit-low (c .args .b) (c .pre))
+
+returns : tie.Need-returns
+returns c = omega (arith, digit-high (c .args .b) (c .pre))
+
+pub digit-of-spec : {M : Type 1} → statement M
+digit-of-spec = tie.close (tie.spec sub-result returns)

@@ -1,0 +1,4 @@
+pub mod Parse
+pub mod Decimal
+pub mod Field
+pub mod Place

@@ -14,8 +14,9 @@ use Rattle.powers.specs.Power.{power, powers}
 use Rattle.powers.proofs.Powers.{powers-at}
 use Rattle.roots.specs.Formula.{value}
 use Rattle.rows.specs.Row.{polynomials, exponentials, gaussians, nonAnalytics}
+use Rattle.rows.specs.declared.row.Gaussian.{Gaussian}
 use Rattle.rows.specs.declared.row.NonAnalytic.{NonAnalytic}
-use Rattle.isotherm.specs.Isotherm.{quarters, tauPower, tauPowers}
+use Rattle.isotherm.specs.Isotherm.{quarters, tauPower, tauPowers, bellRows, bellAt}
 
 -- within the list the default does not matter
 pub getD-map-lt : {A B : Type 0} (f : A → B) (l : List A) (i : ℕ) (d : A) (e : B) → i < length l → getD (map f l) i e ≡ f (getD l i d)
@@ -55,3 +56,12 @@ power-there tau quarter i h =
 pub one-cold : map (λ (r : NonAnalytic). r .kd) nonAnalytics ≡ decimal 2750 1 ∷ decimal 2750 1 ∷ decimal 2750 1 ∷ []
 unfolding nonAnalytics
 one-cold = refl
+
+-- the numbers of a row's bell: α, β, γ, ε
+abbrev bell-numbers : Gaussian → List Float
+bell-numbers r = r .alpha ∷ r .beta ∷ r .gamma ∷ r .epsilon ∷ []
+
+-- Table 31's rows 35 to 39 have four bells, each row's where `bellAt` says
+pub four-bells : map bell-numbers gaussians ≡ map (λ (i : ℕ). getD (map bell-numbers bellRows) (bellAt i) []) (0 ∷ 1 ∷ 2 ∷ 3 ∷ 4 ∷ [])
+unfolding gaussians bellRows
+four-bells = refl

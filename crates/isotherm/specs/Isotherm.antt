@@ -1,6 +1,9 @@
 -- What hangs on the temperature alone, in plain f64. Where τ or its quarter root fails, so does every sum (residual, proofs/Failures.antt). Definitions only.
-use Prim.Native.Nat.{ℕ, _/_, _%_}
+use Prim.Native.Nat.{ℕ, _-_, _/_, _%_}
+use mathlib.Core.Bool.{cond}
 use mathlib.Core.List.{List, _++_, map}
+use lib.Dec.{ltb}
+use lib.ListN.{take, drop}
 use lib.Ieee.{Float}
 use Rattle.numeric.specs.Constant.{spanWagner}
 use Rattle.numeric.specs.Number.{decimal}
@@ -37,6 +40,13 @@ tauPowers tau quarter = map (λ (j : ℕ). value (tauPower tau quarter j)) quart
 unfoldable pub spread : Float → Gaussian → Formula
 spread tau r = num (r .beta) ⊗ ((num tau ⊖ num (r .gamma)) ⊗ (num tau ⊖ num (r .gamma)))
 
+-- row 37 has the α, β, γ and ε of row 36 (Table 31), so that five rows have four bells: that of row 35 + i stands at place `bellAt i`
+unfoldable pub bellRows : List Gaussian
+bellRows = take 2 gaussians ++ drop 3 gaussians
+
+abbrev pub bellAt : ℕ → ℕ
+bellAt i = cond (ltb i 2) i (i - 1)
+
 unfoldable pub cold : Float → Formula
 cold tau = num (decimal 2750 1) ⊗ ((num tau ⊖ one) ⊗ (num tau ⊖ one))
 
@@ -47,6 +57,6 @@ isotherm t =
       t = t;
       tau = tau;
       powers = tauPowers tau (value (quarterOf t));
-      spread = map (λ (r : Gaussian). value (spread tau r)) gaussians;
+      spread = map (λ (r : Gaussian). value (spread tau r)) bellRows;
       cold = value (cold tau);
     }

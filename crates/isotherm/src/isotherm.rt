@@ -17,8 +17,8 @@ pub struct Isotherm {
     pub tau: f64,
     // τᵗ of rows 1 to 39
     pub powers: [f64; 39],
-    // β·(τ−γ)² of rows 35 to 39
-    pub spread: [f64; 5],
+    // β·(τ−γ)² of rows 35, 36 and 37, 38, 39
+    pub spread: [f64; 4],
     // D·(τ−1)², one number for rows 40 to 42
     pub cold: f64,
 }
@@ -108,7 +108,6 @@ pub fn at_temperature(t: f64) -> Isotherm
     let powers = tau_powers(tau, half_of(half_of(tau)));
     let spread = [
         325.0 * ((tau - 1.16) * (tau - 1.16)),
-        300.0 * ((tau - 1.19) * (tau - 1.19)),
         300.0 * ((tau - 1.19) * (tau - 1.19)),
         275.0 * ((tau - 1.25) * (tau - 1.25)),
         275.0 * ((tau - 1.22) * (tau - 1.22)),

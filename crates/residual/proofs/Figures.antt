@@ -19,6 +19,7 @@ use Rattle.roots.proofs.Formulas.{once}
 use Rattle.rows.specs.declared.row.Polynomial.{Polynomial}
 use Rattle.rows.specs.declared.row.Exponential.{Exponential}
 use Rattle.rows.specs.declared.row.Gaussian.{Gaussian}
+use Rattle.isotherm.specs.Isotherm.{bellAt}
 use Rattle.isotherm.specs.declared.isotherm.Isotherm.{Isotherm}
 use Rattle.derivatives.specs.Derivative.{Derivative, Delta, DeltaDelta, Tau, TauTau, DeltaTau}
 use Rattle.rows.specs.Row.{polynomials, exponentials, gaussians}
@@ -144,12 +145,12 @@ module _ (iso : Isotherm) (delta : Float) (k : Derivative) where
   unfolding gaussianFigures
   gaussian-length = length-numbered (gaussianFigure iso delta k) 34 gaussians ∙ gaussian-count
 
-  bells-at : (i : ℕ) → i < 5 → getD (bells (iso .spread) delta) i nan ≡ value (bell delta (getD (iso .spread) i nan) (getD gaussians i no-gaussian))
+  bells-at : (i : ℕ) → i < 5 → getD (bells (iso .spread) delta) i nan ≡ value (bell delta (getD (iso .spread) (bellAt i) nan) (getD gaussians i no-gaussian))
   unfolding bells
   bells-at i h =
       let z : 0 + i ≡ i = omega arith in
-      getD-numbered (λ (n : ℕ) (r : Gaussian). value (bell delta (getD (iso .spread) n nan) r)) 0 gaussians i no-gaussian nan (rw gaussian-count h)
-      ∙ ap (λ (n : ℕ). value (bell delta (getD (iso .spread) n nan) (getD gaussians i no-gaussian))) z
+      getD-numbered (λ (n : ℕ) (r : Gaussian). value (bell delta (getD (iso .spread) (bellAt n) nan) r)) 0 gaussians i no-gaussian nan (rw gaussian-count h)
+      ∙ ap (λ (n : ℕ). value (bell delta (getD (iso .spread) (bellAt n) nan) (getD gaussians i no-gaussian))) z
 
   pub gaussian-there : (i : ℕ) → i < 5 → (let r = getD gaussians i no-gaussian in
       checked (mul binary64
@@ -163,6 +164,6 @@ module _ (iso : Isotherm) (delta : Float) (k : Derivative) where
       let x = powers-at 10 (r .d) delta (omega arith) in
       let z : 34 + i - 34 ≡ i = omega arith in
       rw (x, bells-at i h)
-      (once (gaussianTerm delta (getD (iso .powers) (34 + i) nan) (getD (iso .spread) i nan) r ⊗ gaussianBracket delta (iso .tau) r k)
+      (once (gaussianTerm delta (getD (iso .powers) (34 + i) nan) (getD (iso .spread) (bellAt i) nan) r ⊗ gaussianBracket delta (iso .tau) r k)
       ∙ sym (getD-numbered (gaussianFigure iso delta k) 34 gaussians i no-gaussian Failed (rw gaussian-count h)
-      ∙ ap (λ (n : ℕ). work (gaussianTerm delta (getD (iso .powers) (34 + i) nan) (getD (iso .spread) n nan) r ⊗ gaussianBracket delta (iso .tau) r k)) z))
+      ∙ ap (λ (n : ℕ). work (gaussianTerm delta (getD (iso .powers) (34 + i) nan) (getD (iso .spread) (bellAt n) nan) r ⊗ gaussianBracket delta (iso .tau) r k)) z))

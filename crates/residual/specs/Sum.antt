@@ -16,6 +16,7 @@ use Rattle.sharp.specs.Sharp.{sharpFigures}
 use Rattle.rows.specs.declared.row.Polynomial.{Polynomial}
 use Rattle.rows.specs.declared.row.Exponential.{Exponential}
 use Rattle.rows.specs.declared.row.Gaussian.{Gaussian}
+use Rattle.isotherm.specs.Isotherm.{bellAt}
 use Rattle.isotherm.specs.declared.isotherm.Isotherm.{Isotherm}
 use Rattle.residual.specs.declared.sum.Sums.{Sums}
 use Rattle.residual.specs.declared.sum.Sums.the-variants.{Summed, Broken}
@@ -40,7 +41,7 @@ module _ (iso : Isotherm) (delta : Float) (k : Derivative) where
   exponentialFigure i r = work (exponentialTerm delta (getD (iso .powers) i nan) r ⊗ exponentialBracket (num delta ^^ r .c) r k)
 
   abbrev pub gaussianFigure : ℕ → Gaussian → Worked
-  gaussianFigure i r = work (gaussianTerm delta (getD (iso .powers) i nan) (getD (iso .spread) (i - 34) nan) r ⊗ gaussianBracket delta (iso .tau) r k)
+  gaussianFigure i r = work (gaussianTerm delta (getD (iso .powers) i nan) (getD (iso .spread) (bellAt (i - 34)) nan) r ⊗ gaussianBracket delta (iso .tau) r k)
 
   -- rows 1 to 7, 8 to 34, 35 to 39
   unfoldable pub polynomialFigures : List Worked

@@ -10,6 +10,7 @@ use Rattle.rows.specs.declared.row.Polynomial.{Polynomial}
 use Rattle.rows.specs.declared.row.Exponential.{Exponential}
 use Rattle.rows.specs.declared.row.Gaussian.{Gaussian}
 use Rattle.rows.specs.Row.{gaussians}
+use Rattle.isotherm.specs.Isotherm.{bellAt}
 use Rattle.isotherm.specs.declared.isotherm.Isotherm.{Isotherm}
 use Rattle.residual.specs.declared.term.Point.{Point}
 use Rattle.derivatives.specs.Derivative.{Derivative, Delta, DeltaDelta, Tau, TauTau, DeltaTau}
@@ -83,7 +84,7 @@ unfoldable pub decays : Float → List Float
 decays delta = map (λ (c : ℕ). value (decay delta c)) (1 ∷ 2 ∷ 3 ∷ 4 ∷ 5 ∷ 6 ∷ [])
 
 unfoldable pub bells : List Float → Float → List Float
-bells spread delta = numbered (λ (i : ℕ) (r : Gaussian). value (bell delta (getD spread i nan) r)) 0 gaussians
+bells spread delta = numbered (λ (i : ℕ) (r : Gaussian). value (bell delta (getD spread (bellAt i) nan) r)) 0 gaussians
 
 unfoldable pub point : Isotherm → Float → Point
 point iso delta = record { delta = delta; powers = powers 10 delta; decays = decays delta; bells = bells (iso .spread) delta }

@@ -39,12 +39,13 @@ pub(crate) fn at_density(iso: Isotherm, delta: f64) -> Point
         decay(powers[5]),
         decay(powers[6]),
     ];
+    let shared = decay(25.0 * xx + spread[1]);
     let bells = [
         decay(25.0 * xx + spread[0]),
-        decay(25.0 * xx + spread[1]),
-        decay(25.0 * xx + spread[2]),
-        decay(15.0 * xx + spread[3]),
-        decay(20.0 * xx + spread[4]),
+        shared,
+        shared,
+        decay(15.0 * xx + spread[2]),
+        decay(20.0 * xx + spread[3]),
     ];
     Point {
         delta,

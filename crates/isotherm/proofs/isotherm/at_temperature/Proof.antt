@@ -4,7 +4,7 @@ use lib.Ieee.{ofBits, ofInt, round}
 use Rattle.numeric.specs.Number.{decimal, fraction, whole}
 use Rattle.roots.specs.Formula.{value}
 use Rattle.rows.specs.Row.{gaussians}
-use Rattle.isotherm.specs.Isotherm.{quarterOf, isotherm, spread, cold}
+use Rattle.isotherm.specs.Isotherm.{quarterOf, isotherm, spread, bellRows, cold}
 use borrow.Author.Needs.{needs}
 use Rattle.isotherm.proofs.isotherm.at_temperature.Statement.{statement}
 use Rattle.isotherm.proofs.isotherm.at_temperature.Tie as tie
@@ -22,7 +22,7 @@ tau-powers-requires : tie.Need-tau-powers-requires
 tau-powers-requires c κs = search needs
 
 returns : tie.Need-returns
-unfolding isotherm quarterOf spread cold gaussians value decimal fraction whole ofBits ofInt round
+unfolding isotherm quarterOf spread bellRows cold gaussians value decimal fraction whole ofBits ofInt round
 returns c = rw (c .tau-powers .ensures, c .before .half-of2 .ensures, c .before .before .half-of .ensures, c .before .before .before .tau-at .ensures) refl
 
 pub at-temperature-spec : {M : Type 1} → statement M

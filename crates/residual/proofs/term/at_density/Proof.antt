@@ -73,28 +73,21 @@ array-read-decay-10 c = search needs
 decay-requires-10 : tie.Need-decay-requires-10
 decay-requires-10 c κs = search needs
 
-array-read-decay-11 : tie.Need-array-read-decay-11
-array-read-decay-11 c = search needs
-
-decay-requires-11 : tie.Need-decay-requires-11
-decay-requires-11 c κs = search needs
-
 returns : tie.Need-returns
 unfolding point decays decay bells bell gaussians powers value power decimal fraction whole ofBits ofInt round
 returns c =
     rw (
-      c .decay11 .ensures,
-      c .before .decay10 .ensures,
-      c .before .before .decay9 .ensures,
-      c .before .before .before .decay8 .ensures,
-      c .before .before .before .before .decay7 .ensures,
-      c .before .before .before .before .before .decay6 .ensures,
-      c .before .before .before .before .before .before .decay5 .ensures,
-      c .before .before .before .before .before .before .before .decay4 .ensures,
-      c .before .before .before .before .before .before .before .before .decay3 .ensures,
-      c .before .before .before .before .before .before .before .before .before .decay2 .ensures,
-      c .before .before .before .before .before .before .before .before .before .before .decay .ensures,
-      c .before .before .before .before .before .before .before .before .before .before .before .before .powers-to-10 .ensures,
+      c .decay10 .ensures,
+      c .before .decay9 .ensures,
+      c .before .before .decay8 .ensures,
+      c .before .before .before .decay7 .ensures,
+      c .before .before .before .before .decay6 .ensures,
+      c .before .before .before .before .before .decay5 .ensures,
+      c .before .before .before .before .before .before .decay4 .ensures,
+      c .before .before .before .before .before .before .before .decay3 .ensures,
+      c .before .before .before .before .before .before .before .before .decay2 .ensures,
+      c .before .before .before .before .before .before .before .before .before .decay .ensures,
+      c .before .before .before .before .before .before .before .before .before .before .before .powers-to-10 .ensures,
     ) refl
 
 pub at-density-spec : {M : Type 1} → statement M
@@ -122,6 +115,4 @@ at-density-spec =
     decay-requires-9
     array-read-decay-10
     decay-requires-10
-    array-read-decay-11
-    decay-requires-11
     returns)

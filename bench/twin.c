@@ -132,7 +132,8 @@ static const unsigned char QUARTERS[39] = {
 
 /* ---- What hangs on the temperature */
 
-typedef struct { double tau, powers[39], spread[5], cold; } isotherm;
+/* Rows 36 and 37 have one bell: its spread stands at 1, those of rows 38 and 39 at 2 and 3. */
+typedef struct { double tau, powers[39], spread[4], cold; } isotherm;
 
 static inline void at_temperature(double tau, double q, isotherm *iso) {
     double t[29], p[4];
@@ -140,7 +141,10 @@ static inline void at_temperature(double tau, double q, isotherm *iso) {
     for (int i = 2; i < 29; i++) t[i] = t[i - 1] * tau;
     p[0] = 1.0; p[1] = q; p[2] = q * q; p[3] = p[2] * q;
     for (int i = 0; i < 39; i++) iso->powers[i] = t[QUARTERS[i] / 4] * p[QUARTERS[i] % 4];
-    for (int i = 0; i < 5; i++) iso->spread[i] = GAUSS[i].beta * ((tau - GAUSS[i].gamma) * (tau - GAUSS[i].gamma));
+    for (int i = 0; i < 4; i++) {
+        int r = i < 2 ? i : i + 1;
+        iso->spread[i] = GAUSS[r].beta * ((tau - GAUSS[r].gamma) * (tau - GAUSS[r].gamma));
+    }
     double f = tau - 1.0;
     iso->tau = tau;
     iso->cold = 275.0 * (f * f);
@@ -164,7 +168,11 @@ static inline void at_density(const isotherm *iso, double delta, point *p) {
     for (int i = 2; i < 11; i++) p->powers[i] = p->powers[i - 1] * delta;
     double x = delta - 1.0, xx = x * x;
     for (int c = 1; c < 7; c++) p->decays[c] = expo(-p->powers[c]);
-    for (int i = 0; i < 5; i++) p->bells[i] = expo(-(GAUSS[i].alpha * xx + iso->spread[i]));
+    for (int i = 0; i < 4; i++) {
+        int r = i < 2 ? i : i + 1;
+        p->bells[r] = expo(-(GAUSS[r].alpha * xx + iso->spread[i]));
+    }
+    p->bells[2] = p->bells[1];
 }
 
 /* Rows 40 to 42: what the three share, what 40 and 41 share, and each row's P0. */

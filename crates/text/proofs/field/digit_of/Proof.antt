@@ -1,6 +1,5 @@
 use Rattle.text.proofs.Fields.{digit-low, digit-high}
 use native.Mathlib.Omega.{arith}
-use borrow.Author.Needs.{needs}
 use Rattle.text.proofs.field.digit_of.Statement.{statement}
 use Rattle.text.proofs.field.digit_of.Tie as tie
 

@@ -1,11 +1,10 @@
 use borrow.Author.Tests.{not-true, not-false}
-use mathlib.Core.Path.{sym, _∙_, ap}
+use mathlib.Core.Path.{sym, _∙_}
 use Rattle.text.proofs.Fields.{field-end, field-blank, field-bad, field-digits, after-end, after-stop, after-zero, after-large, after-more}
-use Prim.Native.Nat.{ℕ, _≤_, _<_, _-_}
+use Prim.Native.Nat.{_≤_, _<_, _-_}
 use mathlib.Core.Path.{_≡_}
-use native.Mathlib.Omega.{arith}
-use lib.ListN.{length, drop, getD}
-use Rattle.text.specs.Field.{field, digitsAfter, digit}
+use lib.ListN.{length, drop}
+use Rattle.text.specs.Field.{field, digitsAfter}
 use borrow.Author.Needs.{needs}
 use Rattle.text.proofs.field.read_field.Statement.{statement}
 use Rattle.text.proofs.field.read_field.Tie as tie

@@ -1,0 +1,2 @@
+// The whole number at or below a float.
+pub mod whole;

@@ -1,4 +1,6 @@
 pub mod Decimals
 pub mod Parses
 pub mod Fields
+pub mod Places
 pub mod Printed
+pub mod Unique

@@ -5,6 +5,7 @@ use mathlib.Core.List.{List, [], _∷_, _++_}
 use mathlib.Core.Option.{Option, none, some}
 use Prim.Native.Nat.{ℕ, _+_, _≤_, _<_}
 use native.Mathlib.Numerals.{add-one}
+use native.Mathlib.Omega.{arith}
 use lib.Dec.{eqb}
 use lib.ListN.{length, drop, getD, drop-of-length-le}
 use lib.Seq.{drop-cons}
@@ -42,6 +43,20 @@ cond-says pr w false x y h k = k refl
 pub then-says : {A B : Type 0} (pa : A → List ℕ) (pb : B → List ℕ) (u w : List ℕ) (o : Option (A × List ℕ)) (f : A → Parser B) → Says pa u o → ((a : A) (r : List ℕ) → u ≡ pa a ++ r → Says pb w (f a r)) → Says pb w (andThen o f)
 then-says pa pb u w none f h k = tt
 then-says pa pb u w (some p) f h k = k (p .0) (p .1) h
+
+pub longer-says : {A : Type 0} (pa pb : A → List ℕ) (u w : List ℕ) (o : Option (A × List ℕ)) → Says pa u o → ((a : A) (r : List ℕ) → u ≡ pa a ++ r → w ≡ pb a ++ r) → Says pb w o
+longer-says pa pb u w none h k = tt
+longer-says pa pb u w (some p) h k = k (p .0) (p .1) h
+
+-- ---- what was read, and the rest, are told by the answer
+
+pub read-once : {A : Type 0} (a b : A) (r t : List ℕ) → _≡_ {A = Option (A × List ℕ)} (some (a, r)) (some (b, t)) → (a ≡ b) × (r ≡ t)
+read-once {A} a b r t e =
+    let p : _≡_ {A = A × List ℕ} (a, r) (b, t) = cc in
+    (ap (λ (q : A × List ℕ). q .0) p, ap (λ (q : A × List ℕ). q .1) p)
+
+pub none-or-some : {A : Type 0} {o : Option A} {a : A} → o ≡ none → o ≡ some a → ⊥
+none-or-some e f = let z : _≡_ {A = ℕ} 0 1 = cc in omega arith
 
 -- ---- the byte at a place
 

@@ -10,20 +10,17 @@ use lib.Dec.{eqb, leb}
 use borrow.Author.Tests.{le-leb, lt-leb, ne-eqb, eqb-true, eqb-false, leb-false}
 use Rattle.text.specs.Parse.{byte}
 use Rattle.text.specs.Decimal.{decimal}
-use Rattle.text.specs.Field.{Small, digit, fieldText, field, digitsAfter, fieldTo}
+use Rattle.text.specs.Field.{Small, digit, fieldText, field, digitsAfter, fieldTo, fieldAfter}
 use Rattle.text.specs.declared.field.Field.{Field}
 use Rattle.text.specs.declared.field.Field.the-variants.{Blank, Number}
 use Rattle.text.proofs.Decimals.{decimal-small, decimal-large}
-use Rattle.text.proofs.Parses.{All, bind-all, pass-all, cond-all, Says, cond-says, then-says, byte-back, byte-says}
+use Rattle.text.proofs.Parses.{All, bind-all, pass-all, cond-all, Says, cond-says, then-says, longer-says, byte-back, byte-says}
 use Rattle.text.proofs.Fields.{digit-low, digit-high, to-some}
 
 -- ---- what is printed is read back
 
 is-digit : (b : ℕ) → 48 ≤ b → b ≤ 57 → digit b ≡ true
 is-digit b l h = rw (le-leb 48 b l, le-leb b 57 h)
-
-last-digit : (n : ℕ) → 48 + n % 10 - 48 ≡ n % 10
-last-digit n = omega arith
 
 one-digit : (n : ℕ) → n < 10 → (u : List ℕ) → field (decimal n ++ u) ≡ digitsAfter n u
 unfolding field
@@ -58,6 +55,10 @@ field-back sep e (Number n) h rest = digits-back n n (omega arith) h (sep ∷ re
 
 pub to-back : (sep : ℕ) → digit sep ≡ false → (f : Field) → Small f → (rest : List ℕ) → fieldTo sep (fieldText f ++ (sep ∷ rest)) ≡ some (f, rest)
 to-back sep e f h rest = to-some sep _ (field-back sep e f h rest) (byte-back sep rest)
+
+pub after-back : (letter sep : ℕ) → digit sep ≡ false → (f : Field) → Small f → (rest : List ℕ) → fieldAfter letter sep (letter ∷ 32 ∷ fieldText f ++ (sep ∷ rest)) ≡ some (f, rest)
+unfolding fieldAfter
+after-back letter sep e f h rest = rw (byte-back letter (32 ∷ fieldText f ++ (sep ∷ rest)), byte-back 32 (fieldText f ++ (sep ∷ rest))) (to-back sep e f h rest)
 
 -- ---- what is read is what the text has
 
@@ -97,6 +98,13 @@ to-says sep u =
     (λ f r e. then-says (λ (_ : Unit {0}). sep ∷ []) (λ (g : Field). fieldText g ++ (sep ∷ [])) r u (byte sep r) _ (byte-says sep r)
     (λ _ r₁ e₁. e ∙ rw (e₁, append-assoc)))
 
+pub after-says : (letter sep : ℕ) (u : List ℕ) → Says (λ (f : Field). letter ∷ 32 ∷ fieldText f ++ (sep ∷ [])) u (fieldAfter letter sep u)
+unfolding fieldAfter
+after-says letter sep u =
+    then-says (λ (_ : Unit {0}). letter ∷ []) _ u u (byte letter u) _ (byte-says letter u)
+    (λ _ r e. then-says (λ (_ : Unit {0}). 32 ∷ []) _ r u (byte 32 r) _ (byte-says 32 r)
+    (λ _ r₁ e₁. longer-says _ _ r₁ u (fieldTo sep r₁) (to-says sep r₁) (λ f r₂ e₂. e ∙ rw (e₁, e₂))))
+
 -- ---- what is read has 10 digits at most
 
 digits-small : (v : ℕ) (u : List ℕ) → v < 10_000_000_000 → All Small (digitsAfter v u)
@@ -118,3 +126,7 @@ field-small (b ∷ rest) =
 pub to-small : (end : ℕ) (u : List ℕ) → All Small (fieldTo end u)
 unfolding fieldTo
 to-small end u = bind-all Small Small (field u) _ (field-small u) (λ f r h. pass-all Small (byte end r) _ (λ _ _. h))
+
+pub after-small : (letter end : ℕ) (u : List ℕ) → All Small (fieldAfter letter end u)
+unfolding fieldAfter
+after-small letter end u = pass-all Small (byte letter u) _ (λ _ r. pass-all Small (byte 32 r) _ (λ _ r₁. to-small end r₁))

@@ -45,3 +45,10 @@ fieldTo end = do
   f ← field
   byte end
   give f
+
+-- a letter, a space, and a field and the byte that ends it
+unfoldable pub fieldAfter : ℕ → ℕ → Parser Field
+fieldAfter letter end = do
+  byte letter
+  byte 32
+  fieldTo end

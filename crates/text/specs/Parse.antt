@@ -9,7 +9,8 @@ use lib.Dec.{eqb}
 abbrev pub Parser : Type 0 → Type 0
 Parser A = List ℕ → Option (A × List ℕ)
 
-abbrev pub andThen : {A B : Type 0} → Option (A × List ℕ) → (A → Parser B) → Option (B × List ℕ)
+-- what f makes of what was read and of the rest
+abbrev pub andThen : {A B : Type 0} → Option (A × List ℕ) → (A → List ℕ → Option B) → Option B
 andThen none f = none
 andThen (some p) f = f (p .0) (p .1)
 

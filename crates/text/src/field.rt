@@ -5,7 +5,7 @@ ghost use mathlib.Core.Bool.{true};
 ghost use Prim.Native.Nat.{_-_, _≤_};
 ghost use lib.ListN.{drop};
 ghost use Rattle.text.specs.Parse.{byte};
-ghost use Rattle.text.specs.Field.{digit, field, fieldTo};
+ghost use Rattle.text.specs.Field.{digit, field, fieldTo, fieldAfter};
 ghost use Rattle.text.specs.Place.{FieldIs, PlaceIs};
 
 pub enum Field {
@@ -95,4 +95,17 @@ pub fn read_field_to(s: &[u8], at: usize, end: u8) -> FieldAt
         return FieldAt::Bad;
     };
     FieldAt::Found(f, next)
+}
+
+// A letter, a space, and a field and the byte that ends it.
+pub fn read_field_after(s: &[u8], at: usize, letter: u8, end: u8) -> FieldAt
+    ensures { λ r. ⌜ FieldIs (now (s .entry)) at (fieldAfter letter end (drop at (now (s .entry)))) r ⌝ }
+{
+    let Place::At(space) = skip(s, at, letter) else {
+        return FieldAt::Bad;
+    };
+    let Place::At(next) = skip(s, space, b' ') else {
+        return FieldAt::Bad;
+    };
+    read_field_to(s, next, end)
 }

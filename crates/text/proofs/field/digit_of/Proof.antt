@@ -1,3 +1,4 @@
+-- A byte that is a digit is 48 to 57. Assumes nothing.
 use Rattle.text.proofs.Fields.{digit-low, digit-high}
 use native.Mathlib.Omega.{arith}
 use Rattle.text.proofs.field.digit_of.Statement.{statement}

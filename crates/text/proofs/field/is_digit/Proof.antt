@@ -1,3 +1,4 @@
+-- The two tests are the definition's. Assumes nothing.
 use borrow.Author.Tests.{le-leb, lt-leb}
 use Rattle.text.proofs.field.is_digit.Statement.{statement}
 use Rattle.text.proofs.field.is_digit.Tie as tie

@@ -1,8 +1,8 @@
+-- What stands at the place decides; then what was read so far goes on with the digits that are left. Assumes nothing.
 use borrow.Author.Tests.{not-true, not-false}
-use mathlib.Core.Path.{sym, _∙_}
 use Rattle.text.proofs.Fields.{field-end, field-blank, field-bad, field-digits, after-end, after-stop, after-zero, after-large, after-more}
 use Prim.Native.Nat.{_≤_, _<_, _-_}
-use mathlib.Core.Path.{_≡_}
+use mathlib.Core.Path.{_≡_, sym, _∙_}
 use lib.ListN.{length, drop}
 use Rattle.text.specs.Field.{field, digitsAfter}
 use borrow.Author.Needs.{needs}

@@ -1,3 +1,4 @@
+-- The field is read, and then the byte that ends it. Assumes nothing.
 use native.Mathlib.Omega.{arith}
 use Rattle.text.specs.Place.{FieldIs, PlaceIs}
 use mathlib.Core.Path.{subst}

@@ -1,3 +1,4 @@
+-- What stands at the place decides. Assumes nothing.
 use Rattle.text.proofs.Parses.{byte-end, byte-at, byte-other}
 use borrow.Author.Needs.{needs}
 use Rattle.text.proofs.field.skip.Statement.{statement}

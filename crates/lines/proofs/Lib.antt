@@ -1,0 +1,4 @@
+pub mod Cylinders
+pub mod Printed
+pub mod Lines
+pub mod Unique

@@ -1,0 +1,30 @@
+-- What stands at the place decides. Assumes nothing.
+use borrow.Author.Needs.{needs}
+use Rattle.lines.proofs.Cylinders.{kind-end, kind-pressure, kind-density, kind-other}
+use Rattle.lines.proofs.cylinder.read_kind.Statement.{statement}
+use Rattle.lines.proofs.cylinder.read_kind.Tie as tie
+
+returns : tie.Need-returns
+returns c = kind-end _ _ (c .if1 .taken)
+
+shared-slice-read-b : tie.Need-shared-slice-read-b
+shared-slice-read-b c = search needs
+
+add-t9 : tie.Need-add-t9
+add-t9 c = search needs
+
+returns-2 : tie.Need-returns-2
+returns-2 c = (kind-pressure _ _ (c .before .before .if1 .left) (c .if2 .taken), search needs, search needs)
+
+add-t11 : tie.Need-add-t11
+add-t11 c = search needs
+
+returns-3 : tie.Need-returns-3
+returns-3 c = (kind-density _ _ (c .before .before .before .if1 .left) (c .if3 .taken), search needs, search needs)
+
+returns-4 : tie.Need-returns-4
+returns-4 c = kind-other _ _ (c .before .before .before .if1 .left) (c .before .if2 .left) (c .if3 .left)
+
+pub read-kind-spec : {M : Type 1} → statement M
+read-kind-spec =
+    tie.close (tie.spec returns shared-slice-read-b add-t9 returns-2 add-t11 returns-3 returns-4)

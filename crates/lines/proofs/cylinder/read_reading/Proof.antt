@@ -1,0 +1,110 @@
+-- Each step is the definition's. Assumes nothing.
+use mathlib.Core.Path.{subst}
+use native.Mathlib.Omega.{arith}
+use Rattle.text.specs.Place.{FieldIs, PlaceIs}
+use Rattle.lines.specs.Cylinder.{reading, KindIs}
+use borrow.Author.Needs.{needs}
+use Rattle.lines.proofs.cylinder.read_reading.Statement.{statement}
+use Rattle.lines.proofs.cylinder.read_reading.Tie as tie
+
+read-kind-requires : tie.Need-read-kind-requires
+read-kind-requires c κs = search needs
+
+enum-known-kind : tie.Need-enum-known-kind
+enum-known-kind c = search needs
+
+enum-told : tie.Need-enum-told
+enum-told c = search needs
+
+returns : tie.Need-returns
+unfolding reading
+returns c = rw (subst (KindIs _ _ _) (c .enum-told .given .1) (c .before .before .read-kind .ensures))
+
+skip-requires : tie.Need-skip-requires
+skip-requires c κs = search needs
+
+enum-known-value-at : tie.Need-enum-known-value-at
+enum-known-value-at c = search needs
+
+enum-told-2 : tie.Need-enum-told-2
+enum-told-2 c = search needs
+
+returns-2 : tie.Need-returns-2
+unfolding reading
+returns-2 c =
+    let at-kind = c .before .before .before .before in
+    let k = subst (KindIs _ _ _) (at-kind .kind .given .1) (at-kind .before .before .read-kind .ensures) in
+    rw (k .0, subst (PlaceIs _ _ _) (c .enum-told2 .given .1) (c .before .before .skip .ensures))
+
+read-field-to-requires : tie.Need-read-field-to-requires
+read-field-to-requires c κs = search needs
+
+enum-known-value : tie.Need-enum-known-value
+enum-known-value c = search needs
+
+enum-told-3 : tie.Need-enum-told-3
+enum-told-3 c = search needs
+
+returns-3 : tie.Need-returns-3
+unfolding reading
+returns-3 c =
+    let at-space = c .before .before .before .before in
+    let at-kind = at-space .before .before .before .before in
+    let k = subst (KindIs _ _ _) (at-kind .kind .given .1) (at-kind .before .before .read-kind .ensures) in
+    let space = subst (PlaceIs _ _ _) (at-space .value-at .given .1) (at-space .before .before .skip .ensures) in
+    rw (k .0, space .0, subst (FieldIs _ _ _) (c .enum-told3 .given .1) (c .before .before .read-field-to .ensures))
+
+read-field-to-requires-2 : tie.Need-read-field-to-requires-2
+read-field-to-requires-2 c κs = search needs
+
+enum-known-volume : tie.Need-enum-known-volume
+enum-known-volume c = search needs
+
+enum-told-4 : tie.Need-enum-told-4
+enum-told-4 c = search needs
+
+returns-4 : tie.Need-returns-4
+unfolding reading
+returns-4 c =
+    let at-value = c .before .before .before .before in
+    let at-space = at-value .before .before .before .before in
+    let at-kind = at-space .before .before .before .before in
+    let k = subst (KindIs _ _ _) (at-kind .kind .given .1) (at-kind .before .before .read-kind .ensures) in
+    let space = subst (PlaceIs _ _ _) (at-space .value-at .given .1) (at-space .before .before .skip .ensures) in
+    let v = subst (FieldIs _ _ _) (at-value .value .given .1) (at-value .before .before .read-field-to .ensures) in
+    rw (k .0, space .0, v .0, subst (FieldIs _ _ _) (c .enum-told4 .given .1) (c .before .before .read-field-to2 .ensures))
+
+returns-5 : tie.Need-returns-5
+unfolding reading
+returns-5 c =
+    let at-volume = c .before in
+    let at-value = at-volume .before .before .before .before in
+    let at-space = at-value .before .before .before .before in
+    let at-kind = at-space .before .before .before .before in
+    let k = subst (KindIs _ _ _) (at-kind .kind .given .1) (at-kind .before .before .read-kind .ensures) in
+    let space = subst (PlaceIs _ _ _) (at-space .value-at .given .1) (at-space .before .before .skip .ensures) in
+    let v = subst (FieldIs _ _ _) (at-value .value .given .1) (at-value .before .before .read-field-to .ensures) in
+    let m = subst (FieldIs _ _ _) (at-volume .volume .given .1) (at-volume .before .before .read-field-to2 .ensures) in
+    (rw (k .0, space .0, v .0, m .0), omega (arith, k .1, space .1, v .1, m .1), m .2)
+
+pub read-reading-spec : {M : Type 1} → statement M
+read-reading-spec =
+    tie.close
+    (tie.spec
+    read-kind-requires
+    enum-known-kind
+    enum-told
+    returns
+    skip-requires
+    enum-known-value-at
+    enum-told-2
+    returns-2
+    read-field-to-requires
+    enum-known-value
+    enum-told-3
+    returns-3
+    read-field-to-requires-2
+    enum-known-volume
+    enum-told-4
+    returns-4
+    returns-5)

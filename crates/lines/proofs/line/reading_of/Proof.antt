@@ -1,0 +1,55 @@
+-- The field is blank, or its number is held by a float; a density is divided once. Assumes nothing.
+use mathlib.Core.Path.{ap, subst}
+use lib.Ieee.{Float, binary64, div}
+use Rattle.numeric.specs.Number.{whole}
+use Rattle.text.specs.Field.{Small}
+use Rattle.lines.specs.declared.line.Reading.the-variants.{Density}
+use Rattle.lines.proofs.Lines.{in-float, thousand}
+use borrow.Author.Needs.{needs}
+use Rattle.lines.proofs.line.reading_of.Statement.{statement}
+use Rattle.lines.proofs.line.reading_of.Tie as tie
+
+enum-told : tie.Need-enum-told
+enum-told c = search needs
+
+enum-known-f : tie.Need-enum-known-f
+enum-known-f c = search needs
+
+enum-told-2 : tie.Need-enum-told-2
+enum-told-2 c = search needs
+
+int-to-float-t6 : tie.Need-int-to-float-t6
+int-to-float-t6 c = in-float _ (subst Small (c .before .before .before .before .f .given .1) (c .before .before .before .before .before .before .pre))
+
+enum-told-3 : tie.Need-enum-told-3
+enum-told-3 c = search needs
+
+int-to-float-t7 : tie.Need-int-to-float-t7
+int-to-float-t7 c = in-float _ (subst Small (c .before .before .before .before .f .given .1) (c .before .before .before .before .before .before .pre))
+
+returns : tie.Need-returns
+returns c = search needs
+
+returns-2 : tie.Need-returns-2
+unfolding whole
+returns-2 c = rw (c .before .before .before .before .f .given .1, c .before .enum-told2 .given .1)
+
+returns-3 : tie.Need-returns-3
+unfolding whole
+returns-3 c =
+    rw (c .before .before .before .before .f .given .1, c .before .enum-told3 .given .1)
+    (ap (λ (d : Float). Density (div binary64 (whole (c .before .before .before .before .f .given .0 .0)) d)) thousand)
+
+pub reading-of-spec : {M : Type 1} → statement M
+reading-of-spec =
+    tie.close
+    (tie.spec
+    enum-told
+    enum-known-f
+    enum-told-2
+    int-to-float-t6
+    enum-told-3
+    int-to-float-t7
+    returns
+    returns-2
+    returns-3)

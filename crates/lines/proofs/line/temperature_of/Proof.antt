@@ -1,0 +1,27 @@
+-- The field is blank, or its number is held by a float and divided once. Assumes nothing.
+use mathlib.Core.Path.{subst}
+use Rattle.numeric.specs.Number.{whole}
+use Rattle.text.specs.Field.{Small}
+use Rattle.lines.proofs.Lines.{in-float, ten-thousand}
+use borrow.Author.Needs.{needs}
+use Rattle.lines.proofs.line.temperature_of.Statement.{statement}
+use Rattle.lines.proofs.line.temperature_of.Tie as tie
+
+enum-told : tie.Need-enum-told
+enum-told c = search needs
+
+enum-known-f : tie.Need-enum-known-f
+enum-known-f c = search needs
+
+int-to-float-t4 : tie.Need-int-to-float-t4
+int-to-float-t4 c = in-float _ (subst Small (c .before .before .f .given .1) (c .before .before .before .before .pre))
+
+returns : tie.Need-returns
+returns c = rw (c .enum-told .given .1)
+
+returns-2 : tie.Need-returns-2
+unfolding whole
+returns-2 c = rw (c .before .before .f .given .1, ten-thousand)
+
+pub temperature-of-spec : {M : Type 1} → statement M
+temperature-of-spec = tie.close (tie.spec enum-told enum-known-f int-to-float-t4 returns returns-2)

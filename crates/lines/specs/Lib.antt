@@ -1,0 +1,2 @@
+pub mod Cylinder
+pub mod Line

@@ -1,0 +1,71 @@
+-- After i turns the sum is the length of the first i lines, 46 each at most. Assumes nothing.
+use Prim.Native.Nat.{_+_, _-_, _*_, _≤_}
+use mathlib.Core.Path.{_≡_, ap}
+use native.Mathlib.Omega.{arith}
+use lib.ListN.{length}
+use borrow.Author.Needs.{needs}
+use Rattle.report.specs.Report.{linesBytes, marksOf}
+use Rattle.report.proofs.Reports.{linesAfter, next-length, no-line}
+use Rattle.report.proofs.report.lines_len.Statement.{statement}
+use Rattle.report.proofs.report.lines_len.Tie as tie
+
+abbrev Inv-loop : tie.InvT-loop
+Inv-loop m n sum₀ i₀ sum i = (i ≤ n) × (sum ≤ 46 * i) × (length (linesBytes 1 (marksOf m)) ≡ sum + length (linesAfter i m))
+
+abbrev μ-loop : tie.MeasureT-loop
+μ-loop m n sum₀ i₀ sum i = n - i
+
+shown-requires : tie.Need-shown-requires Inv-loop μ-loop
+shown-requires c κs = search needs
+
+loop-holds : tie.Need-loop-holds Inv-loop μ-loop
+loop-holds c = omega arith
+
+mul-mark : tie.Need-mul-mark Inv-loop μ-loop
+mul-mark c = search needs
+
+element-copy-out-mark : tie.Need-element-copy-out-mark Inv-loop μ-loop
+element-copy-out-mark c = search needs
+
+add-line-len : tie.Need-add-line-len Inv-loop μ-loop
+add-line-len c = search needs
+
+line-len-requires : tie.Need-line-len-requires Inv-loop μ-loop
+line-len-requires c κs = search needs
+
+add-sum : tie.Need-add-sum Inv-loop μ-loop
+add-sum c = search needs
+
+add-i : tie.Need-add-i Inv-loop μ-loop
+add-i c = search needs
+
+loop-less : tie.Need-loop-less Inv-loop μ-loop
+loop-less c = search needs
+
+loop-again : tie.Need-loop-again Inv-loop μ-loop
+loop-again c =
+    let l = c .before .before .before in
+    omega (arith, next-length (l .before .before .args .t1) (l .loop .i) (omega arith))
+
+returns : tie.Need-returns Inv-loop μ-loop
+returns c =
+    let l = c .before in
+    omega (arith, ap length (no-line (l .before .before .args .t1) (l .loop .i) (omega arith)))
+
+pub lines-len-spec : {M : Type 1} → statement M
+lines-len-spec =
+    tie.close
+    (tie.spec
+    Inv-loop
+    μ-loop
+    shown-requires
+    loop-holds
+    mul-mark
+    element-copy-out-mark
+    add-line-len
+    line-len-requires
+    add-sum
+    add-i
+    loop-less
+    loop-again
+    returns)

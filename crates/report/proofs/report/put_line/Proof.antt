@@ -1,0 +1,68 @@
+-- `L i `, and what came of the line into the part after it. Assumes nothing.
+use native.Mathlib.Omega.{arith}
+use Rattle.writing.specs.Writing.{ascii}
+use Rattle.writing.proofs.Writings.{inside, room, then}
+use Rattle.report.specs.Report.{lineBytes}
+use Rattle.report.proofs.Reports.{between-length, line-length}
+use borrow.Author.Needs.{needs}
+use Rattle.report.proofs.report.put_line.Statement.{statement}
+use Rattle.report.proofs.report.put_line.Tie as tie
+
+slice-aggregate-put-between : tie.Need-slice-aggregate-put-between
+slice-aggregate-put-between c = search needs
+
+slice-aggregate-put-between-2 : tie.Need-slice-aggregate-put-between-2
+slice-aggregate-put-between-2 c = search needs
+
+put-between-requires : tie.Need-put-between-requires
+put-between-requires c κs =
+    let a = c .before .before .before .before .args in
+    omega (arith, line-length (a .i) (a .w), between-length (ascii "L ") (a .i) (ascii " "))
+
+sub-put-weighed : tie.Need-sub-put-weighed
+sub-put-weighed c =
+    let a = c .before .before .before .before .before .before .before .args in
+    inside (c .before .before .put-between .ensures) (omega (arith, line-length (a .i) (a .w)))
+
+part-put-weighed-start : tie.Need-part-put-weighed-start
+part-put-weighed-start c =
+    let a = c .before .before .before .before .before .before .before .args in
+    inside (c .before .before .put-between .ensures) (omega (arith, line-length (a .i) (a .w)))
+
+part-put-weighed-end : tie.Need-part-put-weighed-end
+part-put-weighed-end c = search needs
+
+put-weighed-requires : tie.Need-put-weighed-requires
+put-weighed-requires c κs =
+    let a = c .before .before .before .before .before .before .before .before .args in
+    let l = line-length (a .i) (a .w) in
+    omega (arith, room (c .before .before .before .put-between .ensures) (omega arith))
+
+add-result : tie.Need-add-result
+add-result c =
+    let a = c .before .before .before .before .before .before .before .before .before .before .before .args in
+    omega (arith, line-length (a .i) (a .w), c .before .before .before .before .before .before .put-between .ensures .count, c .before .before .put-weighed .ensures .count)
+
+same-length : tie.Need-same-length
+same-length c = search needs
+
+returns : tie.Need-returns
+unfolding lineBytes
+returns c =
+    let a = c .before .before .before .before .before .before .before .before .before .before .before .args in
+    then (c .before .before .before .before .before .before .put-between .ensures) (omega (arith, line-length (a .i) (a .w))) (c .before .before .put-weighed .ensures)
+
+pub put-line-spec : {M : Type 1} → statement M
+put-line-spec =
+    tie.close
+    (tie.spec
+    slice-aggregate-put-between
+    slice-aggregate-put-between-2
+    put-between-requires
+    sub-put-weighed
+    part-put-weighed-start
+    part-put-weighed-end
+    put-weighed-requires
+    add-result
+    same-length
+    returns)

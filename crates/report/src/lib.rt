@@ -1,0 +1,2 @@
+// The report of a sheet, written into a lent output.
+pub mod report;

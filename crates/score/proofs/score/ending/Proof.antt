@@ -1,0 +1,27 @@
+-- 13 where a line was refused; else the sum is held against the need. Assumes nothing.
+use borrow.Author.Needs.{needs}
+use borrow.Author.Tests.{le-leb, lt-leb}
+use Rattle.score.specs.Score.{ending}
+use Rattle.score.proofs.score.ending.Statement.{statement}
+use Rattle.score.proofs.score.ending.Tie as tie
+
+enum-known-t : tie.Need-enum-known-t
+enum-known-t c = search needs
+
+enum-told : tie.Need-enum-told
+enum-told c = search needs
+
+returns : tie.Need-returns
+unfolding ending
+returns c = rw (c .enum-told .given .1)
+
+returns-2 : tie.Need-returns-2
+unfolding ending
+returns-2 c = rw (c .before .before .t .given .1, le-leb _ _ (c .if1 .taken))
+
+returns-3 : tie.Need-returns-3
+unfolding ending
+returns-3 c = rw (c .before .before .t .given .1, lt-leb _ _ (c .if1 .left))
+
+pub ending-spec : {M : Type 1} → statement M
+ending-spec = tie.close (tie.spec enum-known-t enum-told returns returns-2 returns-3)

@@ -1,0 +1,95 @@
+-- What was added and what is left make up the total, and 32 lines' milligrams stay below 2⁵⁸. Assumes nothing.
+use mathlib.Core.Path.{_≡_, subst}
+use Prim.Native.Nat.{_-_, _*_, _^_, _≤_, _<_}
+use native.Mathlib.Omega.{arith}
+use borrow.Author.Needs.{needs}
+use lib.ListN.{length, drop}
+use Rattle.report.specs.Report.{marksOf}
+use Rattle.report.specs.declared.report.Weighed.{Weighed}
+use Rattle.report.proofs.Reports.{noMark, unmapped}
+use Rattle.weighing.specs.Weighing.{weight}
+use Rattle.score.specs.Score.{total}
+use Rattle.score.proofs.Totals.{onto, onto-none, light-at, counted, mark-there, at-end, one-refused, one-more}
+use Rattle.score.proofs.score.total.Statement.{statement}
+use Rattle.score.proofs.score.total.Tie as tie
+
+abbrev Inv-loop : tie.InvT-loop
+Inv-loop m n sum₀ i₀ sum i = (i ≤ n) × (sum ≤ i * 2 ^ 53) × (total (marksOf m) ≡ onto sum (total (drop i (marksOf m))))
+
+abbrev μ-loop : tie.MeasureT-loop
+μ-loop m n sum₀ i₀ sum i = n - i
+
+loop-holds : tie.Need-loop-holds Inv-loop μ-loop
+loop-holds c = (omega arith, omega arith, onto-none _)
+
+mul-mark : tie.Need-mul-mark Inv-loop μ-loop
+mul-mark c = search needs
+
+element-copy-out-mark : tie.Need-element-copy-out-mark Inv-loop μ-loop
+element-copy-out-mark c = search needs
+
+enum-known-w : tie.Need-enum-known-w Inv-loop μ-loop
+enum-known-w c = search needs
+
+enum-told : tie.Need-enum-told Inv-loop μ-loop
+enum-told c = search needs
+
+returns : tie.Need-returns Inv-loop μ-loop
+returns c =
+    let l = c .before .before .before .before in
+    let m = l .before .args .t1 in
+    let size : length (m .marks) ≡ 32 = search (needs, unmapped) in
+    let h = counted m size (omega arith) in
+    one-refused (marksOf m) (l .loop .sum) (l .loop .i) (l .loop .inv .2) noMark (omega (arith, h)) _ (mark-there m size (omega arith) (l .loop .i) _ (omega arith) (c .enum-told .given .1))
+
+-- the milligrams that a turn comes to
+add-sum : tie.Need-add-sum Inv-loop μ-loop
+add-sum c =
+    let l = c .before .before .before .before .before in
+    let m = l .before .args .t1 in
+    let size : length (m .marks) ≡ 32 = search (needs, unmapped) in
+    let h = counted m size (omega arith) in
+    let w = mark-there m size (omega arith) (l .loop .i) _ (omega arith) (c .before .w .given .1) in
+    let u = subst (λ (x : Weighed). weight x < 2 ^ 53) w (light-at (marksOf m) (l .before .pre .1) (l .loop .i) noMark (omega (arith, h))) in
+    omega (arith, u)
+
+add-i : tie.Need-add-i Inv-loop μ-loop
+add-i c = search needs
+
+loop-less : tie.Need-loop-less Inv-loop μ-loop
+loop-less c = omega arith
+
+loop-again : tie.Need-loop-again Inv-loop μ-loop
+loop-again c =
+    let l = c .before .before .before .before .before in
+    let m = l .before .args .t1 in
+    let size : length (m .marks) ≡ 32 = search (needs, unmapped) in
+    let h = counted m size (omega arith) in
+    let w = mark-there m size (omega arith) (l .loop .i) _ (omega arith) (c .before .w .given .1) in
+    let u = subst (λ (x : Weighed). weight x < 2 ^ 53) w (light-at (marksOf m) (l .before .pre .1) (l .loop .i) noMark (omega (arith, h))) in
+    (omega arith, omega (arith, u), one-more (marksOf m) (l .loop .sum) (l .loop .i) (l .loop .inv .2) noMark (omega (arith, h)) _ w)
+
+returns-2 : tie.Need-returns-2 Inv-loop μ-loop
+returns-2 c =
+    let l = c .before in
+    let m = l .before .args .t1 in
+    let size : length (m .marks) ≡ 32 = search (needs, unmapped) in
+    at-end (marksOf m) (l .loop .sum) (l .loop .i) (l .loop .inv .2) (omega (arith, counted m size (omega arith)))
+
+pub total-spec : {M : Type 1} → statement M
+total-spec =
+    tie.close
+    (tie.spec
+    Inv-loop
+    μ-loop
+    loop-holds
+    mul-mark
+    element-copy-out-mark
+    enum-known-w
+    enum-told
+    returns
+    add-sum
+    add-i
+    loop-less
+    loop-again
+    returns-2)

@@ -1,0 +1,2 @@
+// From a sheet's text to its report.
+pub mod score;

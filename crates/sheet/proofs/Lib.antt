@@ -1,0 +1,5 @@
+pub mod Paddings
+pub mod Turns
+pub mod Inverse
+pub mod Example
+pub mod Unique

@@ -1,0 +1,20 @@
+-- The sheet that a text says (document 01, "What form each place needs"): "A sheet struct holds an array of 32 line structs and a count". Definitions only.
+use mathlib.Core.Bool.{true, false}
+use mathlib.Core.List.{[], map}
+use mathlib.Core.Option.{Option, none, some}
+use lib.ListN.{length}
+use Rattle.text.specs.declared.field.Field.the-variants.{Blank}
+use Rattle.lines.specs.Line.{lineOf, blankLine}
+use Rattle.sheet.specs.Form.{Written}
+use Rattle.sheet.specs.Padded.{padded}
+use Rattle.sheet.specs.declared.sheet.Sheet.{Sheet}
+use Rattle.sheet.specs.declared.sheet.SheetRead.{SheetRead}
+
+-- the count is of all lines, so that more than 32 can be told
+unfoldable pub sheetOf : Written → Sheet
+sheetOf w = record { need = w .need; lines = padded blankLine 32 (map lineOf (w .cylinders)); count = length (w .cylinders) }
+
+-- a text that is not in the form has a blank sheet
+unfoldable pub sheetRead : Option Written → SheetRead
+sheetRead none = record { ok = false; sheet = sheetOf (record { need = Blank; cylinders = [] }) }
+sheetRead (some w) = record { ok = true; sheet = sheetOf w }

@@ -1,0 +1,3 @@
+pub mod Weighings
+pub mod Weights
+pub mod Unique

@@ -1,0 +1,39 @@
+-- A line's working, by what its parts are. Assumes nothing.
+use mathlib.Core.Path.{_≡_, refl, ap}
+use mathlib.Core.Bool.{Bool, true, false, _&&_}
+use Prim.Native.Nat.{ℕ, _^_, _≤_}
+use native.Mathlib.Omega.{arith}
+use lib.Dec.{T, leb, le→leb}
+use lib.IntN.{pos}
+use lib.Ieee.{Float, binary64, mul, inFloat}
+use borrow.Author.Tests.{leb-true}
+use Rattle.numeric.specs.Number.{whole}
+use Rattle.whole.specs.Whole.{wholeBelow}
+use Rattle.whole.specs.declared.whole.Below.{Below}
+use Rattle.report.specs.declared.report.Weighed.{Weighed}
+use Rattle.refusals.specs.declared.answer.Answer.{Answer}
+use Rattle.weighing.specs.Weighing.{isVolume, milligrams, mass, filled, passedOn}
+
+pub in-float : (v : ℕ) → v ≤ 1_000_000 → T (inFloat binary64 (pos v))
+unfolding inFloat
+in-float v h = le→leb v (2 ^ 53) (omega arith)
+
+and-right : (x y : Bool) → (x && y) ≡ true → y ≡ true
+and-right true y e = e
+and-right false true e = refl
+and-right false false e = e
+
+pub volume-most : (v : ℕ) → isVolume v ≡ true → v ≤ 1_000_000
+volume-most v e = leb-true v 1_000_000 (and-right (leb 1 v) (leb v 1_000_000) e)
+
+pub mass-of : (rho : Float) (v : ℕ) (b : Below) → b ≡ wholeBelow (mul binary64 rho (whole v)) → mass b ≡ milligrams rho v
+unfolding milligrams
+mass-of rho v b e = ap mass e
+
+pub out-of-range : (a : Answer) (v : ℕ) → isVolume v ≡ false → Weighed.Refused 2 ≡ filled a v
+unfolding filled
+out-of-range a v e = rw e refl
+
+pub in-range : (a : Answer) (v : ℕ) → isVolume v ≡ true → passedOn a v ≡ filled a v
+unfolding filled
+in-range a v e = rw e refl

@@ -1,0 +1,60 @@
+-- A blank is refused by 1 where it stands, and the figures go on. Assumes nothing.
+use mathlib.Core.Path.{_∙_}
+use borrow.Author.Needs.{needs}
+use Rattle.weighing.specs.Weighing.{weighed}
+use Rattle.weighing.proofs.weighing.weigh.Statement.{statement}
+use Rattle.weighing.proofs.weighing.weigh.Tie as tie
+
+enum-told : tie.Need-enum-told
+enum-told c = search needs
+
+enum-told-2 : tie.Need-enum-told-2
+enum-told-2 c = search needs
+
+returns : tie.Need-returns
+unfolding weighed
+returns c = rw (c .enum-told2 .given .1)
+
+enum-known-temperature : tie.Need-enum-known-temperature
+enum-known-temperature c = search needs
+
+enum-told-3 : tie.Need-enum-told-3
+enum-told-3 c = search needs
+
+returns-2 : tie.Need-returns-2
+unfolding weighed
+returns-2 c = rw (c .before .before .enum-told .given .1, c .enum-told3 .given .1)
+
+enum-known-volume : tie.Need-enum-known-volume
+enum-known-volume c = search needs
+
+enum-told-4 : tie.Need-enum-told-4
+enum-told-4 c = search needs
+
+returns-3 : tie.Need-returns-3
+unfolding weighed
+returns-3 c = rw (c .before .before .before .before .before .enum-told .given .1, c .before .before .before .temperature .given .1, c .enum-told4 .given .1)
+
+read-requires : tie.Need-read-requires
+read-requires c κs = search needs
+
+returns-4 : tie.Need-returns-4
+unfolding weighed
+returns-4 c =
+    c .read .ensures ∙ rw (c .before .before .before .before .before .before .before .enum-told .given .1, c .before .before .before .before .before .temperature .given .1, c .before .before .volume .given .1)
+
+pub weigh-spec : {M : Type 1} → statement M
+weigh-spec =
+    tie.close
+    (tie.spec
+    enum-told
+    enum-told-2
+    returns
+    enum-known-temperature
+    enum-told-3
+    returns-2
+    enum-known-volume
+    enum-told-4
+    returns-3
+    read-requires
+    returns-4)

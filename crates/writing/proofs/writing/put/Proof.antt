@@ -1,0 +1,58 @@
+-- After i turns the first i bytes of the text are written, and each turn writes the next. Assumes nothing.
+use Prim.Native.Nat.{_≤_, _-_}
+use mathlib.Core.Path.{_≡_, refl}
+use native.Mathlib.Omega.{arith}
+use lib.ListN.{length, take}
+use lib.Seq.{take-all}
+use borrow.Author.Needs.{needs}
+use Rattle.writing.specs.Writing.{Wrote}
+use Rattle.writing.proofs.Writings.{nothing, next-byte}
+use Rattle.writing.proofs.writing.put.Statement.{statement}
+use Rattle.writing.proofs.writing.put.Tie as tie
+
+abbrev Inv-loop : tie.InvT-loop
+Inv-loop out₀ text i₀ out i = (i ≤ length text) × (length out ≡ length out₀) × Wrote out₀ out i (take i text)
+
+abbrev μ-loop : tie.MeasureT-loop
+μ-loop out₀ text i₀ out i = length text - i
+
+loop-holds : tie.Need-loop-holds Inv-loop μ-loop
+loop-holds c = (search needs, refl, nothing _)
+
+shared-slice-read-out : tie.Need-shared-slice-read-out Inv-loop μ-loop
+shared-slice-read-out c = search needs
+
+slice-write-out : tie.Need-slice-write-out Inv-loop μ-loop
+slice-write-out c = search needs
+
+add-i : tie.Need-add-i Inv-loop μ-loop
+add-i c = search needs
+
+loop-less : tie.Need-loop-less Inv-loop μ-loop
+loop-less c = search needs
+
+loop-again : tie.Need-loop-again Inv-loop μ-loop
+loop-again c = (search needs, search needs, next-byte _ (c .before .before .loop .inv .2) (omega arith) (omega arith))
+
+same-length : tie.Need-same-length Inv-loop μ-loop
+same-length c = search needs
+
+returns : tie.Need-returns Inv-loop μ-loop
+returns c =
+    let whole : length (c .before .before .args .text .now) ≤ c .before .loop .i = omega arith in
+    rw (take-all _ _ whole) at (c .before .loop .inv .2)
+
+pub put-spec : {M : Type 1} → statement M
+put-spec =
+    tie.close
+    (tie.spec
+    Inv-loop
+    μ-loop
+    loop-holds
+    shared-slice-read-out
+    slice-write-out
+    add-i
+    loop-less
+    loop-again
+    same-length
+    returns)

@@ -1,0 +1,21 @@
+-- Text as bytes, and bytes written to the front of a lent output. Definitions only.
+use Prim.Native.Nat.{ℕ}
+use Prim.Native.Char.{code}
+use Prim.Native.String as string
+use mathlib.Core.Path.{_≡_}
+use mathlib.Core.List.{List, [], _∷_, _++_}
+use lib.ListN.{length, drop}
+
+-- a text's bytes, of characters that are one byte each
+abbrev pub ascii : string.String → List ℕ
+ascii string.[] = []
+ascii (string._∷_ c rest) = code c ∷ ascii rest
+
+-- bs laid over the front of o: "bytes after the report's length are unchanged"
+unfoldable pub over : List ℕ → List ℕ → List ℕ
+over o bs = bs ++ drop (length bs) o
+
+-- what a function ensures that writes bs to the front of o: it answers r, how many bytes these are, and o has become xs
+pub record Wrote (o xs : List ℕ) (r : ℕ) (bs : List ℕ) : Type 0 where
+  pub count : r ≡ length bs
+  pub bytes : xs ≡ over o bs

@@ -1,0 +1,2 @@
+// Bytes and whole numbers, written into a lent output.
+pub mod writing;

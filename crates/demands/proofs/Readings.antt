@@ -1,6 +1,6 @@
 -- Every starred reading is what document 01 says. Assumes nothing.
-use mathlib.Core.Path.{_≡_, refl, sym, ap, _∙_}
-use mathlib.Core.List.{List, [], _∷_, _++_, map}
+use mathlib.Core.Path.{_≡_, refl, ap, _∙_}
+use mathlib.Core.List.{List, _++_, map}
 use lib.Ieee.{ofInt, round, div, lt}
 use Rattle.numeric.specs.Number.{whole, decimal, fraction}
 use Rattle.numeric.specs.declared.working.Worked.{Worked}
@@ -8,7 +8,8 @@ use Rattle.roots.specs.Readings as numerics
 use Rattle.roots.proofs.Readings as numerics-read
 use Rattle.refusals.specs.Limits.{document01}
 use Rattle.refusals.specs.Check.{checks}
-use Rattle.demands.specs.Readings.{Read, number, Starred, at, of-doors, readings}
+use Rattle.weighing.specs.Weighing.{weighed, read, filled}
+use Rattle.demands.specs.Readings.{Read, number, Starred, at, of-doors, of-lines, readings}
 
 abbrev worked : List Starred → List Read
 worked rs = map (λ (r : Starred). r .worked) rs
@@ -20,6 +21,13 @@ doors-read : worked of-doors ≡ reads of-doors
 unfolding of-doors at document01 checks whole decimal fraction ofInt round div lt
 doors-read = refl
 
+lines-read : worked of-lines ≡ reads of-lines
+unfolding of-lines weighed read filled
+lines-read = refl
+
 pub all-read : worked readings ≡ reads readings
-unfolding readings numerics.readings
-all-read = ap (λ (ns : List Worked). map number ns ++ worked of-doors) numerics-read.all-read ∙ ap (λ (ds : List Read). map number (map (λ (r : numerics.Starred). r .reads) numerics.readings) ++ ds) doors-read
+unfolding readings numerics.readings of-doors of-lines
+all-read =
+    ap (λ (ns : List Worked). map number ns ++ (worked of-doors ++ worked of-lines)) numerics-read.all-read
+    ∙ ap (λ (ds : List Read). map number (map (λ (r : numerics.Starred). r .reads) numerics.readings) ++ (ds ++ worked of-lines)) doors-read
+    ∙ ap (λ (ls : List Read). map number (map (λ (r : numerics.Starred). r .reads) numerics.readings) ++ (reads of-doors ++ ls)) lines-read

@@ -1,2 +1,4 @@
 pub mod Demands
+pub mod Lines
+pub mod Sheets
 pub mod Readings

@@ -1,7 +1,7 @@
--- Document 01, "Readings on each side of a boundary": the starred ones, those of the numerics and those of the doors' checks on their inputs, as one table. Definitions only.
+-- Document 01, "Readings on each side of a boundary": the starred ones, those of the numerics, of the doors' checks on their inputs and of a sheet's line, as one table. Definitions only.
 use Prim.Native.Nat.{ℕ}
 use mathlib.Core.List.{List, [], _∷_, _++_, map}
-use lib.Ieee.{Float, binary64, div}
+use lib.Ieee.{binary64, div}
 use Rattle.numeric.specs.Number.{whole}
 use Rattle.numeric.specs.declared.working.Worked.{Worked}
 use Rattle.roots.specs.Readings as numerics
@@ -9,11 +9,19 @@ use Rattle.refusals.specs.Limits.{document01}
 use Rattle.refusals.specs.Check.{checks}
 use Rattle.refusals.specs.declared.check.Check.{Check}
 use Rattle.refusals.specs.declared.check.Check.the-variants.{Passed, No}
+use Rattle.text.specs.declared.field.Field.the-variants.{Number}
+use Rattle.lines.specs.Line.{lineOf}
+use Rattle.lines.specs.declared.cylinder.Cylinder.{Cylinder}
+use Rattle.lines.specs.declared.cylinder.Kind.the-variants.{Pressure}
+use Rattle.weighing.specs.Weighing.{weighed}
+use Rattle.report.specs.declared.report.Weighed.{Weighed}
+use Rattle.report.specs.declared.report.Weighed.the-variants.{Refused}
 
--- what a reading is of: a number that is worked, or the checks on the inputs
+-- what a reading is of: a number that is worked, the checks on the inputs, or a line
 pub data Read : Type 0 where
   number : Worked → Read
   check : Check → Read
+  line : Weighed → Read
 
 pub record Starred : Type 0 where
   pub worked : Read
@@ -40,8 +48,18 @@ of-doors =
     ∷ gives (at 3031281 7000000) Passed
     ∷ []
 
+-- a cylinder's line with a pressure, as it is written
+abbrev pub written : ℕ → ℕ → ℕ → Cylinder
+written t p v = record { number = Number 1; temperature = Number t; kind = Pressure; value = Number p; volume = Number v }
+
+unfoldable pub of-lines : List Starred
+of-lines =
+    record { worked = line (weighed (lineOf (written 2000000 5000000 0))); reads = line (Refused 2) }
+    ∷ record { worked = line (weighed (lineOf (written 3000000 5000000 1000001))); reads = line (Refused 2) }
+    ∷ []
+
 abbrev of-numeric : numerics.Starred → Starred
 of-numeric r = record { worked = number (r .worked); reads = number (r .reads) }
 
 unfoldable pub readings : List Starred
-readings = map of-numeric numerics.readings ++ of-doors
+readings = map of-numeric numerics.readings ++ (of-doors ++ of-lines)

@@ -3,11 +3,11 @@
 ghost use mathlib.Core.Path.{_≡_};
 ghost use Rattle.roots.specs.Formula.{num, _⊕_, _⊖_};
 ghost use Rattle.ideal.specs.Ideal.{table27, head-τ, head-ττ, slope, bend, sums, idealPart};
+use exponential::exponential::exponential;
 use numeric::working::Worked;
 use numeric::working::checked;
 use numeric::working::over;
 use numeric::working::plain;
-use powers::exponential::exponential;
 
 // A row of Table 27.
 struct Row {

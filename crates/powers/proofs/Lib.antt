@@ -1,4 +1,2 @@
-pub mod Tables
 pub mod Powers
-pub mod Exponentials
 pub mod Unique

@@ -1,9 +1,7 @@
 -- No second answer meets a public function's promise. Assumes nothing.
 use mathlib.Core.List.{List}
 use lib.Ieee.{Float}
-use Rattle.numeric.specs.declared.working.Worked.{Worked}
 use Rattle.numeric.proofs.Unique.{OneAnswer, by-equation}
-use Rattle.powers.proofs.exponential.exponential.Reads as exponential
 use Rattle.powers.proofs.power.powers_to_3.Reads as powers-to-3
 use Rattle.powers.proofs.power.powers_to_10.Reads as powers-to-10
 use Rattle.powers.proofs.power.powers_to_28.Reads as powers-to-28
@@ -20,6 +18,3 @@ powers-to-10-once a r s x y = by-equation
 
 pub powers-to-28-once : OneAnswer (List Float) (powers-to-28.Post tt)
 powers-to-28-once a r s x y = by-equation
-
-pub exponential-once : OneAnswer Worked (exponential.Post tt)
-exponential-once a r s x y = by-equation

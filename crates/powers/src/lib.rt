@@ -1,3 +1,2 @@
-// Whole powers and the exponential (document 01, "How a number is worked").
-pub mod exponential;
+// Whole powers (document 01, "How a number is worked").
 pub mod power;

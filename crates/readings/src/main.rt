@@ -2,12 +2,12 @@
 // elsewhere (crosscheck/numerics.py and doors.py): one a line, numbers as the sixteen hexadecimal digits of their bits.
 mod answers;
 
+use exponential::exponential::exponential;
 use exponents::exponent::Exponent;
 use exponents::exponent::Printed;
 use exponents::exponent::worked_as;
 use libc::STDOUT_FILENO;
 use numeric::working::Worked;
-use powers::exponential::exponential;
 use powers::power::whole_power;
 use roots::root::root;
 use telling::figure;

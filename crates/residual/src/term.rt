@@ -1,12 +1,12 @@
 // What the residual part's sums are made of: what is worked once for a state at a density.
 ghost use mathlib.Core.Path.{_≡_};
 ghost use lib.Ieee.{neg};
-ghost use Rattle.powers.specs.Exponential.{exponential};
+ghost use Rattle.exponential.specs.Exponential.{exponential};
 ghost use Rattle.numeric.specs.Working.{plain};
 ghost use Rattle.residual.specs.Term.{point};
+use exponential::exponential::exponential;
 use isotherm::isotherm::Isotherm;
 use numeric::working::plain;
-use powers::exponential::exponential;
 use powers::power::powers_to_10;
 
 // The powers of δ, e^(−δᶜ) for c from 1 to 6, and the exponentials of rows 35 to 39.

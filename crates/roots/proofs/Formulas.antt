@@ -11,7 +11,7 @@ use lib.Ieee.Scale.{finite}
 use Rattle.numeric.specs.Number.{whole}
 use Rattle.numeric.specs.Working.{checked, over, plain, then, pick, both, _+ᵂ_, _-ᵂ_, _*ᵂ_, _/ᵂ_}
 use Rattle.powers.specs.Power.{power, _^ᵂ_}
-use Rattle.powers.specs.Exponential.{exponential, falling, squared, series}
+use Rattle.exponential.specs.Exponential.{exponential, falling, squared, series}
 use Rattle.roots.specs.Root as Root
 use Rattle.roots.specs.Root.{rootBits, rootOf, searched}
 use Rattle.roots.specs.Formula.{Formula, num, _⊕_, _⊖_, _⊗_, _⊘_, _^^_, minus, size, e^, root, absolute, value, work}

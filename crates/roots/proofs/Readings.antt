@@ -5,7 +5,7 @@ use lib.Ieee as Ieee
 use Rattle.numeric.specs.Number.{whole}
 use Rattle.numeric.specs.Working.{_-ᵂ_, _*ᵂ_, _/ᵂ_}
 use Rattle.powers.specs.Power.{power, _^ᵂ_}
-use Rattle.powers.specs.Exponential.{exponential, falling, series, squared}
+use Rattle.exponential.specs.Exponential.{exponential, falling, series, squared}
 use Rattle.halving.specs.Halving.{halve, narrow, middle}
 use Rattle.roots.specs.Root.{root, searched, rootBits, powerAt}
 use Rattle.roots.specs.Formula.{work, absolute}

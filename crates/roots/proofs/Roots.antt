@@ -17,7 +17,7 @@ use Rattle.numeric.specs.Working.{checked, then}
 use Rattle.powers.specs.Power.{power, _^ᵂ_}
 use Rattle.halving.specs.Halving.{halve, NotAbove, Above, worthy, failed, second-not-above, at-second}
 use Rattle.roots.specs.Root.{powerAt, rootBits, rootOf, searched}
-use Rattle.powers.proofs.Tables.{at}
+use Rattle.exponential.proofs.Tables.{at}
 use Rattle.numeric.proofs.Numbers.{infinity}
 use Rattle.numeric.proofs.Workings.{checked-finite, checked-failed, checked-number}
 use Rattle.powers.proofs.Powers.{power-next, checked-power}

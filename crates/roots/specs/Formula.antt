@@ -7,7 +7,7 @@ use lib.Ieee.{Float, binary64}
 use Rattle.numeric.specs.Number.{whole}
 use Rattle.numeric.specs.Working.{checked, over, plain, then, _+ᵂ_, _-ᵂ_, _*ᵂ_, _/ᵂ_}
 use Rattle.powers.specs.Power.{power, _^ᵂ_}
-use Rattle.powers.specs.Exponential.{exponential}
+use Rattle.exponential.specs.Exponential.{exponential}
 use Rattle.roots.specs.Root as Root
 use Rattle.numeric.specs.declared.working.Worked.{Worked}
 use Rattle.numeric.specs.declared.working.Worked.the-variants.{Number}

@@ -3,7 +3,7 @@ use mathlib.Core.List.{List, [], _∷_}
 use lib.Ieee as Ieee
 use Rattle.numeric.specs.Number.{whole}
 use Rattle.powers.specs.Power.{power}
-use Rattle.powers.specs.Exponential.{exponential}
+use Rattle.exponential.specs.Exponential.{exponential}
 use Rattle.roots.specs.Root.{root}
 use Rattle.roots.specs.Formula.{num, size, work}
 use Rattle.numeric.specs.declared.working.Worked.{Worked}

@@ -7,6 +7,7 @@ ghost use Rattle.roots.specs.Formula.{num, value, work};
 ghost use Rattle.saturation.specs.Saturation.{eq-3-13, eq-3-14, eq-3-15};
 ghost use Rattle.saturation.specs.Saturation.{theta, tau, pressureSum, liquidSum, vapourSum, densityOf, aboveZero};
 ghost use Rattle.saturation.specs.Saturation.{vapourPressure, liquidDensity, vapourDensity};
+use exponential::exponential::exponential;
 use exponents::exponent::Exponent;
 use exponents::exponent::Printed;
 use exponents::exponent::worked_as;
@@ -15,7 +16,6 @@ use numeric::working::Worked;
 use numeric::working::checked;
 use numeric::working::over;
 use numeric::working::plain;
-use powers::exponential::exponential;
 use powers::power::whole_power;
 use roots::root::root;
 

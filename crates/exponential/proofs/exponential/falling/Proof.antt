@@ -7,13 +7,13 @@ use lib.Ieee.{binary64, ofBits, ofInt, neg, div}
 use Rattle.numeric.specs.declared.working.Worked.{Worked}
 use Rattle.numeric.specs.Number.{whole}
 use Rattle.numeric.specs.Working.{checked}
-use Rattle.powers.specs.Exponential.{falling, series, squared}
+use Rattle.exponential.specs.Exponential.{falling, series, squared}
 use Rattle.numeric.proofs.Workings.{checked-div}
-use Rattle.powers.proofs.Exponentials.{series-turn, series-end, squared-turn, squared-end}
-use Rattle.powers.proofs.exponential.falling.Statement.{statement}
-use Rattle.powers.proofs.exponential.falling.Tie as tie
-use Rattle.powers.proofs.exponential.falling.Reads as reads
-use Rattle.powers.proofs.exponential.falling.Lts as lts
+use Rattle.exponential.proofs.Exponentials.{series-turn, series-end, squared-turn, squared-end}
+use Rattle.exponential.proofs.exponential.falling.Statement.{statement}
+use Rattle.exponential.proofs.exponential.falling.Tie as tie
+use Rattle.exponential.proofs.exponential.falling.Reads as reads
+use Rattle.exponential.proofs.exponential.falling.Lts as lts
 
 abbrev Inv-loop : tie.InvT-loop
 Inv-loop x y s₀ k₀ s k = (k ≤ 14) × (falling x ≡ squared 10 (series (checked y) k (checked s)))

@@ -5,12 +5,12 @@ use lib.Ieee.{ofBits, ofInt}
 use Rattle.numeric.specs.declared.working.Worked.{Worked}
 use Rattle.numeric.specs.Number.{whole}
 use Rattle.numeric.specs.Working.{checked, _/ᵂ_}
-use Rattle.powers.specs.Exponential.{exponential}
-use Rattle.powers.proofs.exponential.exponential.Statement.{statement}
-use Rattle.powers.proofs.exponential.exponential.Tie as tie
-use Rattle.powers.proofs.exponential.exponential.Reads as reads
-use Rattle.powers.proofs.exponential.exponential.Lts as lts
-use Rattle.powers.proofs.exponential.falling.Reads as falling-reads
+use Rattle.exponential.specs.Exponential.{exponential}
+use Rattle.exponential.proofs.exponential.exponential.Statement.{statement}
+use Rattle.exponential.proofs.exponential.exponential.Tie as tie
+use Rattle.exponential.proofs.exponential.exponential.Reads as reads
+use Rattle.exponential.proofs.exponential.exponential.Lts as lts
+use Rattle.exponential.proofs.exponential.falling.Reads as falling-reads
 use Rattle.numeric.proofs.working.checked.Reads as checked-reads
 use Rattle.numeric.proofs.working.is_finite.Reads as is-finite-reads
 

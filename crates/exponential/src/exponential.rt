@@ -1,6 +1,6 @@
 // The exponential (document 01, "How a number is worked").
 ghost use mathlib.Core.Path.{_≡_};
-ghost use Rattle.powers.specs.Exponential.{exponential, falling};
+ghost use Rattle.exponential.specs.Exponential.{exponential, falling};
 use numeric::working::Worked;
 use numeric::working::checked;
 use numeric::working::is_finite;

@@ -9,8 +9,8 @@ use lib.Ieee.Scale.{finite}
 use Rattle.numeric.specs.declared.working.Worked.{Worked}
 use Rattle.numeric.specs.Number.{whole}
 use Rattle.numeric.specs.Working.{checked, _-ᵂ_, _*ᵂ_, _/ᵂ_}
-use Rattle.powers.specs.Exponential.{series, squared}
-use Rattle.powers.proofs.Tables.{at}
+use Rattle.exponential.specs.Exponential.{series, squared}
+use Rattle.exponential.proofs.Tables.{at}
 use Rattle.numeric.proofs.Workings.{checked-sub, checked-mul, checked-div}
 
 divisor-finite : (k : ℕ) → k ≤ 14 → T (finite (whole k))

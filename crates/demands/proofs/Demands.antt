@@ -12,7 +12,8 @@ use Rattle.roots.proofs.Orders.{bits-mono}
 use Rattle.equation.specs.declared.state.State as Eight
 use Rattle.equation.specs.declared.state.Stated.the-variants.{Known}
 use Rattle.equation.proofs.States.{pressure-of-state}
-use Rattle.saturation.proofs.Densities.{vapour-nonneg, liquid-nonneg}
+use Rattle.densities.proofs.Densities.{vapour-nonneg, liquid-nonneg}
+use Rattle.refusals.specs.Answer.{withPhase}
 use Rattle.refusals.specs.Limits.{document01}
 use Rattle.doors.specs.Equation.{Equation, of1996}
 use Rattle.doors.specs.Search.{figure}

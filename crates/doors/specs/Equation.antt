@@ -3,6 +3,7 @@ use lib.Ieee.{Float}
 use Rattle.numeric.specs.Constant.{spanWagner}
 use Rattle.numeric.specs.declared.working.Worked.{Worked}
 use Rattle.saturation.specs.Saturation as saturation
+use Rattle.densities.specs.Density as density
 use Rattle.equation.specs.Pressure as pressure
 use Rattle.equation.specs.State as state
 use Rattle.equation.specs.declared.state.Stated.{Stated}
@@ -21,8 +22,8 @@ unfoldable pub of1996 : Equation
 of1996 = record {
   critical = spanWagner .temperature;
   vapourPressure = saturation.vapourPressure;
-  vapourDensity = saturation.vapourDensity;
-  liquidDensity = saturation.liquidDensity;
+  vapourDensity = density.vapourDensity;
+  liquidDensity = density.liquidDensity;
   pressure = pressure.pressure;
   state = state.state;
 }

@@ -4,6 +4,8 @@ ghost use mathlib.Core.Path.{_≡_};
 ghost use Rattle.refusals.specs.Limits.{document01};
 ghost use Rattle.doors.specs.Equation.{of1996};
 ghost use Rattle.doors.specs.DensityDoor.{inPhase, below, within, densityDoor};
+use densities::density::liquid_density;
+use densities::density::vapour_density;
 use equation::pressure::pressure_on;
 use equation::state::state_on;
 use isotherm::isotherm::at_temperature;
@@ -17,8 +19,6 @@ use refusals::check::check_inputs;
 use refusals::check::refusal;
 use refusals::limits::document_01;
 use refusals::limits::is_outside;
-use saturation::saturation::liquid_density;
-use saturation::saturation::vapour_density;
 
 fn in_phase(phase: Phase, t: f64, rho: f64) -> Answer
     ensures { λ r. ⌜ r ≡ inPhase of1996 document01 phase t rho ⌝ }

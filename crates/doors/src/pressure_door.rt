@@ -5,6 +5,8 @@ ghost use Rattle.refusals.specs.Limits.{document01};
 ghost use Rattle.doors.specs.Equation.{of1996};
 ghost use Rattle.doors.specs.PressureDoor.{vapour, liquid, beneath, entered, pressureDoor};
 use crate::search::search_at;
+use densities::density::liquid_density;
+use densities::density::vapour_density;
 use numeric::constant::span_wagner;
 use numeric::working::Worked;
 use numeric::working::checked;
@@ -14,8 +16,6 @@ use refusals::check::Check;
 use refusals::check::check_inputs;
 use refusals::check::refusal;
 use refusals::limits::document_01;
-use saturation::saturation::liquid_density;
-use saturation::saturation::vapour_density;
 use saturation::saturation::vapour_pressure;
 
 fn as_vapour(t: f64, p: f64) -> Answer

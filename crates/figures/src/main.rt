@@ -1,6 +1,8 @@
 // The saturation figures at temperatures, I₁ and I₂ of the ideal part at values of τ, and pressures and states; their
 // bits were worked elsewhere (crosscheck/equation.py). One figure a line.
 use critical::critical::at_critical;
+use densities::density::liquid_density;
+use densities::density::vapour_density;
 use derivatives::derivative::Five;
 use equation::pressure::pressure_at;
 use equation::state::State;
@@ -11,8 +13,6 @@ use isotherm::isotherm::at_temperature;
 use numeric::working::Worked;
 use numeric::working::checked;
 use rows::row::non_analytics;
-use saturation::saturation::liquid_density;
-use saturation::saturation::vapour_density;
 use saturation::saturation::vapour_pressure;
 use sharp::sharp::sharpen;
 use telling::figure;

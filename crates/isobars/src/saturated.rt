@@ -1,10 +1,10 @@
 // 004's Table 34, saturation, up to the critical point, against the auxiliary equations (3.13) to (3.15). The table is
 // the equal-area solution and they are not, so they are compared at the uncertainties that 004 gives them
 // (docs/READING.md, "Saturation").
+use densities::density::liquid_density;
+use densities::density::vapour_density;
 use numeric::working::Worked;
 use numeric::working::plain;
-use saturation::saturation::liquid_density;
-use saturation::saturation::vapour_density;
 use saturation::saturation::vapour_pressure;
 use tables::decimal::Cell;
 use tables::decimal::value;

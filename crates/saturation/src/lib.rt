@@ -1,2 +1,2 @@
-// Vapour pressure and saturated densities from the auxiliary equations (004, sections 3.5 to 3.7).
+// The vapour pressure from the auxiliary equation (004, section 3.5).
 pub mod saturation;

@@ -1,16 +1,10 @@
-// The vapour pressure and the saturated densities at a temperature (004, eqs. (3.13) to (3.15); document 01, "How a
-// number is worked", for the roots). A working that fails is refusal 7.
+// The vapour pressure at a temperature (004, eq. (3.13); document 01, "How a number is worked", for the roots), and θ,
+// which the saturated densities stand on too. A working that fails is refusal 7.
 ghost use mathlib.Core.Path.{_≡_};
-ghost use Rattle.numeric.specs.Working.{checked, plain};
-ghost use Rattle.roots.specs.Root as Root;
-ghost use Rattle.roots.specs.Formula.{num, value, work};
-ghost use Rattle.saturation.specs.Saturation.{eq-3-13, eq-3-14, eq-3-15};
-ghost use Rattle.saturation.specs.Saturation.{theta, tau, pressureSum, liquidSum, vapourSum, densityOf, aboveZero};
-ghost use Rattle.saturation.specs.Saturation.{vapourPressure, liquidDensity, vapourDensity};
+ghost use Rattle.roots.specs.Formula.{value, work};
+ghost use Rattle.saturation.specs.Saturation.{eq-3-13, theta, tau, pressureSum, vapourPressure};
 use exponential::exponential::exponential;
 use exponents::exponent::Exponent;
-use exponents::exponent::Printed;
-use exponents::exponent::worked_as;
 use numeric::constant::span_wagner;
 use numeric::working::Worked;
 use numeric::working::checked;
@@ -19,21 +13,12 @@ use numeric::working::plain;
 use powers::power::whole_power;
 use roots::root::root;
 
-// The coefficients of eqs. (3.13) and (3.14).
+// The coefficients of eq. (3.13).
 struct Four {
     a1: f64,
     a2: f64,
     a3: f64,
     a4: f64,
-}
-
-// Those of eq. (3.15).
-struct Five {
-    a1: f64,
-    a2: f64,
-    a3: f64,
-    a4: f64,
-    a5: f64,
 }
 
 fn pressure_coefficients() -> Four
@@ -47,30 +32,8 @@ fn pressure_coefficients() -> Four
     }
 }
 
-fn liquid_coefficients() -> Four
-    ensures { λ r. ⌜ r ≡ eq-3-14 ⌝ }
-{
-    Four {
-        a1: 1.9245108,
-        a2: -0.62385555,
-        a3: -0.32731127,
-        a4: 0.39245142,
-    }
-}
-
-fn vapour_coefficients() -> Five
-    ensures { λ r. ⌜ r ≡ eq-3-15 ⌝ }
-{
-    Five {
-        a1: -1.7074879,
-        a2: -0.82274670,
-        a3: -4.6008549,
-        a4: -10.111178,
-        a5: -29.742252,
-    }
-}
-
-fn theta_at(t: f64) -> Worked
+// θ = 1 − T/T_c
+pub fn theta_at(t: f64) -> Worked
     ensures { λ r. ⌜ r ≡ work (theta t) ⌝ }
 {
     checked(1.0 - t / span_wagner().temperature)
@@ -82,54 +45,13 @@ fn tau_at(t: f64) -> Worked
     checked(over(span_wagner().temperature, t))
 }
 
-// A root in a formula that is tested at its end.
-fn to(x: f64, e: Exponent) -> f64
-    ensures { λ r. ⌜ r ≡ plain (Root.root e x) ⌝ }
-{
-    plain(root(x, e))
-}
-
 fn pressure_sum(theta: f64) -> f64
     ensures { λ r. ⌜ r ≡ value (pressureSum theta) ⌝ }
 {
     let a = pressure_coefficients();
-    ((a.a1 * theta + a.a2 * to(theta, Exponent { m: 3, k: 2 })) + a.a3 * whole_power(theta, 2))
+    ((a.a1 * theta + a.a2 * plain(root(theta, Exponent { m: 3, k: 2 })))
+        + a.a3 * whole_power(theta, 2))
         + a.a4 * whole_power(theta, 4)
-}
-
-fn liquid_sum(theta: f64) -> f64
-    ensures { λ r. ⌜ r ≡ value (liquidSum theta) ⌝ }
-{
-    let a = liquid_coefficients();
-    let first = a.a1 * to(theta, worked_as(Printed::Of0_34));
-    let e = worked_as(Printed::Of10_6);
-    let third = a.a3 * to(theta, e);
-    ((first + a.a2 * to(theta, Exponent { m: 1, k: 2 })) + third)
-        + a.a4 * to(theta, Exponent { m: 11, k: 6 })
-}
-
-fn vapour_sum(theta: f64) -> f64
-    ensures { λ r. ⌜ r ≡ value (vapourSum theta) ⌝ }
-{
-    let a = vapour_coefficients();
-    let first = a.a1 * to(theta, worked_as(Printed::Of0_34));
-    let fourth = a.a4 * (whole_power(theta, 2) * to(theta, Exponent { m: 1, k: 3 }));
-    let fifth = a.a5 * (whole_power(theta, 4) * to(theta, Exponent { m: 2, k: 3 }));
-    (((first + a.a2 * to(theta, Exponent { m: 1, k: 2 })) + a.a3 * theta) + fourth) + fifth
-}
-
-// The density whose logarithm over the critical density is the sum.
-fn density_of(sum: f64) -> Worked
-    ensures { λ r. ⌜ r ≡ aboveZero (checked (value (densityOf (num sum)))) ⌝ }
-{
-    let Worked::Number(x) = checked(span_wagner().density * plain(exponential(sum))) else {
-        return Worked::Failed;
-    };
-    if 0.0 < x {
-        Worked::Number(x)
-    } else {
-        Worked::Failed
-    }
 }
 
 pub fn vapour_pressure(t: f64) -> Worked
@@ -142,22 +64,4 @@ pub fn vapour_pressure(t: f64) -> Worked
         return Worked::Failed;
     };
     checked(span_wagner().pressure * plain(exponential(tau * pressure_sum(theta))))
-}
-
-pub fn liquid_density(t: f64) -> Worked
-    ensures { λ r. ⌜ r ≡ liquidDensity t ⌝ }
-{
-    let Worked::Number(theta) = theta_at(t) else {
-        return Worked::Failed;
-    };
-    density_of(liquid_sum(theta))
-}
-
-pub fn vapour_density(t: f64) -> Worked
-    ensures { λ r. ⌜ r ≡ vapourDensity t ⌝ }
-{
-    let Worked::Number(theta) = theta_at(t) else {
-        return Worked::Failed;
-    };
-    density_of(vapour_sum(theta))
 }

@@ -12,7 +12,8 @@ use Rattle.numeric.specs.declared.working.Worked.{Worked}
 use Rattle.numeric.specs.declared.working.Worked.the-variants.{Number, Failed}
 use Rattle.roots.specs.Formula.{Formula, work}
 use Rattle.roots.proofs.Formulas.{sound, work-sound}
-use Rattle.saturation.specs.Saturation.{theta, liquidSum, vapourSum, densityOf, aboveZero, liquidDensity, vapourDensity}
+use Rattle.saturation.specs.Saturation.{theta}
+use Rattle.densities.specs.Density.{liquidSum, vapourSum, densityOf, aboveZero, liquidDensity, vapourDensity}
 
 -- above 0 is no minus sign
 above-nonneg : (x : Float) → T (finite x) → lt (whole 0) x ≡ true → T (nonneg x)

@@ -1,10 +1,10 @@
 -- The refusal is a θ that failed; past it one test of the density stands for all. Assumes nothing.
 use mathlib.Core.Path.{sym, ap, _∙_}
-use Rattle.saturation.specs.Saturation.{vapourSum, vapourDensity}
-use Rattle.saturation.proofs.Saturations.{dense, from-theta}
+use Rattle.densities.specs.Density.{vapourSum, vapourDensity}
+use Rattle.densities.proofs.Sums.{dense, from-theta}
 use borrow.Author.Needs.{needs}
-use Rattle.saturation.proofs.saturation.vapour_density.Statement.{statement}
-use Rattle.saturation.proofs.saturation.vapour_density.Tie as tie
+use Rattle.densities.proofs.density.vapour_density.Statement.{statement}
+use Rattle.densities.proofs.density.vapour_density.Tie as tie
 
 theta-at-requires : tie.Need-theta-at-requires
 theta-at-requires c κs = search needs

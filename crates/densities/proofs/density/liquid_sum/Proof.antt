@@ -1,9 +1,9 @@
 -- Each part is what its function ensures, and the sum is the formula's, operation by operation. Assumes nothing.
 use Rattle.roots.specs.Formula.{value}
-use Rattle.saturation.specs.Saturation.{liquidSum}
+use Rattle.densities.specs.Density.{liquidSum}
 use borrow.Author.Needs.{needs}
-use Rattle.saturation.proofs.saturation.liquid_sum.Statement.{statement}
-use Rattle.saturation.proofs.saturation.liquid_sum.Tie as tie
+use Rattle.densities.proofs.density.liquid_sum.Statement.{statement}
+use Rattle.densities.proofs.density.liquid_sum.Tie as tie
 
 liquid-coefficients-requires : tie.Need-liquid-coefficients-requires
 liquid-coefficients-requires c κs = search needs

@@ -4,10 +4,10 @@ use lib.Ieee.{ofBits, ofInt}
 use Rattle.numeric.specs.Number.{whole}
 use Rattle.numeric.specs.Working.{checked}
 use Rattle.roots.specs.Formula.{num, value}
-use Rattle.saturation.specs.Saturation.{densityOf, aboveZero}
+use Rattle.densities.specs.Density.{densityOf, aboveZero}
 use borrow.Author.Needs.{needs}
-use Rattle.saturation.proofs.saturation.density_of.Statement.{statement}
-use Rattle.saturation.proofs.saturation.density_of.Tie as tie
+use Rattle.densities.proofs.density.density_of.Statement.{statement}
+use Rattle.densities.proofs.density.density_of.Tie as tie
 
 told : (c : tie.After-checked) → aboveZero (c .checked .result) ≡ aboveZero (checked (value (densityOf (num (c .before .before .before .before .before .args .sum)))))
 unfolding densityOf value

@@ -1,9 +1,9 @@
 -- Each part is what its function ensures, and the sum is the formula's, operation by operation. Assumes nothing.
 use Rattle.roots.specs.Formula.{value}
-use Rattle.saturation.specs.Saturation.{vapourSum}
+use Rattle.densities.specs.Density.{vapourSum}
 use borrow.Author.Needs.{needs}
-use Rattle.saturation.proofs.saturation.vapour_sum.Statement.{statement}
-use Rattle.saturation.proofs.saturation.vapour_sum.Tie as tie
+use Rattle.densities.proofs.density.vapour_sum.Statement.{statement}
+use Rattle.densities.proofs.density.vapour_sum.Tie as tie
 
 vapour-coefficients-requires : tie.Need-vapour-coefficients-requires
 vapour-coefficients-requires c κs = search needs

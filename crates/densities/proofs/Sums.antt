@@ -5,7 +5,7 @@ use Rattle.numeric.specs.declared.working.Worked.{Worked}
 use Rattle.numeric.specs.Working.{checked, then}
 use Rattle.roots.specs.Formula.{Formula, num, value, work}
 use Rattle.roots.proofs.Formulas.{once}
-use Rattle.saturation.specs.Saturation.{densityOf, aboveZero}
+use Rattle.densities.specs.Density.{densityOf, aboveZero}
 
 pub dense : (e : Formula) (sum : Float) → sum ≡ value e → aboveZero (checked (value (densityOf (num sum)))) ≡ aboveZero (work (densityOf e))
 unfolding densityOf value

@@ -2,8 +2,8 @@
 use mathlib.Core.Path.{ap, _∙_}
 use Rattle.numeric.specs.Working.{plain}
 use borrow.Author.Needs.{needs}
-use Rattle.saturation.proofs.saturation.to.Statement.{statement}
-use Rattle.saturation.proofs.saturation.to.Tie as tie
+use Rattle.densities.proofs.density.to.Statement.{statement}
+use Rattle.densities.proofs.density.to.Tie as tie
 
 root-requires : tie.Need-root-requires
 root-requires c κs = search needs

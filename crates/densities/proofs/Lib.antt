@@ -1,0 +1,3 @@
+pub mod Densities
+pub mod Sums
+pub mod Unique

@@ -9,9 +9,9 @@ use Rattle.numeric.specs.Number.{nonneg}
 use Rattle.numeric.proofs.Numbers.{infinity}
 use Rattle.halving.specs.Halving.{NoCrossing}
 use Rattle.roots.proofs.Orders.{bits-mono}
-use Rattle.equation.specs.declared.state.State as Eight
-use Rattle.equation.specs.declared.state.Stated.the-variants.{Known}
-use Rattle.equation.proofs.States.{pressure-of-state}
+use Rattle.state.specs.declared.state.State as Eight
+use Rattle.state.specs.declared.state.Stated.the-variants.{Known}
+use Rattle.state.proofs.States.{pressure-of-state}
 use Rattle.densities.proofs.Densities.{vapour-nonneg, liquid-nonneg}
 use Rattle.refusals.specs.Answer.{withPhase}
 use Rattle.refusals.specs.Limits.{document01}

@@ -6,8 +6,8 @@ use native.Mathlib.Omega.{arith}
 use lib.Ieee.{Float, lt, le}
 use Rattle.numeric.specs.declared.working.Worked.{Worked}
 use Rattle.numeric.specs.declared.working.Worked.the-variants.{Number, Failed}
-use Rattle.equation.specs.declared.state.Stated.{Stated}
-use Rattle.equation.specs.declared.state.Stated.the-variants.{Known, Unknown}
+use Rattle.state.specs.declared.state.Stated.{Stated}
+use Rattle.state.specs.declared.state.Stated.the-variants.{Known, Unknown}
 use Rattle.refusals.specs.Answer.{withPhase, settled, thenAnswer, either}
 use Rattle.refusals.specs.Check.{passed}
 use Rattle.doors.specs.Equation.{Equation}

@@ -11,8 +11,8 @@ use Rattle.halving.specs.declared.halving.Crossing.{Crossing}
 use Rattle.halving.specs.declared.halving.Crossing.the-variants.{At, Nowhere, Broke}
 use Rattle.halving.proofs.Halvings.{answer, nowhere, nowhere-back, breaks, breaks-back}
 use Rattle.roots.specs.Formula.{num, _⊗_, work}
-use Rattle.equation.specs.declared.state.Stated.{Stated}
-use Rattle.equation.specs.declared.state.Stated.the-variants.{Known, Unknown}
+use Rattle.state.specs.declared.state.Stated.{Stated}
+use Rattle.state.specs.declared.state.Stated.the-variants.{Known, Unknown}
 use Rattle.refusals.specs.Answer.{withPhase, settled, thenAnswer, either}
 use Rattle.refusals.specs.Check.{passed}
 use Rattle.doors.specs.Equation.{Equation}

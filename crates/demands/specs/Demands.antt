@@ -9,8 +9,8 @@ use Rattle.numeric.specs.declared.working.Worked.the-variants.{Number, Failed}
 use Rattle.halving.specs.Halving.{Found, NoCrossing, Breaks, halve}
 use Rattle.halving.specs.declared.halving.Crossing.the-variants.{At}
 use Rattle.roots.specs.Formula.{num, _⊗_, work}
-use Rattle.equation.specs.declared.state.State as Eight
-use Rattle.equation.specs.declared.state.Stated.the-variants.{Known, Unknown}
+use Rattle.state.specs.declared.state.State as Eight
+use Rattle.state.specs.declared.state.Stated.the-variants.{Known, Unknown}
 use Rattle.refusals.specs.Answer.{withPhase}
 use Rattle.doors.specs.Equation.{Equation}
 use Rattle.refusals.specs.Limits.{outside}

@@ -13,8 +13,8 @@ use Rattle.halving.specs.Halving.{NotAbove, Above, Worthy, worthy}
 use Rattle.numeric.specs.declared.working.Worked.the-variants.{Number}
 use Rattle.numeric.proofs.Numbers.{infinity}
 use Rattle.isotherm.specs.declared.isotherm.Isotherm.{Isotherm}
-use Rattle.equation.specs.Pressure.{pressureOn}
-use Rattle.equation.proofs.Pressures.{pressure-finite}
+use Rattle.pressure.specs.Pressure.{pressureOn}
+use Rattle.pressure.proofs.Pressures.{pressure-finite}
 use Rattle.doors.specs.Search.{figure}
 
 -- ---- what a probe shows

@@ -4,9 +4,9 @@ use Rattle.numeric.specs.Constant.{spanWagner}
 use Rattle.numeric.specs.declared.working.Worked.{Worked}
 use Rattle.saturation.specs.Saturation as saturation
 use Rattle.densities.specs.Density as density
-use Rattle.equation.specs.Pressure as pressure
-use Rattle.equation.specs.State as state
-use Rattle.equation.specs.declared.state.Stated.{Stated}
+use Rattle.pressure.specs.Pressure as pressure
+use Rattle.state.specs.State as state
+use Rattle.state.specs.declared.state.Stated.{Stated}
 
 pub record Equation : Type 0 where
   pub critical : Float

@@ -5,7 +5,7 @@ use Rattle.halving.specs.Halving.{Figure, halve}
 use Rattle.numeric.specs.declared.working.Worked.{Worked}
 use Rattle.halving.specs.declared.halving.Crossing.{Crossing}
 use Rattle.halving.specs.declared.halving.Crossing.the-variants.{At, Nowhere, Broke}
-use Rattle.equation.specs.declared.state.Stated.{Stated}
+use Rattle.state.specs.declared.state.Stated.{Stated}
 use Rattle.refusals.specs.Answer.{settled}
 use Rattle.refusals.specs.declared.answer.Phase.{Phase}
 use Rattle.refusals.specs.declared.answer.Answer.{Answer}

@@ -6,11 +6,10 @@ ghost use Rattle.doors.specs.Equation.{of1996};
 ghost use Rattle.doors.specs.DensityDoor.{inPhase, below, within, densityDoor};
 use densities::density::liquid_density;
 use densities::density::vapour_density;
-use equation::pressure::pressure_on;
-use equation::state::state_on;
 use isotherm::isotherm::at_temperature;
 use numeric::constant::span_wagner;
 use numeric::working::Worked;
+use pressure::pressure::pressure_on;
 use refusals::answer::Answer;
 use refusals::answer::Phase;
 use refusals::answer::settle;
@@ -19,6 +18,7 @@ use refusals::check::check_inputs;
 use refusals::check::refusal;
 use refusals::limits::document_01;
 use refusals::limits::is_outside;
+use state::state::state_on;
 
 fn in_phase(phase: Phase, t: f64, rho: f64) -> Answer
     ensures { λ r. ⌜ r ≡ inPhase of1996 document01 phase t rho ⌝ }

@@ -6,18 +6,18 @@ ghost use lib.Dec.{T};
 ghost use lib.Ieee.{binary64, fits};
 ghost use Rattle.halving.specs.Halving.{NotAbove, Above, halve};
 ghost use Rattle.numeric.specs.Number.{nonneg};
-ghost use Rattle.equation.specs.Pressure.{pressureOn, pressure};
-ghost use Rattle.equation.specs.State.{stateOn, state};
+ghost use Rattle.pressure.specs.Pressure.{pressureOn, pressure};
+ghost use Rattle.state.specs.State.{stateOn, state};
 ghost use Rattle.doors.specs.Search.{figure, searched};
-use equation::pressure::pressure_on;
-use equation::state::state_on;
 use halving::halving::Crossing;
 use isotherm::isotherm::Isotherm;
 use isotherm::isotherm::at_temperature;
 use numeric::working::Worked;
+use pressure::pressure::pressure_on;
 use refusals::answer::Answer;
 use refusals::answer::Phase;
 use refusals::answer::settle;
+use state::state::state_on;
 
 // From lo, where the pressure is not above p, to hi, where it is above.
 fn narrow(iso: Isotherm, p: f64, from: u64, to: u64) -> Crossing

@@ -3,9 +3,9 @@ use mathlib.Core.Bool.{Bool, true, false}
 use lib.Ieee.{Float}
 use Rattle.numeric.specs.declared.working.Worked.{Worked}
 use Rattle.numeric.specs.declared.working.Worked.the-variants.{Number, Failed}
-use Rattle.equation.specs.declared.state.State as Eight
-use Rattle.equation.specs.declared.state.Stated.{Stated}
-use Rattle.equation.specs.declared.state.Stated.the-variants.{Known, Unknown}
+use Rattle.state.specs.declared.state.State as Eight
+use Rattle.state.specs.declared.state.Stated.{Stated}
+use Rattle.state.specs.declared.state.Stated.the-variants.{Known, Unknown}
 use Rattle.refusals.specs.declared.answer.Phase.{Phase}
 use Rattle.refusals.specs.declared.answer.State.{State}
 use Rattle.refusals.specs.declared.answer.Answer.{Answer}

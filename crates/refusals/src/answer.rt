@@ -1,7 +1,7 @@
 // What a door answers: a state, or the number of its refusal and nothing else.
 ghost use mathlib.Core.Path.{_≡_};
 ghost use Rattle.refusals.specs.Answer.{settled};
-use equation::state::Stated;
+use state::state::Stated;
 
 pub enum Phase {
     Vapour,

@@ -1,8 +1,8 @@
 -- Each step is the definition's. Assumes nothing.
 use mathlib.Core.Path.{_≡_, refl, sym, ap, subst, _∙_}
 use Rattle.isotherm.specs.declared.isotherm.Isotherm.{Isotherm}
-use Rattle.equation.specs.Pressure.{pressureOn, pressure}
-use Rattle.equation.specs.State.{stateOn, state}
+use Rattle.pressure.specs.Pressure.{pressureOn, pressure}
+use Rattle.state.specs.State.{stateOn, state}
 use Rattle.refusals.specs.Answer.{settled}
 use Rattle.refusals.specs.Limits.{outside}
 use Rattle.refusals.specs.declared.limits.Limits.{Limits}

@@ -4,7 +4,7 @@ use native.Mathlib.Omega.{arith}
 use Rattle.halving.specs.Halving.{met, first-above, second-not-above, at-first, at-second, failed}
 use Rattle.numeric.proofs.Numbers.{no-nan}
 use Rattle.halving.proofs.Halvings.{nowhere-back, breaks-back}
-use Rattle.equation.specs.Pressure.{pressureOn}
+use Rattle.pressure.specs.Pressure.{pressureOn}
 use Rattle.doors.specs.Search.{figure}
 use Rattle.doors.proofs.Searches.{is-above, is-not-above, is-worthy}
 use borrow.Author.Needs.{needs}

@@ -6,7 +6,7 @@ use borrow.Author.Needs.{needs}
 use Rattle.halving.specs.Halving.{halve, middle, failed}
 use Rattle.numeric.proofs.Numbers.{no-nan}
 use Rattle.halving.proofs.Halvings.{Narrowing, begins, ends-at, to-upper, to-lower, to-broke}
-use Rattle.equation.specs.Pressure.{pressureOn}
+use Rattle.pressure.specs.Pressure.{pressureOn}
 use Rattle.doors.specs.Search.{figure}
 use Rattle.doors.proofs.Searches.{is-above, is-not-above}
 use Rattle.doors.proofs.search.narrow.Statement.{statement}

@@ -1,7 +1,7 @@
 -- On the temperature's isotherm. Assumes nothing.
 use mathlib.Core.Path.{refl, ap, _∙_}
-use Rattle.equation.specs.Pressure.{pressureOn, pressure}
-use Rattle.equation.specs.State.{stateOn, state}
+use Rattle.pressure.specs.Pressure.{pressureOn, pressure}
+use Rattle.state.specs.State.{stateOn, state}
 use Rattle.isotherm.specs.declared.isotherm.Isotherm.{Isotherm}
 use Rattle.doors.specs.Search.{searched}
 use borrow.Author.Needs.{needs}

@@ -6,8 +6,8 @@ use Rattle.halving.specs.Halving.{Found}
 use Rattle.halving.specs.declared.halving.Crossing.{Crossing}
 use Rattle.numeric.proofs.Numbers.{no-nan, nonneg-no-nan}
 use Rattle.halving.proofs.Halvings.{answer}
-use Rattle.equation.specs.Pressure.{pressureOn}
-use Rattle.equation.specs.State.{stateOn}
+use Rattle.pressure.specs.Pressure.{pressureOn}
+use Rattle.state.specs.State.{stateOn}
 use Rattle.refusals.specs.Answer.{settled}
 use Rattle.doors.specs.Search.{figure, found, searched}
 use Rattle.doors.proofs.Searches.{bits-below}

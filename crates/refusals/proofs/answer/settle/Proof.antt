@@ -1,6 +1,6 @@
 -- The eight numbers, or 7. Assumes nothing.
 use mathlib.Core.Path.{_≡_, sym, ap}
-use Rattle.equation.specs.declared.state.Stated.{Stated}
+use Rattle.state.specs.declared.state.Stated.{Stated}
 use Rattle.refusals.specs.Answer.{settled}
 use borrow.Author.Needs.{needs}
 use Rattle.refusals.proofs.answer.settle.Statement.{statement}

@@ -1,3 +1,0 @@
-pub mod Pressures
-pub mod States
-pub mod Unique

@@ -1,2 +1,0 @@
-pub mod Pressure
-pub mod State

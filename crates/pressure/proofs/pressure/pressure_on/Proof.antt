@@ -1,0 +1,79 @@
+-- Each step is the definition's. Assumes nothing.
+use mathlib.Core.Path.{_≡_, sym, _∙_}
+use lib.Ieee.{ofBits, ofInt}
+use Rattle.numeric.specs.Constant.{spanWagner}
+use Rattle.numeric.specs.Number.{whole}
+use Rattle.roots.specs.Formula.{value, work}
+use Rattle.roots.proofs.Formulas.{once}
+use Rattle.pressure.specs.Pressure.{pressureFormula, pressureOn}
+use borrow.Author.Needs.{needs}
+use Rattle.pressure.proofs.pressure.pressure_on.Statement.{statement}
+use Rattle.pressure.proofs.pressure.pressure_on.Tie as tie
+
+worked : (c : tie.After-checked)
+    → (let n = c .before .before .before .before in
+    let a = n .before .before .before .before .before .before .before .args in c .checked .result ≡ work (pressureFormula (a .iso .t) (a .rho) (n .a .given .0 .0)))
+unfolding value ofBits ofInt whole
+worked c =
+    let n = c .before .before .before .before in
+    let a = n .before .before .before .before .before .before .before .args in
+    c .checked .ensures ∙ rw (c .before .before .span-wagner .ensures) (once (pressureFormula (a .iso .t) (a .rho) (n .a .given .0 .0)))
+
+delta-at-requires : tie.Need-delta-at-requires
+delta-at-requires c κs = search needs
+
+enum-known-delta : tie.Need-enum-known-delta
+enum-known-delta c = search needs
+
+enum-told : tie.Need-enum-told
+enum-told c = search needs
+
+returns : tie.Need-returns
+unfolding pressureOn
+returns c = simp (pressureOn, sym (c .before .before .delta-at .ensures) ∙ c .enum-told .given .1)
+
+slope-at-requires : tie.Need-slope-at-requires
+slope-at-requires c κs = search needs
+
+enum-known-a : tie.Need-enum-known-a
+enum-known-a c = search needs
+
+enum-told-2 : tie.Need-enum-told-2
+enum-told-2 c = search needs
+
+returns-2 : tie.Need-returns-2
+unfolding pressureOn
+returns-2 c =
+    let m = c .before .before in
+    let n = m .before .before in
+    simp (pressureOn, sym (n .before .before .delta-at .ensures) ∙ n .delta .given .1, sym (m .slope-at .ensures) ∙ c .enum-told2 .given .1)
+
+span-wagner-requires : tie.Need-span-wagner-requires
+span-wagner-requires c κs = search needs
+
+checked-requires : tie.Need-checked-requires
+checked-requires c κs = search needs
+
+returns-3 : tie.Need-returns-3
+unfolding pressureOn
+returns-3 c =
+    let l = c .before .before .before .before in
+    let m = l .before .before in
+    let n = m .before .before in
+    worked c ∙ simp (pressureOn, sym (n .before .before .delta-at .ensures) ∙ n .delta .given .1, sym (m .slope-at .ensures) ∙ l .a .given .1)
+
+pub pressure-on-spec : {M : Type 1} → statement M
+pressure-on-spec =
+    tie.close
+    (tie.spec
+    delta-at-requires
+    enum-known-delta
+    enum-told
+    returns
+    slope-at-requires
+    enum-known-a
+    enum-told-2
+    returns-2
+    span-wagner-requires
+    checked-requires
+    returns-3)

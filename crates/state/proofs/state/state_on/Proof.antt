@@ -1,0 +1,70 @@
+-- Each step is the definition's. Assumes nothing.
+use mathlib.Core.Path.{_≡_, sym, _∙_}
+use Rattle.pressure.specs.Pressure.{deltaOf}
+use Rattle.pressure.proofs.Pressures.{delta-worked}
+use Rattle.state.specs.State.{stateOn}
+use borrow.Author.Needs.{needs}
+use Rattle.state.proofs.state.state_on.Statement.{statement}
+use Rattle.state.proofs.state.state_on.Tie as tie
+
+delta-is : (c : tie.After-checked) → deltaOf (c .before .before .before .args .rho) ≡ c .checked .result
+delta-is c = sym (c .checked .ensures ∙ rw (c .before .before .span-wagner .ensures) (delta-worked (c .before .before .before .args .rho)))
+
+span-wagner-requires : tie.Need-span-wagner-requires
+span-wagner-requires c κs = search needs
+
+checked-requires : tie.Need-checked-requires
+checked-requires c κs = search needs
+
+enum-known-delta : tie.Need-enum-known-delta
+enum-known-delta c = search needs
+
+enum-told : tie.Need-enum-told
+enum-told c = search needs
+
+returns : tie.Need-returns
+unfolding stateOn
+returns c = simp (stateOn, delta-is (c .before .before) ∙ c .enum-told .given .1)
+
+five-sums-requires : tie.Need-five-sums-requires
+five-sums-requires c κs = search needs
+
+enum-known-s : tie.Need-enum-known-s
+enum-known-s c = search needs
+
+enum-told-2 : tie.Need-enum-told-2
+enum-told-2 c = search needs
+
+returns-2 : tie.Need-returns-2
+unfolding stateOn
+returns-2 c =
+    let m = c .before .before in
+    let n = m .before .before in
+    simp (stateOn, delta-is (n .before .before) ∙ n .delta .given .1, sym (m .five-sums .ensures) ∙ c .enum-told2 .given .1)
+
+state-ideal-requires : tie.Need-state-ideal-requires
+state-ideal-requires c κs = search needs
+
+returns-3 : tie.Need-returns-3
+unfolding stateOn
+returns-3 c =
+    let l = c .before .before in
+    let m = l .before .before in
+    let n = m .before .before in
+    c .state-ideal .ensures ∙ simp (stateOn, delta-is (n .before .before) ∙ n .delta .given .1, sym (m .five-sums .ensures) ∙ l .s .given .1)
+
+pub state-on-spec : {M : Type 1} → statement M
+state-on-spec =
+    tie.close
+    (tie.spec
+    span-wagner-requires
+    checked-requires
+    enum-known-delta
+    enum-told
+    returns
+    five-sums-requires
+    enum-known-s
+    enum-told-2
+    returns-2
+    state-ideal-requires
+    returns-3)

@@ -1,0 +1,119 @@
+-- Each field is its formula, worked in plain f64 and tested. Assumes nothing.
+use mathlib.Core.Path.{_≡_, sym, ap, _∙_}
+use lib.Ieee.{ofBits, ofInt}
+use Rattle.numeric.specs.Number.{whole}
+use Rattle.numeric.specs.Working.{checked}
+use Rattle.roots.specs.Formula.{Formula, value, work}
+use Rattle.roots.specs.Formula.{num, _⊖_, _⊗_, _⊘_}
+use Rattle.roots.proofs.Formulas.{once, once-root}
+use Rattle.isotherm.specs.Isotherm.{half}
+use Rattle.state.specs.State.{thermal, sag, pull, stiffness, heatV, heatP, sound, stateWith}
+use borrow.Author.Needs.{needs}
+use Rattle.state.proofs.state.state_with.Statement.{statement}
+use Rattle.state.proofs.state.state_with.Tie as tie
+
+cv-is : (c : tie.After-checked) → (let a = c .before .before .before .before .before .before .before .args in work (heatV (a .t) (a .s) (a .i1) (a .i2))) ≡ c .checked .result
+unfolding value
+cv-is c =
+    let a = c .before .before .before .before .before .before .before .args in
+    sym (c .checked .ensures ∙ rw (c .before .before .before .before .before .before .span-wagner .ensures) (once (heatV (a .t) (a .s) (a .i1) (a .i2))))
+
+cp-is : (c : tie.After-checked2) → (let a = c .before .before .before .before .before .before .before .before .before .before .before .before .args in work (heatP (a .t) (a .s) (a .i1) (a .i2))) ≡ c .checked2 .result
+unfolding value ofBits ofInt whole
+cp-is c =
+    let a = c .before .before .before .before .before .before .before .before .before .before .before .before .args in
+    sym (c .checked2 .ensures ∙ rw (c .before .over .ensures, c .before .before .before .before .before .before .before .before .before .before .before .span-wagner .ensures) (once (heatP (a .t) (a .s) (a .i1) (a .i2))))
+
+w-is : (c : tie.After-root) → (let a = c .before .before .before .before .before .before .before .before .before .before .before .before .before .before .before .before .before .args in work (sound (a .t) (a .s) (a .i1) (a .i2))) ≡ c .root .result
+unfolding value ofBits ofInt whole
+w-is c =
+    let a = c .before .before .before .before .before .before .before .before .before .before .before .before .before .before .before .before .before .args in
+    sym (c .root .ensures ∙ rw (c .before .over2 .ensures, c .before .before .before .before .before .before .before .before .before .before .before .before .before .before .before .before .span-wagner .ensures)
+    (once-root half (thermal (a .t) (a .s) (a .i1) (a .i2) ⊗ (stiffness (a .t) (a .s) (a .i1) (a .i2) ⊖ pull (a .t) (a .s) (a .i1) (a .i2) ⊗ pull (a .t) (a .s) (a .i1) (a .i2) ⊘ sag (a .t) (a .s) (a .i1) (a .i2)))))
+
+span-wagner-requires : tie.Need-span-wagner-requires
+span-wagner-requires c κs = search needs
+
+checked-requires : tie.Need-checked-requires
+checked-requires c κs = search needs
+
+enum-known-cv : tie.Need-enum-known-cv
+enum-known-cv c = search needs
+
+enum-told : tie.Need-enum-told
+enum-told c = search needs
+
+returns : tie.Need-returns
+unfolding stateWith
+returns c = simp (stateWith, cv-is (c .before .before) ∙ c .enum-told .given .1)
+
+over-requires : tie.Need-over-requires
+over-requires c κs = search needs
+
+checked-requires-2 : tie.Need-checked-requires-2
+checked-requires-2 c κs = search needs
+
+enum-known-cp : tie.Need-enum-known-cp
+enum-known-cp c = search needs
+
+enum-told-2 : tie.Need-enum-told-2
+enum-told-2 c = search needs
+
+returns-2 : tie.Need-returns-2
+unfolding stateWith
+returns-2 c =
+    let m = c .before .before in
+    let v = m .before .before .before in
+    simp (stateWith, cv-is (v .before .before) ∙ v .cv .given .1, cp-is m ∙ c .enum-told2 .given .1)
+
+over-requires-2 : tie.Need-over-requires-2
+over-requires-2 c κs = search needs
+
+root-requires : tie.Need-root-requires
+root-requires c κs = search needs
+
+enum-known-w : tie.Need-enum-known-w
+enum-known-w c = search needs
+
+enum-told-3 : tie.Need-enum-told-3
+enum-told-3 c = search needs
+
+returns-3 : tie.Need-returns-3
+unfolding stateWith
+returns-3 c =
+    let k = c .before .before in
+    let q = k .before .before .before in
+    let m = q .before .before in
+    let v = m .before .before .before in
+    simp (stateWith, cv-is (v .before .before) ∙ v .cv .given .1, cp-is m ∙ q .cp .given .1, w-is k ∙ c .enum-told3 .given .1)
+
+returns-4 : tie.Need-returns-4
+unfolding stateWith
+returns-4 c =
+    let n = c .before in
+    let k = n .before .before in
+    let q = k .before .before .before in
+    let m = q .before .before in
+    let v = m .before .before .before in
+    simp (stateWith, cv-is (v .before .before) ∙ v .cv .given .1, cp-is m ∙ q .cp .given .1, w-is k ∙ n .w .given .1)
+
+pub state-with-spec : {M : Type 1} → statement M
+state-with-spec =
+    tie.close
+    (tie.spec
+    span-wagner-requires
+    checked-requires
+    enum-known-cv
+    enum-told
+    returns
+    over-requires
+    checked-requires-2
+    enum-known-cp
+    enum-told-2
+    returns-2
+    over-requires-2
+    root-requires
+    enum-known-w
+    enum-told-3
+    returns-3
+    returns-4)

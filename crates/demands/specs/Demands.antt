@@ -12,9 +12,9 @@ use Rattle.roots.specs.Formula.{num, _⊗_, work}
 use Rattle.state.specs.declared.state.State as Eight
 use Rattle.state.specs.declared.state.Stated.the-variants.{Known, Unknown}
 use Rattle.refusals.specs.Answer.{withPhase}
-use Rattle.doors.specs.Equation.{Equation}
+use Rattle.equation.specs.Equation.{Equation}
 use Rattle.refusals.specs.Limits.{outside}
-use Rattle.doors.specs.Search.{figure}
+use Rattle.pressure_door.specs.Search.{figure}
 use Rattle.refusals.specs.declared.limits.Range.{Range}
 use Rattle.refusals.specs.declared.limits.Limits.{Limits}
 use Rattle.refusals.specs.declared.answer.Phase.{Phase}
@@ -22,8 +22,8 @@ use Rattle.refusals.specs.declared.answer.Phase.the-variants.{Vapour, Liquid, S
 use Rattle.refusals.specs.declared.answer.State.{State}
 use Rattle.refusals.specs.declared.answer.Answer.{Answer}
 use Rattle.refusals.specs.declared.answer.Answer.the-variants as answer
-use Rattle.doors.specs.PressureDoor.{pressureDoor}
-use Rattle.doors.specs.DensityDoor.{densityDoor}
+use Rattle.pressure_door.specs.PressureDoor.{pressureDoor}
+use Rattle.density_door.specs.DensityDoor.{densityDoor}
 
 -- ---- the checks on the inputs: 3, 4, 5, 6, each only where none before it holds
 module _ (L : Limits) (asked critical : Range) (t x : Float) where

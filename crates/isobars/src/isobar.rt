@@ -1,6 +1,6 @@
 // 004's Table 35, its isobars, against the pressure door at the printed temperature and pressure (document 01, end of
 // "Readings on each side of a boundary"; docs/READING.md, D).
-use doors::pressure_door::from_pressure;
+use pressure_door::pressure_door::from_pressure;
 use refusals::answer::Answer;
 use refusals::answer::State;
 use refusals::limits::document_01;

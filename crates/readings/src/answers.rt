@@ -1,8 +1,8 @@
 // The doors: document 01's readings that are run, the ends of each range and the floats beside them, both sides of the
 // saturation line, the edges of the critical box, and what is no number. Bits worked elsewhere (crosscheck/doors.py).
-use doors::density_door::from_density;
-use doors::pressure_door::from_pressure;
+use density_door::density_door::from_density;
 use libc::STDOUT_FILENO;
+use pressure_door::pressure_door::from_pressure;
 use refusals::answer::Answer;
 use refusals::answer::Phase;
 use refusals::answer::State;

@@ -1,4 +1,0 @@
-pub mod Equation
-pub mod Search
-pub mod PressureDoor
-pub mod DensityDoor

@@ -1,0 +1,1 @@
+// What a door needs of an equation of state, and the one of 1996; no code.

@@ -1,0 +1,52 @@
+-- Each step is the definition's. Assumes nothing.
+use mathlib.Core.Path.{_≡_, refl, sym, ap, subst, _∙_}
+use Rattle.equation.specs.Equation.{of1996}
+use Rattle.pressure_door.specs.PressureDoor.{beneath}
+use borrow.Author.Needs.{needs}
+use Rattle.pressure_door.proofs.pressure_door.beneath.Statement.{statement}
+use Rattle.pressure_door.proofs.pressure_door.beneath.Tie as tie
+
+vapour-pressure-requires : tie.Need-vapour-pressure-requires
+vapour-pressure-requires c κs = search needs
+
+enum-known-s : tie.Need-enum-known-s
+enum-known-s c = search needs
+
+enum-told : tie.Need-enum-told
+enum-told c = search needs
+
+returns : tie.Need-returns
+unfolding beneath of1996
+returns c = rw (sym (c .before .before .vapour-pressure .ensures) ∙ c .enum-told .given .1) refl
+
+returns-2 : tie.Need-returns-2
+unfolding beneath of1996
+returns-2 c = rw (sym (c .before .before .before .before .vapour-pressure .ensures) ∙ c .before .before .s .given .1, c .if1 .taken) refl
+
+as-vapour-requires : tie.Need-as-vapour-requires
+as-vapour-requires c κs = search needs
+
+returns-3 : tie.Need-returns-3
+unfolding beneath of1996
+returns-3 c = c .as-vapour .ensures ∙ rw (sym (c .before .before .before .before .before .before .vapour-pressure .ensures) ∙ c .before .before .before .before .s .given .1, c .before .before .if1 .left, c .before .if2 .taken) refl
+
+as-liquid-requires : tie.Need-as-liquid-requires
+as-liquid-requires c κs = search needs
+
+returns-4 : tie.Need-returns-4
+unfolding beneath of1996
+returns-4 c = c .as-liquid .ensures ∙ rw (sym (c .before .before .before .before .before .before .vapour-pressure .ensures) ∙ c .before .before .before .before .s .given .1, c .before .before .if1 .left, c .before .if2 .left) refl
+
+pub beneath-spec : {M : Type 1} → statement M
+beneath-spec =
+    tie.close
+    (tie.spec
+    vapour-pressure-requires
+    enum-known-s
+    enum-told
+    returns
+    returns-2
+    as-vapour-requires
+    returns-3
+    as-liquid-requires
+    returns-4)

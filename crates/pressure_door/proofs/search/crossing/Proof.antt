@@ -1,0 +1,105 @@
+-- The ends are looked at as the definition has it.  Assumes nothing.
+use mathlib.Core.Path.{_≡_, sym, _∙_}
+use native.Mathlib.Omega.{arith}
+use Rattle.halving.specs.Halving.{met, first-above, second-not-above, at-first, at-second, failed}
+use Rattle.numeric.proofs.Numbers.{no-nan}
+use Rattle.halving.proofs.Halvings.{nowhere-back, breaks-back}
+use Rattle.pressure.specs.Pressure.{pressureOn}
+use Rattle.pressure_door.specs.Search.{figure}
+use Rattle.pressure_door.proofs.Searches.{is-above, is-not-above, is-worthy}
+use borrow.Author.Needs.{needs}
+use Rattle.pressure_door.proofs.search.crossing.Statement.{statement}
+use Rattle.pressure_door.proofs.search.crossing.Tie as tie
+
+returns : tie.Need-returns
+returns c = let a = c .before .args in sym (nowhere-back (figure (pressureOn (a .iso))) (a .p) (a .from) (a .to) (met (omega arith)))
+
+float-from-bits-pressure-on : tie.Need-float-from-bits-pressure-on
+float-from-bits-pressure-on c = no-nan _ (omega arith)
+
+pressure-on-requires : tie.Need-pressure-on-requires
+pressure-on-requires c κs = search needs
+
+enum-known-low : tie.Need-enum-known-low
+enum-known-low c = search needs
+
+enum-told : tie.Need-enum-told
+enum-told c = search needs
+
+returns-2 : tie.Need-returns-2
+returns-2 c =
+    let k = c .before .before in
+    let a = k .before .before .args in
+    sym (breaks-back (figure (pressureOn (a .iso))) (a .p) (a .from) (a .to) (omega arith) (omega arith) (at-first (failed (sym (k .pressure-on .ensures) ∙ c .enum-told .given .1))))
+
+float-from-bits-pressure-on-2 : tie.Need-float-from-bits-pressure-on-2
+float-from-bits-pressure-on-2 c = no-nan _ (omega arith)
+
+pressure-on-requires-2 : tie.Need-pressure-on-requires-2
+pressure-on-requires-2 c κs = search needs
+
+enum-known-high : tie.Need-enum-known-high
+enum-known-high c = search needs
+
+enum-told-2 : tie.Need-enum-told-2
+enum-told-2 c = search needs
+
+returns-3 : tie.Need-returns-3
+returns-3 c =
+    let k = c .before .before in
+    let n = k .before .before in
+    let a = n .before .before .before .before .args in
+    sym (breaks-back (figure (pressureOn (a .iso))) (a .p) (a .from) (a .to) (omega arith) (omega arith) (at-second (failed (sym (k .pressure-on2 .ensures) ∙ c .enum-told2 .given .1))))
+
+returns-4 : tie.Need-returns-4
+returns-4 c =
+    let h = c .before .before in
+    let k = h .before .before in
+    let n = k .before .before in
+    let a = n .before .before .before .before .args in
+    let low = sym (n .before .before .pressure-on .ensures) ∙ n .low .given .1 in
+    let high = sym (k .pressure-on2 .ensures) ∙ h .high .given .1 in
+    sym (nowhere-back (figure (pressureOn (a .iso))) (a .p) (a .from) (a .to) (first-above (is-above (a .iso) (a .p) (a .from) _ low (c .if2 .taken)) (is-worthy (a .iso) (a .to) _ high)))
+
+narrow-requires : tie.Need-narrow-requires
+narrow-requires c κs =
+    let h = c .before .before .before in
+    let k = h .before .before in
+    let n = k .before .before in
+    let a = n .before .before .before .before .args in
+    let low = sym (n .before .before .pressure-on .ensures) ∙ n .low .given .1 in
+    let high = sym (k .pressure-on2 .ensures) ∙ h .high .given .1 in
+    (omega arith, (omega arith, (is-not-above (a .iso) (a .p) (a .from) _ low (c .before .if2 .left), is-above (a .iso) (a .p) (a .to) _ high (c .if3 .taken))))
+
+returns-5 : tie.Need-returns-5
+returns-5 c = search needs
+
+returns-6 : tie.Need-returns-6
+returns-6 c =
+    let h = c .before .before .before in
+    let k = h .before .before in
+    let n = k .before .before in
+    let a = n .before .before .before .before .args in
+    let low = sym (n .before .before .pressure-on .ensures) ∙ n .low .given .1 in
+    let high = sym (k .pressure-on2 .ensures) ∙ h .high .given .1 in
+    sym (nowhere-back (figure (pressureOn (a .iso))) (a .p) (a .from) (a .to) (second-not-above (is-worthy (a .iso) (a .from) _ low) (is-not-above (a .iso) (a .p) (a .to) _ high (c .if3 .left))))
+
+pub crossing-spec : {M : Type 1} → statement M
+crossing-spec =
+    tie.close
+    (tie.spec
+    returns
+    float-from-bits-pressure-on
+    pressure-on-requires
+    enum-known-low
+    enum-told
+    returns-2
+    float-from-bits-pressure-on-2
+    pressure-on-requires-2
+    enum-known-high
+    enum-told-2
+    returns-3
+    returns-4
+    narrow-requires
+    returns-5
+    returns-6)

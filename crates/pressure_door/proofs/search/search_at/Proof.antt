@@ -1,0 +1,24 @@
+-- On the temperature's isotherm. Assumes nothing.
+use mathlib.Core.Path.{refl, ap, _∙_}
+use Rattle.pressure.specs.Pressure.{pressureOn, pressure}
+use Rattle.state.specs.State.{stateOn, state}
+use Rattle.isotherm.specs.declared.isotherm.Isotherm.{Isotherm}
+use Rattle.pressure_door.specs.Search.{searched}
+use borrow.Author.Needs.{needs}
+use Rattle.pressure_door.proofs.search.search_at.Statement.{statement}
+use Rattle.pressure_door.proofs.search.search_at.Tie as tie
+
+at-temperature-requires : tie.Need-at-temperature-requires
+at-temperature-requires c κs = search needs
+
+search-for-requires : tie.Need-search-for-requires
+search-for-requires c κs = search needs
+
+returns : tie.Need-returns
+unfolding pressure state
+returns c =
+    let a = c .before .before .args in
+    c .search-for .ensures ∙ ap (λ (i : Isotherm). searched (pressureOn i) (stateOn i) (a .phase) (a .from) (a .to) (a .p)) (c .before .at-temperature .ensures)
+
+pub search-at-spec : {M : Type 1} → statement M
+search-at-spec = tie.close (tie.spec at-temperature-requires search-for-requires returns)

@@ -1,0 +1,90 @@
+-- The crossing is the definition's, and the state is worked there. Assumes nothing.
+use mathlib.Core.Path.{_≡_, sym, ap, _∙_}
+use native.Mathlib.Omega.{arith}
+use lib.Ieee.{binary64, toBits}
+use Rattle.halving.specs.Halving.{Found}
+use Rattle.halving.specs.declared.halving.Crossing.{Crossing}
+use Rattle.numeric.proofs.Numbers.{no-nan, nonneg-no-nan}
+use Rattle.halving.proofs.Halvings.{answer}
+use Rattle.pressure.specs.Pressure.{pressureOn}
+use Rattle.state.specs.State.{stateOn}
+use Rattle.refusals.specs.Answer.{settled}
+use Rattle.pressure_door.specs.Search.{figure, found, searched}
+use Rattle.pressure_door.proofs.Searches.{bits-below}
+use borrow.Author.Needs.{needs}
+use Rattle.pressure_door.proofs.search.search_for.Statement.{statement}
+use Rattle.pressure_door.proofs.search.search_for.Tie as tie
+
+float-to-bits-crossing : tie.Need-float-to-bits-crossing
+float-to-bits-crossing c = nonneg-no-nan (c .args .from) (c .pre .0)
+
+float-to-bits-crossing-2 : tie.Need-float-to-bits-crossing-2
+float-to-bits-crossing-2 c = nonneg-no-nan (c .args .to) (c .pre .1 .0)
+
+crossing-requires : tie.Need-crossing-requires
+crossing-requires c κs = bits-below (c .args .to) (c .pre .1 .0) (c .pre .1 .1)
+
+enum-known-b : tie.Need-enum-known-b
+enum-known-b c = search needs
+
+float-from-bits-state-on : tie.Need-float-from-bits-state-on
+float-from-bits-state-on c =
+    let n = c .before in
+    let q = n .before .before in
+    let a = q .before .args in
+    let h = bits-below (a .to) (q .before .pre .1 .0) (q .before .pre .1 .1) in
+    let f = answer (figure (pressureOn (a .iso))) (a .p) (toBits binary64 (a .from)) (toBits binary64 (a .to)) _ (omega arith) (sym (q .crossing .ensures) ∙ n .b .given .1) in
+    let l = f .to in
+    no-nan _ (omega arith)
+
+state-on-requires : tie.Need-state-on-requires
+state-on-requires c κs = search needs
+
+settle-requires : tie.Need-settle-requires
+settle-requires c κs = search needs
+
+enum-told : tie.Need-enum-told
+enum-told c = search needs
+
+enum-told-2 : tie.Need-enum-told-2
+enum-told-2 c = search needs
+
+returns : tie.Need-returns
+unfolding searched
+returns c =
+    let n = c .before .before .before in
+    let q = n .before .before in
+    let a = q .before .args in
+    c .settle .ensures ∙ ap (settled (a .phase)) (c .before .state-on .ensures)
+    ∙ sym (ap (found (stateOn (a .iso)) (a .phase)) (sym (q .crossing .ensures) ∙ n .b .given .1))
+
+returns-2 : tie.Need-returns-2
+unfolding searched
+returns-2 c =
+    let q = c .before .before in
+    let a = q .before .args in
+    sym (ap (found (stateOn (a .iso)) (a .phase)) (sym (q .crossing .ensures) ∙ c .enum-told .given .1))
+
+returns-3 : tie.Need-returns-3
+unfolding searched
+returns-3 c =
+    let q = c .before .before in
+    let a = q .before .args in
+    sym (ap (found (stateOn (a .iso)) (a .phase)) (sym (q .crossing .ensures) ∙ c .enum-told2 .given .1))
+
+pub search-for-spec : {M : Type 1} → statement M
+search-for-spec =
+    tie.close
+    (tie.spec
+    float-to-bits-crossing
+    float-to-bits-crossing-2
+    crossing-requires
+    enum-known-b
+    float-from-bits-state-on
+    state-on-requires
+    settle-requires
+    enum-told
+    enum-told-2
+    returns
+    returns-2
+    returns-3)

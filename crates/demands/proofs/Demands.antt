@@ -13,7 +13,6 @@ use Rattle.state.specs.declared.state.State as Eight
 use Rattle.state.specs.declared.state.Stated.the-variants.{Known}
 use Rattle.state.proofs.States.{pressure-of-state}
 use Rattle.densities.proofs.Densities.{vapour-nonneg, liquid-nonneg}
-use Rattle.refusals.specs.Answer.{withPhase}
 use Rattle.refusals.specs.Limits.{document01}
 use Rattle.equation.specs.Equation.{Equation, of1996}
 use Rattle.pressure_door.specs.Search.{figure}

@@ -12,9 +12,9 @@ use Rattle.lines.specs.declared.line.Line.{Line}
 use Rattle.refusals.specs.declared.answer.State.{State}
 use Rattle.refusals.specs.declared.answer.Answer.{Answer}
 use Rattle.refusals.specs.Limits.{document01}
-use Rattle.doors.specs.Equation.{of1996}
-use Rattle.doors.specs.PressureDoor.{pressureDoor}
-use Rattle.doors.specs.DensityDoor.{densityDoor}
+use Rattle.equation.specs.Equation.{of1996}
+use Rattle.pressure_door.specs.PressureDoor.{pressureDoor}
+use Rattle.density_door.specs.DensityDoor.{densityDoor}
 use Rattle.whole.specs.Whole.{wholeBelow}
 use Rattle.whole.specs.declared.whole.Below.{Below}
 use Rattle.weighing.specs.Weighing.{isVolume, inRange, mass, milligrams, passedOn, filled, read, ifNumber, ifKelvin, weighed}

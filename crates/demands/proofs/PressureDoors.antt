@@ -1,5 +1,5 @@
 -- The pressure door, over any equation and any limits: each refusal exactly under its condition, and what an answer means. Assumes nothing.
-use Prim.Native.Nat.{ℕ, _^_, _≤_}
+use Prim.Native.Nat.{ℕ}
 use mathlib.Core.Path.{_≡_, refl, sym, ap, subst, _∙_}
 use mathlib.Core.Bool.{Bool, true, false}
 use native.Mathlib.Omega.{arith}
@@ -14,21 +14,20 @@ use Rattle.roots.specs.Formula.{num, _⊗_, work}
 use Rattle.state.specs.declared.state.Stated.{Stated}
 use Rattle.state.specs.declared.state.Stated.the-variants.{Known, Unknown}
 use Rattle.refusals.specs.Answer.{withPhase, settled, thenAnswer, either}
-use Rattle.refusals.specs.Check.{checks, passed}
+use Rattle.refusals.specs.Check.{passed}
 use Rattle.equation.specs.Equation.{Equation}
 use Rattle.pressure_door.specs.Search.{figure, found, searched}
 use Rattle.pressure_door.specs.PressureDoor.{vapour, liquid, beneath, entered, pressureDoor}
 use Rattle.demands.specs.Demands as demands
-use Rattle.demands.specs.Demands.{PastP, Ranged, supercritical, RefusesP, barred, line-fails, on-line, vapour-fails, vapour-end-fails, liquid-fails, liquid-end-fails, no-crossing, probe-fails, state-fails, Answered, Sane, Exactly, PressureRefusals, PressureAnswers, NoCrossingExactly}
+use Rattle.demands.specs.Demands.{PastP, Ranged, supercritical, RefusesP, barred, line-fails, on-line, vapour-fails, vapour-end-fails, liquid-fails, liquid-end-fails, no-crossing, probe-fails, state-fails, Answered, Sane, PressureRefusals, PressureAnswers, NoCrossingExactly}
 use Rattle.refusals.specs.declared.check.Check.{Check}
-use Rattle.refusals.specs.declared.check.Check.the-variants.{Passed, No}
 use Rattle.refusals.specs.declared.limits.Limits.{Limits}
 use Rattle.refusals.specs.declared.answer.Phase.{Phase}
 use Rattle.refusals.specs.declared.answer.Phase.the-variants.{Vapour, Liquid, Supercritical}
 use Rattle.refusals.specs.declared.answer.State.{State}
 use Rattle.refusals.specs.declared.answer.Answer.{Answer}
 use Rattle.refusals.specs.declared.answer.Answer.the-variants as answer
-use Rattle.demands.proofs.Checks.{Finds, stops, passes, finds, stops-back, passes-back}
+use Rattle.demands.proofs.Checks.{stops, passes, finds, stops-back, passes-back}
 
 module _ (E : Equation) (L : Limits) (sane : Sane E L) (t p : Float) where
   -- ---- an answer of the door, explained

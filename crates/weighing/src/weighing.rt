@@ -3,8 +3,8 @@
 ghost use mathlib.Core.Path.{_≡_};
 ghost use Prim.Native.Nat.{_≤_};
 ghost use Rattle.weighing.specs.Weighing.{isVolume, milligrams, filled, read, weighed};
-use doors::density_door::from_density;
-use doors::pressure_door::from_pressure;
+use density_door::density_door::from_density;
+use pressure_door::pressure_door::from_pressure;
 use lines::line::Line;
 use lines::line::Reading;
 use lines::line::Temperature;

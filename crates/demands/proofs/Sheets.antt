@@ -21,9 +21,10 @@ use Rattle.writing.proofs.Writings.{long}
 use Rattle.report.specs.Report.{linesBytes, endingBytes, sentBack, ReportIs}
 use Rattle.report.specs.declared.report.Weighed.{Weighed}
 use Rattle.report.specs.declared.report.Written as outcome
-use Rattle.score.specs.Score.{isNeed, when, needed, checked, plus, total, ending, reached, mark, finished, report}
-use Rattle.score.specs.declared.score.Checked.{Checked}
-use Rattle.score.specs.declared.score.Summed.{Summed}
+use Rattle.verdict.specs.Verdict.{isNeed, when, needed, checked, ending, reached}
+use Rattle.score.specs.Score.{plus, total, mark, finished, report}
+use Rattle.verdict.specs.declared.verdict.Checked.{Checked}
+use Rattle.verdict.specs.declared.verdict.Summed.{Summed}
 use Rattle.score.proofs.score.score.Reads as score
 use Rattle.demands.specs.Demands.{Exactly}
 use Rattle.demands.specs.Sheets as sheets

@@ -15,7 +15,8 @@ use Rattle.report.specs.Report.{linesBytes, endingBytes, sentBack}
 use Rattle.report.specs.declared.report.Weighed.{Weighed}
 use Rattle.report.specs.declared.report.Ending.{Ending}
 use Rattle.report.specs.declared.report.Written as outcome
-use Rattle.score.specs.Score.{isNeed, mark}
+use Rattle.verdict.specs.Verdict.{isNeed}
+use Rattle.score.specs.Score.{mark}
 
 abbrev pub lines : Written → List Line
 lines w = map lineOf (w .cylinders)

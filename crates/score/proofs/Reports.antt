@@ -20,8 +20,9 @@ use Rattle.sheet.specs.declared.sheet.SheetRead.{SheetRead}
 use Rattle.sheet.proofs.Paddings.{padded-set, taken-back}
 use Rattle.report.specs.Report.{marksOf, sentBack, reportBytes}
 use Rattle.report.specs.declared.report.Mark.{Mark}
-use Rattle.score.specs.Score.{when, needed, checked, mark, noMark, marksFor, ending, total, report, Light}
-use Rattle.score.specs.declared.score.Checked.{Checked}
+use Rattle.verdict.specs.Verdict.{when, needed, checked, ending}
+use Rattle.score.specs.Score.{mark, noMark, marksFor, total, report, Light}
+use Rattle.verdict.specs.declared.verdict.Checked.{Checked}
 use Rattle.score.proofs.Totals.{all-light}
 
 -- ---- one turn of the loop that weighs the lines

@@ -16,7 +16,7 @@ use Rattle.lines.specs.declared.line.Line.{Line}
 use Rattle.weighing.specs.Weighing.{weight}
 use Rattle.weighing.proofs.Weights.{weighed-under}
 use Rattle.score.specs.Score.{plus, total, mark, Light}
-use Rattle.score.specs.declared.score.Summed.{Summed}
+use Rattle.verdict.specs.declared.verdict.Summed.{Summed}
 
 abbrev pub onto : ℕ → Summed → Summed
 onto s (Summed.Sum t) = Summed.Sum (s + t)

@@ -1,11 +1,13 @@
 // A sheet is read once, worked line by line, and reported: "Order for a sheet: 14, 10, 11, 12, 13, and 15 last, whatever
 // the report would say" (document 01).
 ghost use mathlib.Core.Path.{_≡_};
-ghost use Prim.Native.Nat.{_≤_};
+ghost use Prim.Native.Nat.{_≤_, _<_};
+ghost use lib.ListN.{getD};
+ghost use Rattle.lines.specs.Line.{blankLine};
 ghost use Rattle.report.specs.Report.{marksOf, ReportIs};
 ghost use Rattle.sheet.specs.Form.{inForm};
-ghost use Rattle.score.specs.Score.{isNeed, checked, marksFor, Light, total, ending, report};
-use report::report::Ending;
+ghost use Rattle.weighing.specs.Weighing.{weighed};
+ghost use Rattle.score.specs.Score.{marksFor, Light, total, report};
 use report::report::Mark;
 use report::report::Marks;
 use report::report::Weighed;
@@ -14,45 +16,18 @@ use report::report::send_back;
 use report::report::write_report;
 use sheet::sheet::Sheet;
 use sheet::sheet::read_sheet;
-use text::field::Field;
+use verdict::verdict::Checked;
+use verdict::verdict::Summed;
+use verdict::verdict::check_sheet;
+use verdict::verdict::ending;
 use weighing::weighing::weigh;
 
-// A sheet that is worked line by line, with its need in mg, or one that is sent back before.
-pub enum Checked {
-    Need(u64),
-    SentBack(u8),
-}
-
-pub enum Summed {
-    Sum(u64),
-    Refused,
-}
-
-fn is_need(mg: u64) -> bool
-    ensures { λ r. ⌜ r ≡ isNeed mg ⌝ }
+fn weigh_at(s: Sheet, i: usize) -> Weighed
+    requires { ⌜ i < 32 ⌝ }
+    ensures { λ r. ⌜ r ≡ weighed (getD (s .lines) i blankLine) ⌝ }
 {
-    mg >= 1 && mg <= 9_999_999_999
-}
-
-fn check_sheet(ok: bool, count: usize, need: Field) -> Checked
-    ensures { λ r. ⌜ r ≡ checked ok count need ⌝ }
-{
-    if !ok {
-        return Checked::SentBack(14);
-    }
-    if count == 0 {
-        return Checked::SentBack(10);
-    }
-    if count > 32 {
-        return Checked::SentBack(11);
-    }
-    let Field::Number(mg) = need else {
-        return Checked::SentBack(12);
-    };
-    if is_need(mg) {
-        return Checked::Need(mg);
-    }
-    Checked::SentBack(12)
+    let l = s.lines[i];
+    weigh(l)
 }
 
 // Each line's milligrams or refusal, in the sheet's order.
@@ -67,8 +42,7 @@ fn weigh_all(s: Sheet) -> Marks
     let n = s.count;
     let mut i: usize = 0;
     while i < n {
-        let l = s.lines[i];
-        let w = weigh(l);
+        let w = weigh_at(s, i);
         marks[i] = Mark { weighed: w };
         i += 1;
     }
@@ -96,18 +70,6 @@ fn total(m: Marks) -> Summed
         i += 1;
     }
     Summed::Sum(sum)
-}
-
-fn ending(need: u64, t: Summed) -> Ending
-    ensures { λ r. ⌜ r ≡ ending need t ⌝ }
-{
-    let Summed::Sum(mg) = t else {
-        return Ending::SentBack(13);
-    };
-    if mg >= need {
-        return Ending::Covered(mg);
-    }
-    Ending::Short(mg)
 }
 
 pub fn score(text: &[u8], out: &mut [u8]) -> Written

@@ -22,14 +22,8 @@ loop-holds : tie.Need-loop-holds Inv-loop μ-loop
 unfolding padded
 loop-holds c = (omega arith, refl)
 
-mul-l : tie.Need-mul-l Inv-loop μ-loop
-mul-l c = search needs
-
-element-copy-out-l : tie.Need-element-copy-out-l Inv-loop μ-loop
-element-copy-out-l c = search needs
-
-weigh-requires : tie.Need-weigh-requires Inv-loop μ-loop
-weigh-requires c κs = search needs
+weigh-at-requires : tie.Need-weigh-at-requires Inv-loop μ-loop
+weigh-at-requires c κs = search needs
 
 mul-marks : tie.Need-mul-marks Inv-loop μ-loop
 mul-marks c = search needs
@@ -45,13 +39,14 @@ loop-less c = omega arith
 
 loop-again : tie.Need-loop-again Inv-loop μ-loop
 loop-again c =
-    let size : length (c .before .before .before .before .args .t1 .lines) ≡ 32 = search (needs, unmapped) in
-    (omega arith, marked-more _ _ _ _ _ size (omega arith) (ap (λ (w : Weighed). record { weighed = w }) (c .weigh .ensures)) (c .before .before .before .loop .inv .1))
+    let l = c .before .before in
+    let size : length (l .before .args .s .lines) ≡ 32 = search (needs, unmapped) in
+    (omega arith, marked-more _ _ _ _ _ size (omega arith) (ap (λ (w : Weighed). record { weighed = w }) (c .weigh-at .ensures)) (l .loop .inv .1))
 
 returns : tie.Need-returns Inv-loop μ-loop
 unfolding marksFor
 returns c =
-    let e : c .before .loop .i ≡ c .before .before .args .t1 .count = omega arith in
+    let e : c .before .loop .i ≡ c .before .before .args .s .count = omega arith in
     rw (c .before .loop .inv .1, e)
 
 pub weigh-all-spec : {M : Type 1} → statement M
@@ -61,9 +56,7 @@ weigh-all-spec =
     Inv-loop
     μ-loop
     loop-holds
-    mul-l
-    element-copy-out-l
-    weigh-requires
+    weigh-at-requires
     mul-marks
     array-set-from-marks
     add-i

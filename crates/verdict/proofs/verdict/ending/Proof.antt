@@ -1,9 +1,9 @@
 -- 13 where a line was refused; else the sum is held against the need. Assumes nothing.
 use borrow.Author.Needs.{needs}
 use borrow.Author.Tests.{le-leb, lt-leb}
-use Rattle.score.specs.Score.{ending}
-use Rattle.score.proofs.score.ending.Statement.{statement}
-use Rattle.score.proofs.score.ending.Tie as tie
+use Rattle.verdict.specs.Verdict.{ending}
+use Rattle.verdict.proofs.verdict.ending.Statement.{statement}
+use Rattle.verdict.proofs.verdict.ending.Tie as tie
 
 enum-known-t : tie.Need-enum-known-t
 enum-known-t c = search needs

@@ -1,7 +1,7 @@
 -- Its two tests are the definition's. Assumes nothing.
 use borrow.Author.Tests.{le-leb, lt-leb}
-use Rattle.score.proofs.score.is_need.Statement.{statement}
-use Rattle.score.proofs.score.is_need.Tie as tie
+use Rattle.verdict.proofs.verdict.is_need.Statement.{statement}
+use Rattle.verdict.proofs.verdict.is_need.Tie as tie
 
 returns : tie.Need-returns
 returns c = simp (le-leb _ _ (c .if1 .taken))

@@ -2,9 +2,9 @@
 use mathlib.Core.Path.{sym, _∙_}
 use borrow.Author.Needs.{needs}
 use borrow.Author.Tests.{ne-eqb, lt-ltb, le-ltb}
-use Rattle.score.specs.Score.{checked}
-use Rattle.score.proofs.score.check_sheet.Statement.{statement}
-use Rattle.score.proofs.score.check_sheet.Tie as tie
+use Rattle.verdict.specs.Verdict.{checked}
+use Rattle.verdict.proofs.verdict.check_sheet.Statement.{statement}
+use Rattle.verdict.proofs.verdict.check_sheet.Tie as tie
 
 returns : tie.Need-returns
 unfolding checked

@@ -1,0 +1,2 @@
+// What a sheet comes to.
+pub mod verdict;

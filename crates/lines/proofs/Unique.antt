@@ -4,14 +4,13 @@ use mathlib.Core.Path.{_≡_, refl}
 use mathlib.Core.List.{List}
 use mathlib.Core.Option.{Option}
 use Prim.Native.Nat.{ℕ}
-use Rattle.numeric.proofs.Unique.{OneAnswer, by-equation}
+use Rattle.numeric.proofs.Unique.{OneAnswer}
 use Rattle.text.proofs.Parses.{none-or-some}
 use Rattle.text.proofs.Places.{leaves-once}
 use Rattle.lines.specs.Line.{LineIs}
 use Rattle.lines.specs.declared.line.Line.{Line}
 use Rattle.lines.specs.declared.line.LineAt.{LineAt}
 use Rattle.lines.proofs.line.read_line.Reads as read-line
-use Rattle.lines.proofs.line.blank_line.Reads as blank-line
 
 line-is-once : (s : List ℕ) (at : ℕ) (p : Option (Line × List ℕ)) (r t : LineAt) → LineIs s at p r → LineIs s at p t → r ≡ t
 line-is-once s at p LineAt.Bad LineAt.Bad x y = refl
@@ -22,6 +21,3 @@ line-is-once s at p (LineAt.Found l n) (LineAt.Found k m) x y = let e = leaves-o
 -- however long the text is lent
 pub read-line-once : (κs : Lfts 1) → OneAnswer LineAt (read-line.Post κs)
 read-line-once κs a r s x y = line-is-once _ _ _ r s
-
-pub blank-line-once : OneAnswer Line (blank-line.Post tt)
-blank-line-once a r s x y = by-equation

@@ -3,7 +3,7 @@ ghost use mathlib.Core.Path.{_≡_};
 ghost use lib.ListN.{drop};
 ghost use Rattle.text.specs.Field.{Small};
 ghost use Rattle.lines.specs.Cylinder.{AllSmall};
-ghost use Rattle.lines.specs.Line.{temperatureOf, readingOf, lineOf, blankLine, line, LineIs};
+ghost use Rattle.lines.specs.Line.{temperatureOf, readingOf, lineOf, line, LineIs};
 use crate::cylinder::Cylinder;
 use crate::cylinder::CylinderAt;
 use crate::cylinder::Kind;
@@ -86,16 +86,4 @@ pub fn read_line(s: &[u8], at: usize) -> LineAt
         return LineAt::Bad;
     };
     LineAt::Found(line_of(c), next)
-}
-
-// Where a sheet has no line.
-pub fn blank_line() -> Line
-    ensures { λ r. ⌜ r ≡ blankLine ⌝ }
-{
-    Line {
-        number: Field::Blank,
-        temperature: Temperature::Blank,
-        reading: Reading::Blank,
-        volume: Field::Blank,
-    }
 }

@@ -4,11 +4,13 @@ ghost use mathlib.Core.Path.{_≡_};
 ghost use mathlib.Core.Option.{none};
 ghost use Prim.Native.Nat.{_≤_};
 ghost use lib.ListN.{length, drop};
+ghost use Rattle.lines.specs.Line.{blankLine};
 ghost use Rattle.sheet.specs.Form.{cylinders, withNeed, inForm};
 ghost use Rattle.sheet.specs.Sheet.{sheetRead};
 use lines::line::Line;
 use lines::line::LineAt;
-use lines::line::blank_line;
+use lines::line::Reading;
+use lines::line::Temperature;
 use lines::line::read_line;
 use text::field::Field;
 use text::field::FieldAt;
@@ -25,6 +27,18 @@ pub struct Sheet {
 pub struct SheetRead {
     pub ok: bool,
     pub sheet: Sheet,
+}
+
+// Where a sheet has no line.
+fn blank_line() -> Line
+    ensures { λ r. ⌜ r ≡ blankLine ⌝ }
+{
+    Line {
+        number: Field::Blank,
+        temperature: Temperature::Blank,
+        reading: Reading::Blank,
+        volume: Field::Blank,
+    }
 }
 
 fn not_in_form() -> SheetRead

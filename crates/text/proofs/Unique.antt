@@ -4,16 +4,12 @@ use Rattle.numeric.proofs.Unique.{OneAnswer}
 use Rattle.text.specs.declared.field.FieldAt.{FieldAt}
 use Rattle.text.specs.declared.field.Place.{Place}
 use Rattle.text.proofs.Places.{field-is-once, place-is-once}
-use Rattle.text.proofs.field.read_field.Reads as read-field
 use Rattle.text.proofs.field.skip.Reads as skip
 use Rattle.text.proofs.field.read_field_to.Reads as read-field-to
 use Rattle.text.proofs.field.read_field_after.Reads as read-field-after
 
 -- however long the text is lent
 module _ (κs : Lfts 1) where
-  pub read-field-once : OneAnswer FieldAt (read-field.Post κs)
-  read-field-once a r s x y = field-is-once _ _ _ r s
-
   pub skip-once : OneAnswer Place (skip.Post κs)
   skip-once a r s x y = place-is-once _ _ _ r s
 

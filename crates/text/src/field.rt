@@ -38,7 +38,7 @@ fn digit_of(b: u8) -> u64
     (b as u64) - 48
 }
 
-pub fn read_field(s: &[u8], at: usize) -> FieldAt
+fn read_field(s: &[u8], at: usize) -> FieldAt
     ensures { λ r. ⌜ FieldIs (now (s .entry)) at (field (drop at (now (s .entry)))) r ⌝ }
 {
     if at >= s.len() {

@@ -1,7 +1,7 @@
 -- The code's line is the definition's. Assumes nothing.
 use mathlib.Core.Path.{refl}
-use Rattle.lines.proofs.line.blank_line.Statement.{statement}
-use Rattle.lines.proofs.line.blank_line.Tie as tie
+use Rattle.sheet.proofs.sheet.blank_line.Statement.{statement}
+use Rattle.sheet.proofs.sheet.blank_line.Tie as tie
 
 returns : tie.Need-returns
 returns c = refl

@@ -1,0 +1,57 @@
+-- 15 where fewer than eight are lent; else by what the door answered. Assumes nothing.
+use mathlib.Core.Path.{sym, ap, _∙_}
+use borrow.Author.Needs.{needs}
+use denote.Ref.{now}
+use Rattle.refusals.specs.declared.answer.Answer.{Answer}
+use Rattle.interface.specs.Interface.{told, held}
+use Rattle.interface.proofs.Interfaces.{too-few, enough}
+use Rattle.interface.proofs.hand.Statement.{statement}
+use Rattle.interface.proofs.hand.Tie as tie
+
+returns : tie.Need-returns
+returns c = too-few _ _ (c .if1 .taken)
+
+enum-known-a : tie.Need-enum-known-a
+enum-known-a c = search needs
+
+lay-requires : tie.Need-lay-requires
+lay-requires c κs = search needs
+
+phase-number-requires : tie.Need-phase-number-requires
+phase-number-requires c κs = search needs
+
+enum-known-a-2 : tie.Need-enum-known-a-2
+enum-known-a-2 c = search needs
+
+cast-result : tie.Need-cast-result
+cast-result c = search needs
+
+same-length : tie.Need-same-length
+same-length c = search needs
+
+returns-2 : tie.Need-returns-2
+returns-2 c =
+    let l = c .before .before .before in
+    let k = l .before .before .before in
+    let f = k .before .before in
+    let old = now (f .before .before .args .figures) in
+    enough _ _ _ _ (f .if1 .left) (c .phase-number .ensures ∙ ap told (sym (k .a .given .1))) (l .lay .ensures ∙ ap (λ (a : Answer). held a old) (sym (k .a .given .1)))
+
+returns-3 : tie.Need-returns-3
+returns-3 c =
+    let b = c .before .before .before .before .before .args in
+    enough _ _ _ _ (c .before .before .before .if1 .left) (ap told (sym (c .before .a2 .given .1))) (ap (λ (a : Answer). held a (now (b .figures))) (sym (c .before .a2 .given .1)))
+
+pub hand-spec : {M : Type 1} → statement M
+hand-spec =
+    tie.close
+    (tie.spec
+    returns
+    enum-known-a
+    lay-requires
+    phase-number-requires
+    enum-known-a-2
+    cast-result
+    same-length
+    returns-2
+    returns-3)

@@ -1,0 +1,88 @@
+// For programs in other languages: the two doors and the report (include/makhroeng.h). Nothing is kept between calls, so
+// any number of threads may call at once. A slice is a pointer and a length.
+ghost use mathlib.Core.Path.{_≡_};
+ghost use Prim.Native.Nat.{_≤_};
+ghost use lib.ListN.{length};
+ghost use Rattle.refusals.specs.Limits.{document01};
+ghost use Rattle.equation.specs.Equation.{of1996};
+ghost use Rattle.pressure_door.specs.PressureDoor.{pressureDoor};
+ghost use Rattle.density_door.specs.DensityDoor.{densityDoor};
+ghost use Rattle.sheet.specs.Form.{inForm};
+ghost use Rattle.score.specs.Score.{report};
+ghost use Rattle.interface.specs.Interface.{phaseNumber, laid, Handed, ReportedIn};
+use density_door::density_door::from_density;
+use pressure_door::pressure_door::from_pressure;
+use refusals::answer::Answer;
+use refusals::answer::Phase;
+use refusals::answer::State;
+use report::report::Written;
+use score::score::score;
+
+fn phase_number(phase: Phase) -> u32
+    ensures { λ r. ⌜ r ≡ phaseNumber phase ⌝ }
+{
+    match phase {
+        Phase::Vapour => 256,
+        Phase::Liquid => 257,
+        Phase::Supercritical => 258,
+    }
+}
+
+// The eight numbers over the front of the figures.
+fn lay(s: State, figures: &mut [f64])
+    requires { ⌜ 8 ≤ length (now figures) ⌝ }
+    ensures { λ _. ⌜ now (figures .exit) ≡ laid s (now (figures .entry)) ⌝ }
+{
+    figures[0] = s.t;
+    figures[1] = s.p;
+    figures[2] = s.rho;
+    figures[3] = s.u;
+    figures[4] = s.h;
+    figures[5] = s.cv;
+    figures[6] = s.cp;
+    figures[7] = s.w;
+}
+
+fn hand(a: Answer, figures: &mut [f64]) -> u32
+    ensures { λ r. ⌜ Handed (now (figures .entry)) (now (figures .exit)) a r ⌝ }
+{
+    if figures.len() < 8 {
+        return 15;
+    }
+    match a {
+        Answer::State(s) => {
+            let phase = s.phase;
+            lay(s, figures);
+            phase_number(phase)
+        }
+        Answer::Refused(n) => n as u32,
+    }
+}
+
+#[no_mangle]
+pub extern "C" fn makhroeng_from_pressure(
+    temperature: f64,
+    pressure: f64,
+    figures: &mut [f64],
+) -> u32
+    ensures { λ r. ⌜ Handed (now (figures .entry)) (now (figures .exit)) (pressureDoor of1996 document01 temperature pressure) r ⌝ }
+{
+    hand(from_pressure(temperature, pressure), figures)
+}
+
+#[no_mangle]
+pub extern "C" fn makhroeng_from_density(temperature: f64, density: f64, figures: &mut [f64]) -> u32
+    ensures { λ r. ⌜ Handed (now (figures .entry)) (now (figures .exit)) (densityDoor of1996 document01 temperature density) r ⌝ }
+{
+    hand(from_density(temperature, density), figures)
+}
+
+#[no_mangle]
+pub extern "C" fn makhroeng_report(text: &[u8], out: &mut [u8]) -> u64
+    ensures { λ r. ⌜ ReportedIn (now (out .entry)) (now (out .exit)) (report (inForm (now (text .entry)))) r ⌝ }
+{
+    match score(text, out) {
+        Written::Bytes(n) => n as u64,
+        Written::Refused(_) => 0,
+    }
+}

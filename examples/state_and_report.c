@@ -1,0 +1,27 @@
+/* A state, and a sheet's report. On x86-64:
+ *     rt staticlib interface && cc -Iinclude examples/state_and_report.c target/staticlib/libinterface.a -o state_and_report
+ */
+#include <stdio.h>
+#include <string.h>
+#include "makhroeng.h"
+
+int main(void) {
+    double figures[8];
+    uint32_t answer = makhroeng_from_pressure(313.15, 10e6, figures, 8);
+    if (answer < MAKHROENG_VAPOUR) {
+        printf("refused by %u\n", answer);
+        return 1;
+    }
+    printf("313.15 K and 10 MPa: %s, %.6f kg/m3, %.3f m/s\n",
+           answer == MAKHROENG_VAPOUR ? "vapour" : answer == MAKHROENG_LIQUID ? "liquid" : "supercritical",
+           figures[MAKHROENG_DENSITY], figures[MAKHROENG_SOUND]);
+
+    const char *sheet = "N 75000000\n"
+                        "C 1 3131500 P 10000000 40000\n"
+                        "C 2 3101500 P 9600000 40000\n"
+                        "C 3 2981500 D 781800 40000\n";
+    uint8_t report[1512];
+    uint64_t length = makhroeng_report((const uint8_t *)sheet, strlen(sheet), report, sizeof report);
+    fwrite(report, 1, length, stdout);
+    return 0;
+}

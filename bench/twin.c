@@ -1,5 +1,7 @@
-/* Span and Wagner 1996 in plain C, every operation in the order of docs/ARRANGEMENT.md (sections 1 to 9): the twin that
+/* Span and Wagner 1996 and the two doors in plain C, every operation in the order of docs/ARRANGEMENT.md: the twin that
    the proved library is timed against and compared with bit by bit. Compile with -O2 or -O3 and -ffp-contract=off.
+   With -DLIBM the same formulas, with exp and pow of the C library and a Newton search, as a property package has them:
+   the peer, whose answers are near and not the same.
    A working that fails is NaN. What hangs on the temperature is worked once (struct isotherm), powers once, and a row's
    term once for its five brackets; rows 40 and 41 share all but the last root. */
 #include <math.h>
@@ -7,11 +9,10 @@
 #include <string.h>
 #include "twin.h"
 
-#ifndef ROOT   /* how root() is compiled: `static inline`, or noinline / always_inline to compare */
-#define ROOT static inline
-#endif
-#ifndef EXP
-#define EXP static inline
+#ifdef LIBM
+#define NAME(x) peer_##x
+#else
+#define NAME(x) twin_##x
 #endif
 
 #define TC 304.1282
@@ -32,6 +33,13 @@ static inline double power(double x, int n) {
     return p;
 }
 
+#ifdef LIBM
+
+#define expo exp
+static inline double root(double x, int m, int k) { return pow(x, (double)m / (double)k); }
+
+#else
+
 static inline double falling(double x) {
     double y = -x / 1024.0, s = 1.0;
     for (int k = 14; k > 0; k--) s = 1.0 - (y / (double)k) * s;
@@ -39,7 +47,7 @@ static inline double falling(double x) {
     return s;
 }
 
-EXP double expo(double x) {
+static inline double expo(double x) {
     if (!finite_(x)) return NAN;
     if (x < -700.0) return 0.0;
     if (x > 700.0) return NAN;
@@ -75,7 +83,7 @@ static inline uint64_t guess(double x, int m, int k, double t) {
     return 0;
 }
 
-ROOT double root(double x, int m, int k) {
+static inline double root(double x, int m, int k) {
     if (!finite_(x) || x < 0.0) return NAN;
     if (x == 0.0) return 0.0;
     double t = power(x, m);
@@ -99,6 +107,8 @@ ROOT double root(double x, int m, int k) {
     if (hi == TOP && !(t < power(of_bits(hi), k))) return NAN;
     return of_bits(lo);
 }
+
+#endif
 
 /* ---- Table 31 */
 
@@ -315,57 +325,24 @@ static inline double pressure_on(double t, const isotherm *iso, double rho) {
     return rho * GAS * t * (1.0 + slope(iso, delta));
 }
 
-double twin_pressure(double t, double rho) {
-    isotherm iso;
-    if (!isotherm_at(t, &iso)) return -1.0;
-    double p = pressure_on(t, &iso, rho);
-    return finite_(p) ? p : -1.0;
-}
-
 /* T, p, rho, u, h, cv, cp, w; 0 where the working fails. */
-int twin_state_all(double t, double rho, double out[8]) {
-    isotherm iso; sums s; double i1, i2;
-    if (!isotherm_at(t, &iso)) return 0;
+static int state_on(double t, const isotherm *iso, double rho, double out[8]) {
+    sums s; double i1, i2;
     double delta = rho / RHOC;
     if (!finite_(delta)) return 0;
-    five(&iso, delta, &s);
-    ideal(iso.tau, &i1, &i2);
+    five(iso, delta, &s);
+    ideal(iso->tau, &i1, &i2);
     double slant = i1 + s.t, z = i2 + s.tt, g = (1.0 + s.d) - s.dt, k = (1.0 + 2.0 * s.d) + s.dd;
-    out[0] = t;
-    out[1] = rho * GAS * t * (1.0 + s.d);
-    out[2] = rho;
-    out[3] = GAS * t * slant;
-    out[4] = GAS * t * ((1.0 + slant) + s.d);
-    out[5] = GAS * -z;
-    out[6] = GAS * (-z + g * g / k);
-    out[7] = root(GAS * t * (k - g * g / z), 1, 2);
-    for (int i = 1; i < 8; i++) if (!finite_(out[i])) return 0;
+    double got[8] = {
+        t, rho * GAS * t * (1.0 + s.d), rho, GAS * t * slant, GAS * t * ((1.0 + slant) + s.d), GAS * -z,
+        GAS * (-z + g * g / k), root(GAS * t * (k - g * g / z), 1, 2)
+    };
+    for (int i = 1; i < 8; i++) if (!finite_(got[i])) return 0;
+    memcpy(out, got, sizeof got);
     return 1;
 }
 
-double twin_state(double t, double rho, uint32_t which) {
-    double out[8];
-    if (!twin_state_all(t, rho, out)) return -1.0;
-    return out[which < 8 ? which : 7];
-}
-
-/* The sum of the pressures at n densities from rho on, on one isotherm: a search's probes. */
-double twin_probe(double t, double rho, double step, uint32_t n) {
-    isotherm iso;
-    if (!isotherm_at(t, &iso)) return -1.0;
-    double s = 0.0, x = rho;
-    for (uint32_t left = n; left > 0; left--) {
-        double p = pressure_on(t, &iso, x);
-        if (finite_(p)) s = s + p;
-        x = x + step;
-    }
-    return s;
-}
-
-double twin_root(double x, uint64_t m, uint64_t k) { double r = root(x, (int)m, (int)k); return r == r ? r : -1.0; }
-double twin_exp(double x) { double r = expo(x); return r == r ? r : -1.0; }
-
-/* ---- 10 Saturation, and the pressure door */
+/* ---- 10 Saturation */
 
 static double vapour_pressure(double t) {
     double tau = TC / t, x = 1.0 - t / TC;
@@ -384,38 +361,92 @@ static double vapour_density(double t) {
         + -10.111178 * (power(x, 2) * root(x, 1, 3)) + -29.742252 * (power(x, 4) * root(x, 2, 3)));
 }
 
-long twin_worked;   /* how many pressures the searches worked */
+/* ---- 11 The doors: what the library's functions for C return, with eight figures lent */
 
-/* The sound speed in the state at T and p, or minus the number of the refusal. */
-double twin_door(double t, double p) {
-    if (!finite_(t) || !finite_(p)) return -3.0;
-    if (t < 216.592 || 523.0 < t) return -4.0;
-    if (p < 10000.0 || 30000000.0 < p) return -5.0;
-    if (!(t < 303.1282 || 305.1282 < t) && !(p < 7000000.0 || 8000000.0 < p)) return -6.0;
-    double from = 0.05, to = 1400.0;
-    if (t < TC) {
-        double s = vapour_pressure(t), d;
-        if (!finite_(s)) return -7.0;
-        if (p == s) return -8.0;
-        d = p < s ? 1.01 * vapour_density(t) : 0.99 * liquid_density(t);
-        if (!(0.0 < d && d < INFINITY)) return -7.0;
-        if (p < s) to = d; else from = d;
+static uint32_t checks(double t, double x, double low, double high, double box_low, double box_high) {
+    if (!finite_(t) || !finite_(x)) return 3;
+    if (t < 216.592 || 523.0 < t) return 4;
+    if (x < low || high < x) return 5;
+    if (!(t < 303.1282 || 305.1282 < t) && !(x < box_low || box_high < x)) return 6;
+    return 0;
+}
+
+long NAME(worked);   /* how many pressures the searches worked */
+
+#ifdef LIBM
+
+/* Newton, kept within a bracket, to a part in 10^12 of the pressure. */
+static uint32_t search(double t, const isotherm *iso, double p, double from, double to, double *rho) {
+    double x = p / (GAS * t);
+    if (x < from || to < x) x = from > 1.0 ? from : to;
+    for (int i = 0; i < 100; i++) {
+        sums s;
+        five(iso, x / RHOC, &s);
+        NAME(worked)++;
+        double q = x * GAS * t * (1.0 + s.d), slope = GAS * t * (1.0 + 2.0 * s.d + s.dd);
+        if (fabs(q - p) <= 1e-12 * p) break;
+        if (q > p) to = x; else from = x;
+        double next = x - (q - p) / slope;
+        x = slope > 0.0 && from < next && next < to ? next : 0.5 * (from + to);
     }
-    isotherm iso;
-    if (!isotherm_at(t, &iso)) return -7.0;
+    *rho = x;
+    return 0;
+}
+
+#else
+
+static uint32_t search(double t, const isotherm *iso, double p, double from, double to, double *rho) {
     uint64_t lo = bits(from), hi = bits(to);
-    if (hi <= lo) return -9.0;
-    double a = pressure_on(t, &iso, from), b = pressure_on(t, &iso, to);
-    twin_worked += 2;
-    if (!finite_(a) || !finite_(b)) return -7.0;
-    if (p < a || !(p < b)) return -9.0;
+    if (hi <= lo) return 9;
+    double a = pressure_on(t, iso, from), b = pressure_on(t, iso, to);
+    NAME(worked) += 2;
+    if (!finite_(a) || !finite_(b)) return 7;
+    if (p < a || !(p < b)) return 9;
     while (lo + 1 < hi) {
         uint64_t mid = lo + (hi - lo) / 2;
-        double x = pressure_on(t, &iso, of_bits(mid));
-        twin_worked++;
-        if (!finite_(x)) return -7.0;
+        double x = pressure_on(t, iso, of_bits(mid));
+        NAME(worked)++;
+        if (!finite_(x)) return 7;
         if (p < x) hi = mid; else lo = mid;
     }
-    double out[8];
-    return twin_state_all(t, of_bits(lo), out) ? out[7] : -7.0;
+    *rho = of_bits(lo);
+    return 0;
+}
+
+#endif
+
+uint32_t NAME(from_pressure)(double t, double p, double figures[8]) {
+    uint32_t no = checks(t, p, 10000.0, 30000000.0, 7000000.0, 8000000.0), phase = 258;
+    if (no) return no;
+    double from = 0.05, to = 1400.0, rho;
+    if (t < TC) {
+        double s = vapour_pressure(t), d;
+        if (!finite_(s)) return 7;
+        if (p == s) return 8;
+        d = p < s ? 1.01 * vapour_density(t) : 0.99 * liquid_density(t);
+        if (!(0.0 < d && d < INFINITY)) return 7;
+        if (p < s) { to = d; phase = 256; } else { from = d; phase = 257; }
+    }
+    isotherm iso;
+    if (!isotherm_at(t, &iso)) return 7;
+    no = search(t, &iso, p, from, to, &rho);
+    if (no) return no;
+    return state_on(t, &iso, rho, figures) ? phase : 7;
+}
+
+uint32_t NAME(from_density)(double t, double rho, double figures[8]) {
+    uint32_t no = checks(t, rho, 0.1, 1300.0, 350.7, 584.5), phase = 258;
+    if (no) return no;
+    if (t < TC) {
+        double v = vapour_density(t), l = liquid_density(t);
+        if (!(0.0 < v && v < INFINITY) || !(0.0 < l && l < INFINITY)) return 7;
+        if (v < rho && rho < l) return 8;
+        phase = v < rho ? 257 : 256;
+    }
+    isotherm iso;
+    if (!isotherm_at(t, &iso)) return 7;
+    double p = pressure_on(t, &iso, rho);
+    if (!finite_(p)) return 7;
+    if (p < 10000.0 || 30000000.0 < p) return 5;
+    return state_on(t, &iso, rho, figures) ? phase : 7;
 }

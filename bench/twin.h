@@ -1,9 +1,9 @@
 #include <stdint.h>
-double twin_pressure(double t, double rho);
-int twin_state_all(double t, double rho, double out[8]);
-double twin_state(double t, double rho, uint32_t which);
-double twin_probe(double t, double rho, double step, uint32_t n);
-double twin_root(double x, uint64_t m, uint64_t k);
-double twin_exp(double x);
-double twin_door(double t, double p);
+
+/* The doors in plain C: 256 to 258 and eight figures, or the number of the refusal. `worked` counts a search's pressures. */
+uint32_t twin_from_pressure(double t, double p, double figures[8]);
+uint32_t twin_from_density(double t, double rho, double figures[8]);
 extern long twin_worked;
+uint32_t peer_from_pressure(double t, double p, double figures[8]);
+uint32_t peer_from_density(double t, double rho, double figures[8]);
+extern long peer_worked;

@@ -1,12 +1,9 @@
 // A sheet is read once, worked line by line, and reported: "Order for a sheet: 14, 10, 11, 12, 13, and 15 last, whatever
 // the report would say" (document 01).
 ghost use mathlib.Core.Path.{_≡_};
-ghost use Prim.Native.Nat.{_≤_, _<_};
-ghost use lib.ListN.{getD};
-ghost use Rattle.lines.specs.Line.{blankLine};
+ghost use Prim.Native.Nat.{_≤_};
 ghost use Rattle.report.specs.Report.{marksOf, ReportIs};
 ghost use Rattle.sheet.specs.Form.{inForm};
-ghost use Rattle.weighing.specs.Weighing.{weighed};
 ghost use Rattle.score.specs.Score.{marksFor, Light, total, report};
 use report::report::Mark;
 use report::report::Marks;
@@ -22,15 +19,7 @@ use verdict::verdict::check_sheet;
 use verdict::verdict::ending;
 use weighing::weighing::weigh;
 
-fn weigh_at(s: Sheet, i: usize) -> Weighed
-    requires { ⌜ i < 32 ⌝ }
-    ensures { λ r. ⌜ r ≡ weighed (getD (s .lines) i blankLine) ⌝ }
-{
-    let l = s.lines[i];
-    weigh(l)
-}
-
-// Each line's milligrams or refusal, in the sheet's order.
+// Each line's milligrams or refusal: "i counts the cylinder lines from 1".
 fn weigh_all(s: Sheet) -> Marks
     requires { ⌜ s .count ≤ 32 ⌝ }
     ensures { λ r. ⌜ r ≡ marksFor s ⌝ }
@@ -40,10 +29,11 @@ fn weigh_all(s: Sheet) -> Marks
     };
     let mut marks = [none; 32];
     let n = s.count;
-    let mut i: usize = 0;
-    while i < n {
-        let w = weigh_at(s, i);
-        marks[i] = Mark { weighed: w };
+    let mut i: usize = 1;
+    while i <= n {
+        let l = s.lines[i - 1];
+        let w = weigh(l);
+        marks[i - 1] = Mark { weighed: w };
         i += 1;
     }
     Marks {

@@ -1,6 +1,6 @@
--- After i turns the array holds the marks of the first i lines. Assumes nothing.
-use mathlib.Core.Path.{_≡_, refl, ap}
-use Prim.Native.Nat.{_-_, _≤_}
+-- Before the i-th line the array holds the marks of those above it. Assumes nothing.
+use mathlib.Core.Path.{_≡_, refl, ap, _∙_}
+use Prim.Native.Nat.{ℕ, _+_, _-_, _≤_}
 use native.Mathlib.Omega.{arith}
 use borrow.Author.Needs.{needs}
 use lib.ListN.{length}
@@ -13,17 +13,29 @@ use Rattle.score.proofs.score.weigh_all.Statement.{statement}
 use Rattle.score.proofs.score.weigh_all.Tie as tie
 
 abbrev Inv-loop : tie.InvT-loop
-Inv-loop s marks₀ n i₀ marks i = (i ≤ n) × (marks ≡ marked (s .lines) i)
+Inv-loop s marks₀ n i₀ marks i = (1 ≤ i) × (i ≤ n + 1) × (marks ≡ marked (s .lines) (i - 1))
 
 abbrev μ-loop : tie.MeasureT-loop
-μ-loop s marks₀ n i₀ marks i = n - i
+μ-loop s marks₀ n i₀ marks i = n + 1 - i
 
 loop-holds : tie.Need-loop-holds Inv-loop μ-loop
 unfolding padded
-loop-holds c = (omega arith, refl)
+loop-holds c = (omega arith, omega arith, refl)
 
-weigh-at-requires : tie.Need-weigh-at-requires Inv-loop μ-loop
-weigh-at-requires c κs = search needs
+sub-l : tie.Need-sub-l Inv-loop μ-loop
+sub-l c = search needs
+
+mul-l : tie.Need-mul-l Inv-loop μ-loop
+mul-l c = search needs
+
+element-copy-out-l : tie.Need-element-copy-out-l Inv-loop μ-loop
+element-copy-out-l c = search needs
+
+weigh-requires : tie.Need-weigh-requires Inv-loop μ-loop
+weigh-requires c κs = search needs
+
+sub-marks : tie.Need-sub-marks Inv-loop μ-loop
+sub-marks c = search needs
 
 mul-marks : tie.Need-mul-marks Inv-loop μ-loop
 mul-marks c = search needs
@@ -39,15 +51,18 @@ loop-less c = omega arith
 
 loop-again : tie.Need-loop-again Inv-loop μ-loop
 loop-again c =
-    let l = c .before .before in
-    let size : length (l .before .args .s .lines) ≡ 32 = search (needs, unmapped) in
-    (omega arith, marked-more _ _ _ _ _ size (omega arith) (ap (λ (w : Weighed). record { weighed = w }) (c .weigh-at .ensures)) (l .loop .inv .1))
+    let l = c .before .before .before in
+    let ls = l .before .args .t1 .lines in
+    let i = l .loop .i in
+    let size : length ls ≡ 32 = search (needs, unmapped) in
+    let e : i - 1 + 1 ≡ i + 1 - 1 = omega arith in
+    (omega arith, omega arith, marked-more ls (i - 1) _ _ _ size (omega arith) (ap (λ (w : Weighed). record { weighed = w }) (c .weigh .ensures)) (l .loop .inv .2) ∙ ap (marked ls) e)
 
 returns : tie.Need-returns Inv-loop μ-loop
 unfolding marksFor
 returns c =
-    let e : c .before .loop .i ≡ c .before .before .args .s .count = omega arith in
-    rw (c .before .loop .inv .1, e)
+    let e : c .before .loop .i - 1 ≡ c .before .before .args .t1 .count = omega arith in
+    rw (c .before .loop .inv .2, e)
 
 pub weigh-all-spec : {M : Type 1} → statement M
 weigh-all-spec =
@@ -56,7 +71,11 @@ weigh-all-spec =
     Inv-loop
     μ-loop
     loop-holds
-    weigh-at-requires
+    sub-l
+    mul-l
+    element-copy-out-l
+    weigh-requires
+    sub-marks
     mul-marks
     array-set-from-marks
     add-i

@@ -1,7 +1,7 @@
 -- The total, line by line from the front: what was added, and then what is left. Assumes nothing.
 use mathlib.Core.Path.{_≡_, refl, sym, ap, _∙_}
 use mathlib.Core.List.{List, [], _∷_, map}
-use Prim.Native.Nat.{ℕ, zero, suc, _+_, _^_, _≤_, _<_}
+use Prim.Native.Nat.{ℕ, zero, suc, _+_, _≤_, _<_}
 use native.Mathlib.Nat.{add-assoc, le-of-suc-le-suc}
 use native.Mathlib.Numerals.{add-one}
 use native.Mathlib.Omega.{arith}
@@ -13,7 +13,7 @@ use Rattle.report.specs.declared.report.Marks.{Marks}
 use Rattle.report.specs.Report.{marksOf}
 use Rattle.report.proofs.Reports.{noMark, markAt}
 use Rattle.lines.specs.declared.line.Line.{Line}
-use Rattle.weighing.specs.Weighing.{weight}
+use Rattle.weighing.specs.Weighing.{Under}
 use Rattle.weighing.proofs.Weights.{weighed-under}
 use Rattle.score.specs.Score.{plus, total, mark, Light}
 use Rattle.verdict.specs.declared.verdict.Summed.{Summed}
@@ -34,7 +34,7 @@ pub all-light : (ls : List Line) → Light (map mark ls)
 all-light [] = tt
 all-light (l ∷ ls) = (weighed-under l, all-light ls)
 
-pub light-at : (ms : List Mark) → Light ms → (i : ℕ) (d : Mark) → i < length ms → weight (getD ms i d .weighed) < 2 ^ 53
+pub light-at : (ms : List Mark) → Light ms → (i : ℕ) (d : Mark) → i < length ms → Under (getD ms i d .weighed)
 light-at [] h i d l = absurd (omega arith)
 light-at (m ∷ ms) h zero d l = h .0
 light-at (m ∷ ms) h (suc i) d l = light-at ms (h .1) i d (le-of-suc-le-suc l)

@@ -1,5 +1,5 @@
 -- A sheet's report (document 01, "The sheet", "Refusal numbers"). Definitions only.
-use Prim.Native.Nat.{ℕ, _+_, _^_, _<_}
+use Prim.Native.Nat.{ℕ, _+_}
 use mathlib.Core.Bool.{true}
 use mathlib.Core.List.{List, [], _∷_, _++_, map}
 use mathlib.Core.Option.{Option, none, some}
@@ -9,7 +9,7 @@ use Rattle.lines.specs.declared.line.Line.{Line}
 use Rattle.sheet.specs.Form.{Written}
 use Rattle.sheet.specs.Padded.{padded}
 use Rattle.sheet.specs.declared.sheet.Sheet.{Sheet}
-use Rattle.weighing.specs.Weighing.{weighed, weight}
+use Rattle.weighing.specs.Weighing.{weighed, Under}
 use Rattle.report.specs.Report.{linesBytes, endingBytes, sentBack}
 use Rattle.report.specs.declared.report.Weighed.{Weighed}
 use Rattle.report.specs.declared.report.Mark.{Mark}
@@ -56,4 +56,4 @@ marksFor s = record { marks = padded noMark 32 (map mark (take (s .count) (s .li
 -- each line's milligrams are below 2⁵³
 abbrev pub Light : List Mark → Type 0
 Light [] = Unit {0}
-Light (m ∷ ms) = (weight (m .weighed) < 2 ^ 53) × Light ms
+Light (m ∷ ms) = Under (m .weighed) × Light ms

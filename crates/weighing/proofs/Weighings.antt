@@ -11,8 +11,8 @@ use Rattle.numeric.specs.Number.{whole}
 use Rattle.whole.specs.Whole.{wholeBelow}
 use Rattle.whole.specs.declared.whole.Below.{Below}
 use Rattle.report.specs.declared.report.Weighed.{Weighed}
-use Rattle.refusals.specs.declared.answer.Answer.{Answer}
-use Rattle.weighing.specs.Weighing.{isVolume, milligrams, mass, filled, passedOn}
+use Rattle.lines.specs.declared.line.Reading.{Reading}
+use Rattle.weighing.specs.Weighing.{isVolume, milligrams, mass, asked, answered, filled}
 
 pub in-float : (v : ℕ) → v ≤ 1_000_000 → T (inFloat binary64 (pos v))
 unfolding inFloat
@@ -30,10 +30,10 @@ pub mass-of : (rho : Float) (v : ℕ) (b : Below) → b ≡ wholeBelow (mul bina
 unfolding milligrams
 mass-of rho v b e = ap mass e
 
-pub out-of-range : (a : Answer) (v : ℕ) → isVolume v ≡ false → Weighed.Refused 2 ≡ filled a v
+pub out-of-range : (t : Float) (r : Reading) (v : ℕ) → isVolume v ≡ false → Weighed.Refused 2 ≡ filled t r v
 unfolding filled
-out-of-range a v e = rw e refl
+out-of-range t r v e = rw e refl
 
-pub in-range : (a : Answer) (v : ℕ) → isVolume v ≡ true → passedOn a v ≡ filled a v
+pub in-range : (t : Float) (r : Reading) (v : ℕ) → isVolume v ≡ true → answered (asked t r) v ≡ filled t r v
 unfolding filled
-in-range a v e = rw e refl
+in-range t r v e = rw e refl

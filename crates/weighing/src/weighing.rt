@@ -2,7 +2,7 @@
 // below it" (document 01).
 ghost use mathlib.Core.Path.{_≡_};
 ghost use Prim.Native.Nat.{_≤_};
-ghost use Rattle.weighing.specs.Weighing.{isVolume, milligrams, filled, read, weighed};
+ghost use Rattle.weighing.specs.Weighing.{isVolume, isBlank, milligrams, asked, handedOn, filled, weighed};
 use density_door::density_door::from_density;
 use lines::line::Line;
 use lines::line::Reading;
@@ -20,6 +20,16 @@ fn is_volume(v: u64) -> bool
     v >= 1 && v <= 1_000_000
 }
 
+fn is_blank(r: Reading) -> bool
+    ensures { λ b. ⌜ b ≡ isBlank r ⌝ }
+{
+    match r {
+        Reading::Blank => true,
+        Reading::Pressure(_) => false,
+        Reading::Density(_) => false,
+    }
+}
+
 fn milligrams(rho: f64, v: u64) -> Weighed
     requires { ⌜ v ≤ 1_000_000 ⌝ }
     ensures { λ r. ⌜ r ≡ milligrams rho v ⌝ }
@@ -30,28 +40,39 @@ fn milligrams(rho: f64, v: u64) -> Weighed
     Weighed::Mass(mg)
 }
 
-// What came of the door, for a cylinder of so many mL.
-fn fill(a: Answer, v: u64) -> Weighed
-    ensures { λ r. ⌜ r ≡ filled a v ⌝ }
+// The door of the reading's kind.
+fn ask(t: f64, r: Reading) -> Answer
+    ensures { λ a. ⌜ a ≡ asked t r ⌝ }
+{
+    match r {
+        Reading::Blank => Answer::Refused(1),
+        Reading::Pressure(p) => from_pressure(t, p),
+        Reading::Density(d) => from_density(t, d),
+    }
+}
+
+// The door's refusal, handed on.
+fn hand_on(a: Answer) -> Weighed
+    ensures { λ r. ⌜ r ≡ handedOn a ⌝ }
+{
+    match a {
+        Answer::Refused(n) => Weighed::Refused(n),
+        Answer::State(_) => Weighed::Refused(0),
+    }
+}
+
+// A line with no blank.
+fn fill(t: f64, r: Reading, v: u64) -> Weighed
+    ensures { λ w. ⌜ w ≡ filled t r v ⌝ }
 {
     if !is_volume(v) {
         return Weighed::Refused(2);
     }
-    match a {
-        Answer::State(s) => milligrams(s.rho, v),
-        Answer::Refused(n) => Weighed::Refused(n),
-    }
-}
-
-// The door is that of the reading's kind.
-fn read(t: f64, r: Reading, v: u64) -> Weighed
-    ensures { λ w. ⌜ w ≡ read t r v ⌝ }
-{
-    match r {
-        Reading::Blank => Weighed::Refused(1),
-        Reading::Pressure(p) => fill(from_pressure(t, p), v),
-        Reading::Density(d) => fill(from_density(t, d), v),
-    }
+    let a = ask(t, r);
+    let Answer::State(s) = a else {
+        return hand_on(a);
+    };
+    milligrams(s.rho, v)
 }
 
 pub fn weigh(l: Line) -> Weighed
@@ -70,5 +91,8 @@ pub fn weigh(l: Line) -> Weighed
     let Field::Number(v) = volume else {
         return Weighed::Refused(1);
     };
-    read(t, reading, v)
+    if is_blank(reading) {
+        return Weighed::Refused(1);
+    }
+    fill(t, reading, v)
 }

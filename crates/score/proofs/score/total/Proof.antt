@@ -1,13 +1,12 @@
 -- What was added and what is left make up the total, and 32 lines' milligrams stay below 2⁵⁸. Assumes nothing.
 use mathlib.Core.Path.{_≡_, subst}
-use Prim.Native.Nat.{_-_, _*_, _^_, _≤_, _<_}
+use Prim.Native.Nat.{_-_, _*_, _^_, _≤_}
 use native.Mathlib.Omega.{arith}
 use borrow.Author.Needs.{needs}
 use lib.ListN.{length, drop}
 use Rattle.report.specs.Report.{marksOf}
-use Rattle.report.specs.declared.report.Weighed.{Weighed}
 use Rattle.report.proofs.Reports.{noMark, unmapped}
-use Rattle.weighing.specs.Weighing.{weight}
+use Rattle.weighing.specs.Weighing.{Under}
 use Rattle.score.specs.Score.{total}
 use Rattle.score.proofs.Totals.{onto, onto-none, light-at, counted, mark-there, at-end, one-refused, one-more}
 use Rattle.score.proofs.score.total.Statement.{statement}
@@ -50,7 +49,7 @@ add-sum c =
     let size : length (m .marks) ≡ 32 = search (needs, unmapped) in
     let h = counted m size (omega arith) in
     let w = mark-there m size (omega arith) (l .loop .i) _ (omega arith) (c .before .w .given .1) in
-    let u = subst (λ (x : Weighed). weight x < 2 ^ 53) w (light-at (marksOf m) (l .before .pre .1) (l .loop .i) noMark (omega (arith, h))) in
+    let u = subst Under w (light-at (marksOf m) (l .before .pre .1) (l .loop .i) noMark (omega (arith, h))) in
     omega (arith, u)
 
 add-i : tie.Need-add-i Inv-loop μ-loop
@@ -66,7 +65,7 @@ loop-again c =
     let size : length (m .marks) ≡ 32 = search (needs, unmapped) in
     let h = counted m size (omega arith) in
     let w = mark-there m size (omega arith) (l .loop .i) _ (omega arith) (c .before .w .given .1) in
-    let u = subst (λ (x : Weighed). weight x < 2 ^ 53) w (light-at (marksOf m) (l .before .pre .1) (l .loop .i) noMark (omega (arith, h))) in
+    let u = subst Under w (light-at (marksOf m) (l .before .pre .1) (l .loop .i) noMark (omega (arith, h))) in
     (omega arith, omega (arith, u), one-more (marksOf m) (l .loop .sum) (l .loop .i) (l .loop .inv .2) noMark (omega (arith, h)) _ w)
 
 returns-2 : tie.Need-returns-2 Inv-loop μ-loop

@@ -1,9 +1,9 @@
--- The volume first; then the state's density is used, or the refusal is handed on. Assumes nothing.
+-- The volume first; then the state's density is used, or the door's refusal handed on. Assumes nothing.
 use mathlib.Core.Path.{sym, ap, _∙_}
 use borrow.Author.Needs.{needs}
 use borrow.Author.Tests.{not-true, not-false}
 use Rattle.refusals.specs.declared.answer.Answer.{Answer}
-use Rattle.weighing.specs.Weighing.{passedOn}
+use Rattle.weighing.specs.Weighing.{handedOn, answered}
 use Rattle.weighing.proofs.Weighings.{volume-most, out-of-range, in-range}
 use Rattle.weighing.proofs.weighing.fill.Statement.{statement}
 use Rattle.weighing.proofs.weighing.fill.Tie as tie
@@ -12,28 +12,53 @@ is-volume-requires : tie.Need-is-volume-requires
 is-volume-requires c κs = search needs
 
 returns : tie.Need-returns
-returns c = out-of-range _ _ (sym (c .before .is-volume .ensures) ∙ not-true _ (c .if1 .taken))
+returns c = out-of-range _ _ _ (sym (c .before .is-volume .ensures) ∙ not-true _ (c .if1 .taken))
+
+ask-requires : tie.Need-ask-requires
+ask-requires c κs = search needs
 
 enum-known-a : tie.Need-enum-known-a
 enum-known-a c = search needs
 
-milligrams-requires : tie.Need-milligrams-requires
-milligrams-requires c κs = volume-most _ (sym (c .before .before .before .before .is-volume .ensures) ∙ not-false _ (c .before .before .before .if1 .left))
+enum-told : tie.Need-enum-told
+enum-told c = search needs
 
-enum-known-a-2 : tie.Need-enum-known-a-2
-enum-known-a-2 c = search needs
+hand-on-requires : tie.Need-hand-on-requires
+hand-on-requires c κs = search needs
 
 returns-2 : tie.Need-returns-2
 returns-2 c =
-    let b = c .before .before .before .before in
-    let v = b .before .before .args .v in
-    c .milligrams .ensures ∙ ap (λ (a : Answer). passedOn a v) (sym (c .before .before .a .given .1)) ∙ in-range _ _ (sym (b .before .is-volume .ensures) ∙ not-false _ (b .if1 .left))
+    let k = c .before in
+    let a = k .before .before in
+    let f = a .before in
+    let v = f .before .before .args .v in
+    c .hand-on .ensures ∙ ap handedOn (k .enum-told .given .1) ∙ sym (ap (λ (x : Answer). answered x v) (k .enum-told .given .1)) ∙ ap (λ (x : Answer). answered x v) (a .ask .ensures)
+    ∙ in-range _ _ _ (sym (f .before .is-volume .ensures) ∙ not-false _ (f .if1 .left))
+
+milligrams-requires : tie.Need-milligrams-requires
+milligrams-requires c κs =
+    let f = c .before .before .before .before in
+    volume-most _ (sym (f .before .is-volume .ensures) ∙ not-false _ (f .if1 .left))
 
 returns-3 : tie.Need-returns-3
 returns-3 c =
-    let b = c .before .before .before in
-    let v = b .before .before .args .v in
-    ap (λ (a : Answer). passedOn a v) (sym (c .before .a2 .given .1)) ∙ in-range _ _ (sym (b .before .is-volume .ensures) ∙ not-false _ (b .if1 .left))
+    let k = c .before .before in
+    let a = k .before .before in
+    let f = a .before in
+    let v = f .before .before .args .v in
+    c .milligrams .ensures ∙ sym (ap (λ (x : Answer). answered x v) (k .a .given .1)) ∙ ap (λ (x : Answer). answered x v) (a .ask .ensures)
+    ∙ in-range _ _ _ (sym (f .before .is-volume .ensures) ∙ not-false _ (f .if1 .left))
 
 pub fill-spec : {M : Type 1} → statement M
-fill-spec = tie.close (tie.spec is-volume-requires returns enum-known-a milligrams-requires enum-known-a-2 returns-2 returns-3)
+fill-spec =
+    tie.close
+    (tie.spec
+    is-volume-requires
+    returns
+    ask-requires
+    enum-known-a
+    enum-told
+    hand-on-requires
+    returns-2
+    milligrams-requires
+    returns-3)

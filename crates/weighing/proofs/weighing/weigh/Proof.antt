@@ -1,5 +1,5 @@
 -- A blank is refused by 1 where it stands, and the figures go on. Assumes nothing.
-use mathlib.Core.Path.{_∙_}
+use mathlib.Core.Path.{sym, _∙_}
 use borrow.Author.Needs.{needs}
 use Rattle.weighing.specs.Weighing.{weighed}
 use Rattle.weighing.proofs.weighing.weigh.Statement.{statement}
@@ -35,13 +35,25 @@ returns-3 : tie.Need-returns-3
 unfolding weighed
 returns-3 c = rw (c .before .before .before .before .before .enum-told .given .1, c .before .before .before .temperature .given .1, c .enum-told4 .given .1)
 
-read-requires : tie.Need-read-requires
-read-requires c κs = search needs
+is-blank-requires : tie.Need-is-blank-requires
+is-blank-requires c κs = search needs
 
 returns-4 : tie.Need-returns-4
 unfolding weighed
 returns-4 c =
-    c .read .ensures ∙ rw (c .before .before .before .before .before .before .before .enum-told .given .1, c .before .before .before .before .before .temperature .given .1, c .before .before .volume .given .1)
+    let k = c .before .before in
+    rw (k .before .before .before .before .before .before .enum-told .given .1, k .before .before .before .before .temperature .given .1, k .before .volume .given .1, sym (c .before .is-blank .ensures) ∙ c .if1 .taken)
+
+fill-requires : tie.Need-fill-requires
+fill-requires c κs = search needs
+
+returns-5 : tie.Need-returns-5
+unfolding weighed
+returns-5 c =
+    let f = c .before in
+    let k = f .before .before in
+    c .fill .ensures
+    ∙ rw (k .before .before .before .before .before .before .enum-told .given .1, k .before .before .before .before .temperature .given .1, k .before .volume .given .1, sym (f .before .is-blank .ensures) ∙ f .if1 .left)
 
 pub weigh-spec : {M : Type 1} → statement M
 weigh-spec =
@@ -56,5 +68,7 @@ weigh-spec =
     enum-known-volume
     enum-told-4
     returns-3
-    read-requires
-    returns-4)
+    is-blank-requires
+    returns-4
+    fill-requires
+    returns-5)

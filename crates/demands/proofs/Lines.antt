@@ -1,87 +1,116 @@
 -- A line: each refusal exactly under its condition, and what its milligrams are. Assumes nothing.
 use Prim.Native.Nat.{ℕ}
 use mathlib.Core.Path.{_≡_, refl, sym, ap, subst, _∙_}
-use mathlib.Core.Bool.{Bool, true, false, true≢false}
-use lib.Ieee.{Float}
+use mathlib.Core.Bool.{Bool, true, false, _&&_, true≢false}
+use native.Mathlib.Omega.{arith}
+use lib.Dec.{leb}
+use lib.Ieee.{Float, binary64, div}
+use borrow.Author.Tests.{le-leb, lt-leb, leb-true, leb-false}
+use Rattle.numeric.specs.Number.{whole}
 use Rattle.text.specs.declared.field.Field.{Field}
 use Rattle.lines.specs.Line.{temperatureOf, readingOf, lineOf}
+use Rattle.lines.specs.declared.cylinder.Kind.{Kind}
 use Rattle.lines.specs.declared.cylinder.Cylinder.{Cylinder}
 use Rattle.lines.specs.declared.line.Temperature.{Temperature}
-use Rattle.lines.specs.declared.line.Reading.{Reading}
-use Rattle.lines.specs.declared.line.Line.{Line}
+use Rattle.refusals.specs.Limits.{document01}
 use Rattle.refusals.specs.declared.answer.State.{State}
 use Rattle.refusals.specs.declared.answer.Answer.{Answer}
-use Rattle.refusals.specs.Limits.{document01}
 use Rattle.equation.specs.Equation.{of1996}
 use Rattle.pressure_door.specs.PressureDoor.{pressureDoor}
 use Rattle.density_door.specs.DensityDoor.{densityDoor}
 use Rattle.whole.specs.Whole.{wholeBelow}
 use Rattle.whole.specs.declared.whole.Below.{Below}
-use Rattle.weighing.specs.Weighing.{isVolume, inRange, mass, milligrams, passedOn, filled, read, ifNumber, ifKelvin, weighed}
-use Rattle.weighing.proofs.Weighings.{out-of-range, in-range}
+use Rattle.weighing.specs.Weighing.{ifNumber, ifKelvin, isBlank, isVolume, asked, mass, milligrams, answered, when, filled, weighed}
 use Rattle.report.specs.declared.report.Weighed.{Weighed}
 use Rattle.demands.specs.Demands.{Exactly}
 use Rattle.demands.specs.Lines as lines
-use Rattle.demands.specs.Lines.{Blank, Dashed, in-number, in-temperature, in-value, in-volume, Asked, by-pressure, by-density, Figures, product, RefusesLine, no-volume, by-door, no-product, Weighs}
+use Rattle.demands.specs.Lines.{Dashed, in-number, in-temperature, in-value, in-volume, Asked, by-pressure, by-density, Figures, Volume, NoVolume, none, too-large, product, RefusesLine, no-volume, by-door, no-product, Weighs}
 
--- what a line comes to, by its parts
-pub data Comes (l : Line) : Weighed → Type 0 where
-  refused : {n : ℕ} → RefusesLine l n → Comes l (Weighed.Refused n)
-  weighs : {mg : ℕ} → Weighs l mg → Comes l (Weighed.Mass mg)
+-- ---- the volume
 
-module _ (l : Line) where
-  of-product : {t : Float} {v : ℕ} (s : State) (b : Below) → Figures l t v (Answer.State s) → isVolume v ≡ true → wholeBelow (product s v) ≡ b → Comes l (mass b)
-  of-product s (Below.At mg) f r e = weighs (record { t = _; v = _; s = s; figures = f; in-range = r; at-or-below = e })
+in-volume-range : (v : ℕ) → isVolume v ≡ true → Volume v
+in-volume-range v e = go (leb 1 v) (leb v 1_000_000) refl refl e
+  where
+    go : (a b : Bool) → leb 1 v ≡ a → leb v 1_000_000 ≡ b → (a && b) ≡ true → Volume v
+    go true true p q e = record { at-least = leb-true 1 v p; at-most = leb-true v 1_000_000 q }
+    go true false p q e = absurd (true≢false (sym e))
+    go false b p q e = absurd (true≢false (sym e))
+
+out-of-volume-range : (v : ℕ) → isVolume v ≡ false → NoVolume v
+out-of-volume-range v e = go (leb 1 v) (leb v 1_000_000) refl refl e
+  where
+    go : (a b : Bool) → leb 1 v ≡ a → leb v 1_000_000 ≡ b → (a && b) ≡ false → NoVolume v
+    go true true p q e = absurd (true≢false e)
+    go true false p q e = too-large (leb-false v 1_000_000 q)
+    go false b p q e = none (omega (arith, leb-false 1 v p))
+
+is-volume : {v : ℕ} → Volume v → isVolume v ≡ true
+is-volume {v} r = rw (le-leb 1 v (r .at-least), le-leb v 1_000_000 (r .at-most))
+
+is-no-volume : {v : ℕ} → NoVolume v → isVolume v ≡ false
+is-no-volume (none e) = rw e
+is-no-volume {v} (too-large h) = rw (le-leb 1 v (omega arith), lt-leb v 1_000_000 h)
+
+-- ---- what a line comes to, by its parts
+
+pub data Comes (c : Cylinder) : Weighed → Type 0 where
+  refused : {n : ℕ} → RefusesLine c n → Comes c (Weighed.Refused n)
+  weighs : {mg : ℕ} → Weighs c mg → Comes c (Weighed.Mass mg)
+
+module _ (c : Cylinder) where
+  of-product : {v : ℕ} (s : State) (b : Below) → Figures c v (Answer.State s) → Volume v → wholeBelow (product s v) ≡ b → Comes c (mass b)
+  of-product s (Below.At mg) f r e = weighs (record { v = _; s = s; figures = f; in-range = r; at-or-below = e })
   of-product s Below.Out f r e = refused (no-product f r e)
 
-  of-answer : {t : Float} {v : ℕ} (a : Answer) → Figures l t v a → isVolume v ≡ true → Comes l (passedOn a v)
+  of-answer : {v : ℕ} (a : Answer) → Figures c v a → Volume v → Comes c (answered a v)
   unfolding milligrams
-  of-answer {t} {v} (Answer.State s) f r = of-product s (wholeBelow (product s v)) f r refl
+  of-answer {v} (Answer.State s) f r = of-product s (wholeBelow (product s v)) f r refl
   of-answer (Answer.Refused n) f r = refused (by-door f r)
 
-  of-volume : {t : Float} {v : ℕ} (a : Answer) → Figures l t v a → Comes l (filled a v)
-  unfolding filled
-  of-volume {t} {v} a f = go (isVolume v) refl
+  of-volume : {v : ℕ} (a : Answer) → Figures c v a → Comes c (when (isVolume v) (answered a v) (Weighed.Refused 2))
+  of-volume {v} a f = go (isVolume v) refl
     where
-      go : (b : Bool) → isVolume v ≡ b → Comes l (inRange b (passedOn a v))
-      go true r = of-answer a f r
-      go false r = refused (no-volume f r)
+      go : (b : Bool) → isVolume v ≡ b → Comes c (when b (answered a v) (Weighed.Refused 2))
+      go true r = of-answer a f (in-volume-range v r)
+      go false r = refused (no-volume f (out-of-volume-range v r))
 
-  of-parts : (n : Field) → l .number ≡ n → (k : Temperature) → l .temperature ≡ k → (g : Field) → l .volume ≡ g → (r : Reading) → l .reading ≡ r
-      → Comes l (ifNumber n (λ _. ifKelvin k (λ t. ifNumber g (λ v. read t r v))))
-  unfolding read
-  of-parts Field.Blank e k f g h r q = refused (lines.blank (lines.number e))
-  of-parts (Field.Number n) e Temperature.Blank f g h r q = refused (lines.blank (lines.temperature f))
-  of-parts (Field.Number n) e (Temperature.Kelvin t) f Field.Blank h r q = refused (lines.blank (lines.volume h))
-  of-parts (Field.Number n) e (Temperature.Kelvin t) f (Field.Number v) h Reading.Blank q = refused (lines.blank (lines.reading q))
-  of-parts (Field.Number n) e (Temperature.Kelvin t) f (Field.Number v) h (Reading.Pressure p) q =
-      let a = pressureDoor of1996 document01 t p in
-      of-volume a (record { cylinder = n; number = e; temperature = f; volume = h; asked = subst (λ (x : Reading). Asked t x a) (sym q) (by-pressure p) })
-  of-parts (Field.Number n) e (Temperature.Kelvin t) f (Field.Number v) h (Reading.Density d) q =
-      let a = densityDoor of1996 document01 t d in
-      of-volume a (record { cylinder = n; number = e; temperature = f; volume = h; asked = subst (λ (x : Reading). Asked t x a) (sym q) (by-density d) })
+  of-parts : (n : Field) → c .number ≡ n → (k : Field) → c .temperature ≡ k → (g : Field) → c .volume ≡ g → (d : Kind) → c .kind ≡ d → (x : Field) → c .value ≡ x
+      → Comes c (ifNumber n (λ _. ifKelvin (temperatureOf k) (λ t. ifNumber g (λ v. when (isBlank (readingOf d x)) (Weighed.Refused 1) (filled t (readingOf d x) v)))))
+  unfolding filled
+  of-parts Field.Blank e k f g h d p x q = refused (lines.blank (in-number e))
+  of-parts (Field.Number n) e Field.Blank f g h d p x q = refused (lines.blank (in-temperature f))
+  of-parts (Field.Number n) e (Field.Number k) f Field.Blank h d p x q = refused (lines.blank (in-volume h))
+  of-parts (Field.Number n) e (Field.Number k) f (Field.Number v) h d p Field.Blank q = refused (lines.blank (in-value q))
+  of-parts (Field.Number n) e (Field.Number k) f (Field.Number v) h Kind.Pressure p (Field.Number x) q =
+      let t = div binary64 (whole k) (whole 10000) in
+      let a = pressureDoor of1996 document01 t (whole x) in
+      of-volume a (record { cylinder = n; degrees = k; number = e; temperature = f; volume = h; asked = rw (p, q) (by-pressure x) })
+  of-parts (Field.Number n) e (Field.Number k) f (Field.Number v) h Kind.Density p (Field.Number x) q =
+      let t = div binary64 (whole k) (whole 10000) in
+      let a = densityDoor of1996 document01 t (div binary64 (whole x) (whole 1000)) in
+      of-volume a (record { cylinder = n; degrees = k; number = e; temperature = f; volume = h; asked = rw (p, q) (by-density x) })
 
-  pub comes : Comes l (weighed l)
+  pub comes : Comes c (weighed (lineOf c))
   unfolding weighed
-  comes = of-parts (l .number) refl (l .temperature) refl (l .volume) refl (l .reading) refl
+  comes = of-parts (c .number) refl (c .temperature) refl (c .volume) refl (c .kind) refl (c .value) refl
 
-  -- ---- a blank is refused by 1, whatever the other fields are
+  -- ---- a blank is refused by 1, whatever the other fields are: "A blank is never read as a number"
 
-  pub blank-refused : Blank l → weighed l ≡ Weighed.Refused 1
-  unfolding weighed read
-  blank-refused (lines.number e) = rw e
-  blank-refused (lines.temperature e) = rw e (without (l .number))
+  pub dash-refused : Dashed c → weighed (lineOf c) ≡ Weighed.Refused 1
+  unfolding weighed
+  dash-refused (in-number e) = rw e
+  dash-refused (in-temperature e) = rw e (without (c .number))
     where
       without : (n : Field) → ifNumber n (λ _. Weighed.Refused 1) ≡ Weighed.Refused 1
       without Field.Blank = refl
       without (Field.Number n) = refl
-  blank-refused (lines.volume e) = rw e (without (l .number) (l .temperature))
+  dash-refused (in-volume e) = rw e (without (c .number) (temperatureOf (c .temperature)))
     where
       without : (n : Field) (k : Temperature) → ifNumber n (λ _. ifKelvin k (λ _. Weighed.Refused 1)) ≡ Weighed.Refused 1
       without Field.Blank k = refl
       without (Field.Number n) Temperature.Blank = refl
       without (Field.Number n) (Temperature.Kelvin t) = refl
-  blank-refused (lines.reading e) = rw e (without (l .number) (l .temperature) (l .volume))
+  dash-refused (in-value e) = rw e (without (c .number) (temperatureOf (c .temperature)) (c .volume))
     where
       without : (n : Field) (k : Temperature) (g : Field) → ifNumber n (λ _. ifKelvin k (λ _. ifNumber g (λ _. Weighed.Refused 1))) ≡ Weighed.Refused 1
       without Field.Blank k g = refl
@@ -91,25 +120,25 @@ module _ (l : Line) where
 
   -- ---- and where none is, the door is asked
 
-  at-the-door : (t : Float) (r : Reading) (a : Answer) (v : ℕ) → Asked t r a → read t r v ≡ filled a v
-  unfolding read
-  at-the-door t r a v (by-pressure p) = refl
-  at-the-door t r a v (by-density d) = refl
+  at-the-door : (t : Float) (d : Kind) (x : Field) (a : Answer) (v : ℕ) → Asked t d x a → when (isBlank (readingOf d x)) (Weighed.Refused 1) (filled t (readingOf d x) v) ≡ when (isVolume v) (answered a v) (Weighed.Refused 2)
+  unfolding filled
+  at-the-door t d x a v (by-pressure n) = refl
+  at-the-door t d x a v (by-density n) = refl
 
-  figured : {t : Float} {v : ℕ} {a : Answer} → Figures l t v a → weighed l ≡ filled a v
+  figured : {v : ℕ} {a : Answer} → Figures c v a → weighed (lineOf c) ≡ when (isVolume v) (answered a v) (Weighed.Refused 2)
   unfolding weighed
-  figured {t} {v} {a} f = rw (f .number, f .temperature, f .volume) (at-the-door t (l .reading) a v (f .asked))
+  figured {v} {a} f = rw (f .number, f .temperature, f .volume) (at-the-door (div binary64 (whole (f .degrees)) (whole 10000)) (c .kind) (c .value) a v (f .asked))
 
-  pub line-refused : {n : ℕ} → RefusesLine l n → weighed l ≡ Weighed.Refused n
+  line-refused : {n : ℕ} → RefusesLine c n → weighed (lineOf c) ≡ Weighed.Refused n
   unfolding milligrams
-  line-refused (lines.blank b) = blank-refused b
-  line-refused (no-volume {t} {v} {a} f r) = figured f ∙ sym (out-of-range a v r)
-  line-refused (by-door {t} {v} {n} f r) = figured f ∙ sym (in-range (Answer.Refused n) v r)
-  line-refused (no-product {t} {v} {s} f r e) = figured f ∙ sym (in-range (Answer.State s) v r) ∙ ap mass e
+  line-refused (lines.blank b) = dash-refused b
+  line-refused (no-volume f r) = figured f ∙ rw (is-no-volume r)
+  line-refused (by-door f r) = figured f ∙ rw (is-volume r)
+  line-refused (no-product f r e) = figured f ∙ rw (is-volume r, e)
 
-  pub line-weighed : {mg : ℕ} → Weighs l mg → weighed l ≡ Weighed.Mass mg
+  line-weighed : {mg : ℕ} → Weighs c mg → weighed (lineOf c) ≡ Weighed.Mass mg
   unfolding milligrams
-  line-weighed w = figured (w .figures) ∙ sym (in-range (Answer.State (w .s)) (w .v) (w .in-range)) ∙ ap mass (w .at-or-below)
+  line-weighed w = figured (w .figures) ∙ rw (is-volume (w .in-range), w .at-or-below)
 
 -- ---- each refusal exactly under its condition, and the milligrams exactly as they are defined
 
@@ -121,23 +150,16 @@ abbrev number-of : Weighed → ℕ
 number-of (Weighed.Mass mg) = mg
 number-of (Weighed.Refused n) = n
 
-pub refuses : (l : Line) (w : Weighed) (n : ℕ) → Comes l w → w ≡ Weighed.Refused n → RefusesLine l n
-refuses l w n (refused r) e = subst (RefusesLine l) (ap number-of e) r
-refuses l w n (weighs x) e = absurd (true≢false (ap is-mass e))
+refuses : (c : Cylinder) (w : Weighed) (n : ℕ) → Comes c w → w ≡ Weighed.Refused n → RefusesLine c n
+refuses c w n (refused r) e = subst (RefusesLine c) (ap number-of e) r
+refuses c w n (weighs x) e = absurd (true≢false (ap is-mass e))
 
-pub is-weighed : (l : Line) (w : Weighed) (mg : ℕ) → Comes l w → w ≡ Weighed.Mass mg → Weighs l mg
-is-weighed l w mg (weighs x) e = subst (Weighs l) (ap number-of e) x
-is-weighed l w mg (refused r) e = absurd (true≢false (sym (ap is-mass e)))
+is-weighed : (c : Cylinder) (w : Weighed) (mg : ℕ) → Comes c w → w ≡ Weighed.Mass mg → Weighs c mg
+is-weighed c w mg (weighs x) e = subst (Weighs c) (ap number-of e) x
+is-weighed c w mg (refused r) e = absurd (true≢false (sym (ap is-mass e)))
 
-pub line-refusals : (l : Line) (n : ℕ) → Exactly (weighed l ≡ Weighed.Refused n) (RefusesLine l n)
-line-refusals l n = (refuses l (weighed l) n (comes l), line-refused l)
+pub line-refusals : (c : Cylinder) (n : ℕ) → Exactly (weighed (lineOf c) ≡ Weighed.Refused n) (RefusesLine c n)
+line-refusals c n = (refuses c (weighed (lineOf c)) n (comes c), line-refused c)
 
-pub line-answers : (l : Line) (mg : ℕ) → Exactly (weighed l ≡ Weighed.Mass mg) (Weighs l mg)
-line-answers l mg = (is-weighed l (weighed l) mg (comes l), line-weighed l)
-
--- ---- `-` in the text: "A blank is never read as a number"
-pub dash-refused : (c : Cylinder) → Dashed c → weighed (lineOf c) ≡ Weighed.Refused 1
-dash-refused c (in-number e) = blank-refused (lineOf c) (lines.number e)
-dash-refused c (in-temperature e) = blank-refused (lineOf c) (lines.temperature (ap temperatureOf e))
-dash-refused c (in-value e) = blank-refused (lineOf c) (lines.reading (ap (readingOf (c .kind)) e))
-dash-refused c (in-volume e) = blank-refused (lineOf c) (lines.volume e)
+pub line-answers : (c : Cylinder) (mg : ℕ) → Exactly (weighed (lineOf c) ≡ Weighed.Mass mg) (Weighs c mg)
+line-answers c mg = (is-weighed c (weighed (lineOf c)) mg (comes c), line-weighed c)

@@ -8,7 +8,7 @@ use Rattle.roots.specs.Readings as numerics
 use Rattle.roots.proofs.Readings as numerics-read
 use Rattle.refusals.specs.Limits.{document01}
 use Rattle.refusals.specs.Check.{checks}
-use Rattle.weighing.specs.Weighing.{weighed, read, filled}
+use Rattle.weighing.specs.Weighing.{weighed, filled}
 use Rattle.demands.specs.Readings.{Read, number, Starred, at, of-doors, of-lines, readings}
 
 abbrev worked : List Starred → List Read
@@ -22,7 +22,7 @@ unfolding of-doors at document01 checks whole decimal fraction ofInt round div l
 doors-read = refl
 
 lines-read : worked of-lines ≡ reads of-lines
-unfolding of-lines weighed read filled
+unfolding of-lines weighed filled
 lines-read = refl
 
 pub all-read : worked readings ≡ reads readings

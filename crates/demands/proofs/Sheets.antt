@@ -14,7 +14,7 @@ use borrow.Author.Tests.{eqb-true, eqb-false, ltb-true, ltb-false, leb-true, leb
 use Rattle.text.specs.declared.field.Field.{Field}
 use Rattle.lines.specs.declared.line.Line.{Line}
 use Rattle.sheet.specs.Form.{Written, inForm}
-use Rattle.weighing.specs.Weighing.{weighed, weight}
+use Rattle.weighing.specs.Weighing.{weighed, Under}
 use Rattle.weighing.proofs.Weights.{weighed-under}
 use Rattle.writing.specs.Writing.{over}
 use Rattle.writing.proofs.Writings.{long}
@@ -166,7 +166,7 @@ no-verdict t n r = only t (one-refused n r)
 each-under : {ls : List Line} {mgs : List ℕ} → AllWeighed ls mgs → sum mgs ≤ length ls * (2 ^ 53 - 1)
 each-under none-left = omega arith
 each-under (one-more {l} {ls} e a) =
-    let u = subst (λ (w : Weighed). weight w < 2 ^ 53) e (weighed-under l) in
+    let u = subst Under e (weighed-under l) in
     omega (arith, u, each-under a)
 
 pub largest-total : {ls : List Line} {mgs : List ℕ} → AllWeighed ls mgs → length ls ≤ 32 → sum mgs ≤ 32 * (2 ^ 53 - 1)

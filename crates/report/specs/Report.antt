@@ -45,6 +45,7 @@ reportBytes m e = linesBytes 1 (marksOf m) ++ endingBytes e
 
 -- what a function ensures that writes the report bs into the lent output o, which becomes xs
 -- 15, "report longer than the lent output", "leaves the output's every byte; otherwise bytes after the report's length are unchanged"
+-- no report is longer than 32 lines of 46 bytes and an ending of 40
 abbrev pub ReportIs : List ℕ → List ℕ → List ℕ → Written → Type 0
 ReportIs o xs bs (Written.Bytes r) = Wrote o xs r bs × (length bs ≤ length o)
-ReportIs o xs bs (Written.Refused n) = (n ≡ 15) × (xs ≡ o) × (length o < length bs)
+ReportIs o xs bs (Written.Refused n) = (n ≡ 15) × (xs ≡ o) × (length o < length bs) × (length bs ≤ 1512)

@@ -9,7 +9,7 @@ ending-len-requires : tie.Need-ending-len-requires
 ending-len-requires c κs = search needs
 
 returns : tie.Need-returns
-returns c = (refl, refl, omega arith)
+returns c = (refl, refl, omega arith, omega arith)
 
 put-ending-requires : tie.Need-put-ending-requires
 put-ending-requires c κs = search needs

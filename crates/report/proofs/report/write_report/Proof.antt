@@ -19,7 +19,7 @@ add-long c = search needs
 
 returns : tie.Need-returns
 unfolding reportBytes
-returns c = (refl, refl, simp length-append (omega arith))
+returns c = (refl, refl, simp length-append (omega arith), simp length-append (omega arith))
 
 put-lines-requires : tie.Need-put-lines-requires
 put-lines-requires c κs = search needs

@@ -1,0 +1,32 @@
+-- No report is longer than the output, so that none is refused. Assumes nothing.
+use mathlib.Core.Path.{_≡_}
+use native.Mathlib.Omega.{arith}
+use lib.ListN.{length}
+use denote.Ref.{now}
+use Rattle.writing.proofs.Writings.{inside}
+use borrow.Author.Needs.{needs}
+use Rattle.scorer.proofs.report_of.Statement.{statement}
+use Rattle.scorer.proofs.report_of.Tie as tie
+
+score-requires : tie.Need-score-requires
+score-requires c κs = search needs
+
+enum-known-long : tie.Need-enum-known-long
+enum-known-long c = search needs
+
+enum-told : tie.Need-enum-told
+enum-told c = search needs
+
+returns : tie.Need-returns
+returns c =
+    let e = rw (c .enum-told .given .1) at (c .before .before .score .ensures) in
+    let h : length (now (c .before .before .before .before .before .args .out)) ≡ 1512 = search needs in
+    absurd (omega (arith, e .2, e .3))
+
+returns-2 : tie.Need-returns-2
+returns-2 c =
+    let e = rw (c .before .long .given .1) at (c .before .before .before .score .ensures) in
+    record { wrote = e .0; fits = inside (e .0) (e .1) }
+
+pub report-of-spec : {M : Type 1} → statement M
+report-of-spec = tie.close (tie.spec score-requires enum-known-long enum-told returns returns-2)

@@ -8,8 +8,9 @@ use Rattle.roots.specs.Readings as numerics
 use Rattle.roots.proofs.Readings as numerics-read
 use Rattle.refusals.specs.Limits.{document01}
 use Rattle.refusals.specs.Check.{checks}
+use Rattle.pressure_door.specs.PressureDoor.{pressureDoor}
 use Rattle.weighing.specs.Weighing.{weighed, filled}
-use Rattle.demands.specs.Readings.{Read, number, Starred, at, of-doors, of-lines, readings}
+use Rattle.demands.specs.Readings.{Read, number, Starred, at, of-checks, of-lines, readings}
 
 abbrev worked : List Starred → List Read
 worked rs = map (λ (r : Starred). r .worked) rs
@@ -17,17 +18,17 @@ worked rs = map (λ (r : Starred). r .worked) rs
 abbrev reads : List Starred → List Read
 reads rs = map (λ (r : Starred). r .reads) rs
 
-doors-read : worked of-doors ≡ reads of-doors
-unfolding of-doors at document01 checks whole decimal fraction ofInt round div lt
-doors-read = refl
+checks-read : worked of-checks ≡ reads of-checks
+unfolding of-checks at document01 checks whole decimal fraction ofInt round div lt
+checks-read = refl
 
 lines-read : worked of-lines ≡ reads of-lines
-unfolding of-lines weighed filled
+unfolding of-lines weighed filled pressureDoor document01 checks whole decimal fraction ofInt round div lt
 lines-read = refl
 
 pub all-read : worked readings ≡ reads readings
-unfolding readings numerics.readings of-doors of-lines
+unfolding readings numerics.readings of-checks of-lines
 all-read =
-    ap (λ (ns : List Worked). map number ns ++ (worked of-doors ++ worked of-lines)) numerics-read.all-read
-    ∙ ap (λ (ds : List Read). map number (map (λ (r : numerics.Starred). r .reads) numerics.readings) ++ (ds ++ worked of-lines)) doors-read
-    ∙ ap (λ (ls : List Read). map number (map (λ (r : numerics.Starred). r .reads) numerics.readings) ++ (reads of-doors ++ ls)) lines-read
+    ap (λ (ns : List Worked). map number ns ++ (worked of-checks ++ worked of-lines)) numerics-read.all-read
+    ∙ ap (λ (ds : List Read). map number (map (λ (r : numerics.Starred). r .reads) numerics.readings) ++ (ds ++ worked of-lines)) checks-read
+    ∙ ap (λ (ls : List Read). map number (map (λ (r : numerics.Starred). r .reads) numerics.readings) ++ (reads of-checks ++ ls)) lines-read

@@ -8,7 +8,7 @@ use Rattle.roots.specs.Readings as numerics
 use Rattle.refusals.specs.Limits.{document01}
 use Rattle.refusals.specs.Check.{checks}
 use Rattle.refusals.specs.declared.check.Check.{Check}
-use Rattle.refusals.specs.declared.check.Check.the-variants.{Passed, No}
+use Rattle.refusals.specs.declared.check.Check.the-variants.{Passed}
 use Rattle.text.specs.declared.field.Field.the-variants.{Number}
 use Rattle.lines.specs.Line.{lineOf}
 use Rattle.lines.specs.declared.cylinder.Cylinder.{Cylinder}
@@ -31,35 +31,38 @@ pub record Starred : Type 0 where
 unfoldable pub at : ℕ → ℕ → Check
 at t p = checks document01 (document01 .asked .pressure) (document01 .critical .pressure) (div binary64 (whole t) (whole 10000)) (whole p)
 
-abbrev pub gives : Check → Check → Starred
-gives c d = record { worked = check c; reads = check d }
+abbrev pub passes : Check → Starred
+passes c = record { worked = check c; reads = check Passed }
 
 -- "does not" speaks of the checks on the inputs: they are passed
-unfoldable pub of-doors : List Starred
-of-doors =
-    gives (at 2165919 5000000) (No 4)
-    ∷ gives (at 5230001 5000000) (No 4)
-    ∷ gives (at 2165920 5000000) Passed
-    ∷ gives (at 5230000 5000000) Passed
-    ∷ gives (at 3000000 9999) (No 5)
-    ∷ gives (at 3000000 10000) Passed
-    ∷ gives (at 3000000 30000001) (No 5)
-    ∷ gives (at 3031282 7000000) (No 6)
-    ∷ gives (at 3031281 7000000) Passed
+unfoldable pub of-checks : List Starred
+of-checks =
+    passes (at 2165920 5000000)
+    ∷ passes (at 5230000 5000000)
+    ∷ passes (at 3000000 10000)
+    ∷ passes (at 3031281 7000000)
     ∷ []
 
--- a cylinder's line with a pressure, as it is written
+-- "gives": a cylinder's line with a pressure, as it is written, is refused by this number
 abbrev pub written : ℕ → ℕ → ℕ → Cylinder
 written t p v = record { number = Number 1; temperature = Number t; kind = Pressure; value = Number p; volume = Number v }
 
+abbrev pub gives : Cylinder → ℕ → Starred
+gives c n = record { worked = line (weighed (lineOf c)); reads = line (Refused n) }
+
 unfoldable pub of-lines : List Starred
 of-lines =
-    record { worked = line (weighed (lineOf (written 2000000 5000000 0))); reads = line (Refused 2) }
-    ∷ record { worked = line (weighed (lineOf (written 3000000 5000000 1000001))); reads = line (Refused 2) }
+    gives (written 2165919 5000000 40000) 4
+    ∷ gives (written 5230001 5000000 40000) 4
+    ∷ gives (written 3000000 9999 40000) 5
+    ∷ gives (written 3000000 30000001 40000) 5
+    ∷ gives (written 3031282 7000000 40000) 6
+    ∷ gives (written 2000000 5000000 0) 2
+    ∷ gives (written 3000000 5000000 1000001) 2
     ∷ []
 
 abbrev of-numeric : numerics.Starred → Starred
 of-numeric r = record { worked = number (r .worked); reads = number (r .reads) }
 
 unfoldable pub readings : List Starred
-readings = map of-numeric numerics.readings ++ (of-doors ++ of-lines)
+readings = map of-numeric numerics.readings ++ (of-checks ++ of-lines)

@@ -1,5 +1,4 @@
 pub mod Paddings
 pub mod Turns
 pub mod Inverse
-pub mod Example
 pub mod Unique

@@ -1,0 +1,23 @@
+-- Document 01's sheets and their reports, byte for byte: "The sheet", and the readings "an empty file gives 14; `N -` alone gives 10; 33 good lines with `N -` give 11". Definitions only.
+use Prim.Native.Nat.{ℕ, zero, suc}
+use Prim.Native.String.{String}
+use mathlib.Core.List.{List, [], _∷_, _++_}
+use Rattle.writing.specs.Writing.{ascii}
+
+pub record Example : Type 0 where
+  pub text : List ℕ
+  pub report : String
+
+abbrev times : ℕ → List ℕ → List ℕ
+times zero l = []
+times (suc n) l = l ++ times n l
+
+unfoldable pub examples : List Example
+examples =
+    record { text = ascii "N 45000000\nC 7 - P 5000000 40000\nC 8 2000000 P 5000000 40000\n"; report = "L 1 R 1\nL 2 R 4\nSENT BACK 13\n" }
+    ∷ record { text = []; report = "SENT BACK 14\n" }
+    ∷ record { text = ascii "N -\n"; report = "SENT BACK 10\n" }
+    ∷ record { text = ascii "N -\n" ++ times 33 (ascii "C 1 3000000 P 5000000 40000\n"); report = "SENT BACK 11\n" }
+    ∷ record { text = ascii "N 0\nC 1 3000000 P 5000000 40000\n"; report = "SENT BACK 12\n" }
+    ∷ record { text = ascii "N 1\nC 1 - D 5000000 40000\nC - 3000000 D - 40000\nC 3 3000000 P 1 -\n"; report = "L 1 R 1\nL 2 R 1\nL 3 R 1\nSENT BACK 13\n" }
+    ∷ []

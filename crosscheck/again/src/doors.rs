@@ -1,0 +1,127 @@
+//! Document 01, "Refusal numbers" and "The doors, step by step"; docs/ARRANGEMENT.md, section 11.
+
+use crate::equation::{isotherm, pressure, state, Isotherm, CRITICAL_TEMPERATURE};
+use crate::numbers::{halve, Halved};
+use crate::saturation::{liquid_density, vapour_density, vapour_pressure};
+
+#[derive(Clone, Copy, Debug, PartialEq)]
+pub enum Phase {
+    Vapour,
+    Liquid,
+    Supercritical,
+}
+
+/// The eight numbers with their phase, or a refusal number.
+pub type Answer = Result<(Phase, [f64; 8]), u32>;
+
+/// Document 01, "Constants and ranges": ends are inside.
+pub const TEMPERATURES: [f64; 2] = [216.592, 523.0];
+pub const PRESSURES: [f64; 2] = [10000.0, 30000000.0];
+pub const DENSITIES: [f64; 2] = [0.1, 1300.0];
+pub const BOX_TEMPERATURES: [f64; 2] = [303.1282, 305.1282];
+pub const BOX_PRESSURES: [f64; 2] = [7000000.0, 8000000.0];
+pub const BOX_DENSITIES: [f64; 2] = [350.7, 584.5];
+
+fn within(x: f64, [low, high]: [f64; 2]) -> bool {
+    low <= x && x <= high
+}
+
+/// "Each door: 3, 4, 5, 6 on its inputs".
+fn check(t: f64, x: f64, range: [f64; 2], of_box: [f64; 2]) -> Result<(), u32> {
+    if !t.is_finite() || !x.is_finite() {
+        Err(3)
+    } else if !within(t, TEMPERATURES) {
+        Err(4)
+    } else if !within(x, range) {
+        Err(5)
+    } else if within(t, BOX_TEMPERATURES) && within(x, of_box) {
+        Err(6)
+    } else {
+        Ok(())
+    }
+}
+
+fn settle(phase: Phase, on: &Isotherm, rho: f64) -> Answer {
+    Ok((phase, state(on, rho).ok_or(7u32)?))
+}
+
+pub fn from_pressure(t: f64, p: f64) -> Answer {
+    check(t, p, PRESSURES, BOX_PRESSURES)?;
+    let (phase, low, high) = if t >= CRITICAL_TEMPERATURE {
+        (Phase::Supercritical, 0.05, 1400.0)
+    } else {
+        let saturated = vapour_pressure(t).ok_or(7u32)?;
+        if p == saturated {
+            return Err(8);
+        }
+        if p < saturated {
+            (Phase::Vapour, 0.05, 1.01 * vapour_density(t).ok_or(7u32)?)
+        } else {
+            (Phase::Liquid, 0.99 * liquid_density(t).ok_or(7u32)?, 1400.0)
+        }
+    };
+    if !low.is_finite() || !high.is_finite() {
+        return Err(7);
+    }
+    let on = isotherm(t);
+    match halve(low.to_bits(), high.to_bits(), p, |rho| pressure(&on, rho)) {
+        Halved::At(bits) => settle(phase, &on, f64::from_bits(bits)),
+        Halved::NoCrossing => Err(9),
+        Halved::NotFinite => Err(7),
+    }
+}
+
+pub fn from_density(t: f64, rho: f64) -> Answer {
+    check(t, rho, DENSITIES, BOX_DENSITIES)?;
+    let phase = if t >= CRITICAL_TEMPERATURE {
+        Phase::Supercritical
+    } else {
+        let vapour = vapour_density(t).ok_or(7u32)?;
+        let liquid = liquid_density(t).ok_or(7u32)?;
+        if vapour < rho && rho < liquid {
+            return Err(8);
+        }
+        if rho <= vapour {
+            Phase::Vapour
+        } else {
+            Phase::Liquid
+        }
+    };
+    let on = isotherm(t);
+    let p = pressure(&on, rho);
+    if !p.is_finite() {
+        return Err(7);
+    }
+    if !within(p, PRESSURES) {
+        return Err(5);
+    }
+    settle(phase, &on, rho)
+}
+
+#[cfg(test)]
+mod tests {
+    use super::*;
+
+    #[test]
+    fn readings_of_document_01() {
+        let from = |t: u32, p: u32| from_pressure(f64::from(t) / 10000.0, f64::from(p)).map(|_| ());
+        assert_eq!([2165919, 5230001].map(|t| from(t, 5000000)), [Err(4), Err(4)]);
+        assert_eq!([2165920, 5230000].map(|t| from(t, 5000000)), [Ok(()), Ok(())]);
+        assert_eq!([9999, 10000, 30000000, 30000001].map(|p| from(3000000, p)), [Err(5), Ok(()), Ok(()), Err(5)]);
+        assert_eq!([3031282, 3031281].map(|t| from(t, 7000000)), [Err(6), Ok(())]);
+    }
+
+    #[test]
+    fn rows_of_the_5_mpa_isobar() {
+        for (t, rho, h, w) in [(250.0, 1058.86, -359.31, 762.21), (300.0, 128.40, -60.830, 223.25), (400.0, 72.804, 64.593, 294.63)] {
+            let (_, [at, p, density, u, enthalpy, _, _, sound]) = from_pressure(t, 5e6).unwrap();
+            assert_eq!(at, t);
+            assert!((p - 5e6).abs() < 1e-3);
+            assert!((density - rho).abs() < if rho > 1000.0 || rho > 100.0 { 0.01 } else { 0.001 });
+            assert!((enthalpy / 1000.0 - h).abs() < if h < -100.0 { 0.01 } else { 0.001 });
+            assert!((sound - w).abs() < 0.01);
+            assert!((enthalpy - u - p / density).abs() < 1e-6);
+            assert_eq!(from_density(t, density), from_pressure(t, 5e6));
+        }
+    }
+}

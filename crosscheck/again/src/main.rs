@@ -1,0 +1,122 @@
+//! Makhroeng worked a second time, from document 01 and docs/ARRANGEMENT.md alone, and compared with the library bit for bit.
+//!
+//!     again [--states N] [--texts N] [--seed S] [--threads N]    compares with the library it is linked with
+//!     again --ask        reads lines `P T p` or `D T rho`, each number as the hexadecimal digits of its bits, and answers each
+//!     again --report     reads a sheet and writes its report
+
+mod doors;
+mod equation;
+mod numbers;
+mod saturation;
+mod sheet;
+mod tables;
+
+#[cfg(linked)]
+mod library;
+#[cfg(linked)]
+mod rng;
+#[cfg(linked)]
+mod states;
+#[cfg(linked)]
+mod tally;
+#[cfg(linked)]
+mod texts;
+
+use std::io::{self, BufRead, BufWriter, Read, Write};
+use std::process::ExitCode;
+
+const USAGE: &str = "usage: again [--states N] [--texts N] [--seed S] [--threads N] | again --ask | again --report";
+
+fn main() -> ExitCode {
+    let mut args = std::env::args().skip(1);
+    let (mut states, mut texts, mut seed, mut threads) = (1_000_000, 100_000, None, None);
+    while let Some(arg) = args.next() {
+        match arg.as_str() {
+            "--ask" => return done(ask()),
+            "--report" => return done(report()),
+            _ => {}
+        }
+        let value = args.next().and_then(|value| value.parse::<u64>().ok());
+        match (arg.as_str(), value) {
+            ("--states", Some(n)) => states = n,
+            ("--texts", Some(n)) => texts = n,
+            ("--seed", Some(n)) => seed = Some(n),
+            ("--threads", Some(n @ 1..)) => threads = Some(n as usize),
+            _ => {
+                eprintln!("{USAGE}");
+                return ExitCode::from(2);
+            }
+        }
+    }
+    compare(states, texts, seed.unwrap_or_else(of_the_clock), threads.unwrap_or_else(|| std::thread::available_parallelism().map_or(1, |n| n.get())))
+}
+
+fn of_the_clock() -> u64 {
+    let now = std::time::SystemTime::now().duration_since(std::time::UNIX_EPOCH);
+    now.map_or(1, |now| now.as_nanos() as u64 % 1_000_000_007)
+}
+
+#[cfg(linked)]
+fn compare(states: u64, texts: u64, seed: u64, threads: usize) -> ExitCode {
+    println!("seed {seed}, {threads} threads");
+    let mut all = states::compare(seed, states, threads);
+    all.push(texts::compare(seed, texts, threads));
+    let mut sums = [0; 2];
+    let (mut digest, mut seconds) = (0u64, 0.0);
+    for (i, (tally, took)) in all.iter().enumerate() {
+        sums = [sums[0] + tally.compared, sums[1] + tally.differ];
+        digest = digest.wrapping_add(tally.digest.rotate_left(i as u32));
+        seconds += took.as_secs_f64();
+        for (index, told) in &tally.first {
+            println!("case {index}: {told}");
+        }
+    }
+    println!("seed {seed}, {seconds:.1} s, digest of what is right {digest:016x}");
+    println!("{} compared, {} differ", sums[0], sums[1]);
+    if sums[1] == 0 {
+        ExitCode::SUCCESS
+    } else {
+        ExitCode::FAILURE
+    }
+}
+
+#[cfg(not(linked))]
+fn compare(_: u64, _: u64, _: u64, _: usize) -> ExitCode {
+    eprintln!("again: built without a library to compare with (MAKHROENG_LIB)");
+    ExitCode::from(2)
+}
+
+fn done(outcome: io::Result<()>) -> ExitCode {
+    match outcome {
+        Ok(()) => ExitCode::SUCCESS,
+        Err(error) => {
+            eprintln!("again: {error}");
+            ExitCode::FAILURE
+        }
+    }
+}
+
+fn ask() -> io::Result<()> {
+    let mut out = BufWriter::new(io::stdout().lock());
+    for line in io::stdin().lock().lines() {
+        let line = line?;
+        let parts: Vec<_> = line.split(' ').collect();
+        let bits = |i: usize| parts.get(i).and_then(|part| u64::from_str_radix(part, 16).ok()).map(f64::from_bits);
+        let answer = match (parts[0], bits(1), bits(2)) {
+            ("P", Some(t), Some(p)) => doors::from_pressure(t, p),
+            ("D", Some(t), Some(rho)) => doors::from_density(t, rho),
+            _ => return Err(io::Error::other(format!("not a question: {line}"))),
+        };
+        match answer {
+            Ok((phase, eight)) => writeln!(out, "{phase:?} {}", eight.map(|x| format!("{:016x}", x.to_bits())).join(" "))?,
+            Err(number) => writeln!(out, "{number}")?,
+        }
+    }
+    out.flush()
+}
+
+fn report() -> io::Result<()> {
+    let mut text = Vec::new();
+    io::stdin().lock().read_to_end(&mut text)?;
+    io::stdout().write_all(&sheet::score(&text).report())
+}

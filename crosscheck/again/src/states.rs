@@ -1,0 +1,255 @@
+//! States asked of both doors, of the library and of this implementation.
+
+use crate::doors::{self, Answer, Phase, BOX_DENSITIES, BOX_PRESSURES, BOX_TEMPERATURES, DENSITIES, PRESSURES, TEMPERATURES};
+use crate::equation::{isotherm, pressure, CRITICAL_DENSITY, CRITICAL_TEMPERATURE};
+use crate::library;
+use crate::rng::Rng;
+use crate::saturation::{liquid_density, vapour_density, vapour_pressure};
+use crate::tally::{digest, run, Tally};
+use std::time::Duration;
+
+const KINDS: [&str; 12] = [
+    "spread evenly",
+    "every float alike",
+    "ends of the ranges, neighbours",
+    "critical temperature, neighbours",
+    "saturation line, neighbours",
+    "critical box, edges, neighbours",
+    "about the critical point",
+    "whole numbers of a sheet",
+    "what the other door gave",
+    "critical density, neighbours",
+    "any bits",
+    "infinities, NaNs, zeros, ends",
+];
+/// Out of 100.
+const SHARES: [u64; 12] = [24, 14, 10, 6, 12, 8, 6, 6, 4, 4, 4, 2];
+const ANSWERS: [u32; 11] = [256, 257, 258, 3, 4, 5, 6, 7, 8, 9, 15];
+
+#[derive(Clone, Copy, PartialEq)]
+enum Door {
+    Pressure,
+    Density,
+}
+
+impl Door {
+    fn ask(self, t: f64, x: f64) -> Answer {
+        match self {
+            Door::Pressure => doors::from_pressure(t, x),
+            Door::Density => doors::from_density(t, x),
+        }
+    }
+
+    fn ask_library(self, t: f64, x: f64, figures: &mut [u64]) -> u32 {
+        match self {
+            Door::Pressure => library::from_pressure(t, x, figures),
+            Door::Density => library::from_density(t, x, figures),
+        }
+    }
+
+    /// The range asked, and the critical box.
+    fn ranges(self) -> ([f64; 2], [f64; 2]) {
+        match self {
+            Door::Pressure => (PRESSURES, BOX_PRESSURES),
+            Door::Density => (DENSITIES, BOX_DENSITIES),
+        }
+    }
+}
+
+/// A temperature and a pressure or density of the kind.
+fn case_of(rng: &mut Rng, door: Door, kind: usize) -> (f64, f64) {
+    let (range, of_box) = door.ranges();
+    let below = [TEMPERATURES[0], CRITICAL_TEMPERATURE];
+    match kind {
+        0 => (rng.uniform(TEMPERATURES), rng.uniform(range)),
+        1 => (rng.any_float(TEMPERATURES), rng.any_float(range)),
+        2 => {
+            let (t_end, x_end) = (rng.pick(&TEMPERATURES), rng.pick(&range));
+            match rng.below(3) {
+                0 => (rng.near(t_end, 2), rng.near(x_end, 2)),
+                1 => (rng.near(t_end, 2), rng.any_float(range)),
+                _ => (rng.uniform(TEMPERATURES), rng.near(x_end, 2)),
+            }
+        }
+        3 => (rng.near(CRITICAL_TEMPERATURE, 3), if rng.one_in(2) { rng.uniform(range) } else { rng.any_float(range) }),
+        4 => {
+            let t = if rng.one_in(8) { rng.near(CRITICAL_TEMPERATURE, 40) } else { rng.uniform(below) };
+            let saturated = match door {
+                Door::Pressure => vapour_pressure(t),
+                Door::Density if rng.one_in(2) => vapour_density(t),
+                Door::Density => liquid_density(t),
+            };
+            // at or above the critical temperature there may be none
+            let saturated = saturated.unwrap_or(if door == Door::Pressure { 7377300.0 } else { CRITICAL_DENSITY });
+            (t, if rng.one_in(3) { saturated } else { rng.near(saturated, 4) })
+        }
+        5 => {
+            let edges = [BOX_TEMPERATURES[0], BOX_TEMPERATURES[1]];
+            let t = match rng.below(3) {
+                0 => rng.uniform(BOX_TEMPERATURES),
+                1 => rng.uniform([302.6, 305.6]),
+                _ => {
+                    let edge = rng.pick(&edges);
+                    rng.near(edge, 2)
+                }
+            };
+            let [low, high] = of_box;
+            let x = match rng.below(3) {
+                0 => rng.uniform(of_box),
+                1 => rng.uniform([0.95 * low, 1.05 * high]),
+                _ => {
+                    let edge = rng.pick(&of_box);
+                    rng.near(edge, 2)
+                }
+            };
+            (t, x)
+        }
+        6 => {
+            let width = rng.pick(&[0.0001, 0.05, 1.5]);
+            let t = rng.uniform([CRITICAL_TEMPERATURE - width, CRITICAL_TEMPERATURE + width]);
+            let x = match door {
+                Door::Pressure if rng.one_in(3) => rng.uniform([6.5e6, 7e6]),
+                Door::Pressure => rng.uniform([8e6, 18e6]),
+                Door::Density => rng.uniform([250.0, 700.0]),
+            };
+            (t, x)
+        }
+        7 => {
+            let t = rng.between(2165900, 5230020) as f64 / 10000.0;
+            match door {
+                Door::Pressure => (t, rng.between(9990, 30000010) as f64),
+                Door::Density => (t, rng.between(99, 1300001) as f64 / 1000.0),
+            }
+        }
+        8 => match door {
+            Door::Pressure => {
+                let (t, rho) = (rng.uniform(TEMPERATURES), rng.any_float(DENSITIES));
+                let p = pressure(&isotherm(t), rho);
+                (t, if p > 1.0 { rng.near(p, 1) } else { p })
+            }
+            Door::Density => {
+                let (t, p) = (rng.uniform(TEMPERATURES), rng.any_float(PRESSURES));
+                (t, doors::from_pressure(t, p).map_or(CRITICAL_DENSITY, |(_, eight)| eight[2]))
+            }
+        },
+        9 => {
+            let t = if rng.one_in(2) { rng.uniform([303.0, 320.0]) } else { rng.uniform(TEMPERATURES) };
+            let rho = rng.near(CRITICAL_DENSITY, 3);
+            match door {
+                Door::Pressure => (t, pressure(&isotherm(t), rho)),
+                Door::Density => (t, rho),
+            }
+        }
+        10 => {
+            let any = [rng.bits(), rng.bits()].map(f64::from_bits);
+            match rng.below(3) {
+                0 => (any[0], any[1]),
+                1 => (rng.uniform(TEMPERATURES), any[1]),
+                _ => (any[0], rng.uniform(range)),
+            }
+        }
+        _ => {
+            let odd = [
+                f64::INFINITY,
+                f64::NEG_INFINITY,
+                f64::NAN,
+                -f64::NAN,
+                f64::from_bits(0x7ff0000000000001),
+                f64::from_bits(0xfff7ffffffffffff),
+                0.0,
+                -0.0,
+                5e-324,
+                -5e-324,
+                f64::MIN_POSITIVE,
+                f64::MAX,
+                f64::MIN,
+                -300.0,
+                range[0],
+                range[1],
+                of_box[0],
+                of_box[1],
+                TEMPERATURES[0],
+                TEMPERATURES[1],
+                CRITICAL_TEMPERATURE,
+                300.0,
+                1000.0,
+            ];
+            (rng.pick(&odd), rng.pick(&odd))
+        }
+    }
+}
+
+/// Fewer than eight now and then, and more.
+fn length(rng: &mut Rng) -> usize {
+    (match rng.below(20) {
+        0 => rng.below(8),
+        1..=4 => rng.between(9, 24),
+        _ => 8,
+    }) as usize
+}
+
+fn number(answer: &Answer) -> u32 {
+    match answer {
+        Ok((Phase::Vapour, _)) => 256,
+        Ok((Phase::Liquid, _)) => 257,
+        Ok((Phase::Supercritical, _)) => 258,
+        Err(number) => *number,
+    }
+}
+
+/// Numbers that are not lent, before and after those that are.
+const GUARD: usize = 4;
+
+fn case(seed: u64, index: u64, door: Door, tally: &mut Tally) {
+    let mut rng = Rng::of_case(seed, door as u64, index);
+    let mut share = rng.below(100);
+    let kind = SHARES.iter().position(|&of_kind| {
+        let here = share < of_kind;
+        share = share.wrapping_sub(of_kind);
+        here
+    });
+    let kind = kind.expect("the shares are 100 in all");
+    let (t, x) = case_of(&mut rng, door, kind);
+    let len = length(&mut rng);
+    let mut got = [0u64; 24 + 2 * GUARD];
+    got.iter_mut().for_each(|figure| *figure = rng.bits());
+    let mut expected = got;
+
+    let answer = if len < 8 { Err(15) } else { door.ask(t, x) };
+    let expected_number = number(&answer);
+    if let Ok((_, eight)) = answer {
+        expected[GUARD..GUARD + 8].copy_from_slice(&eight.map(f64::to_bits));
+    }
+    let got_number = door.ask_library(t, x, &mut got[GUARD..GUARD + len]);
+
+    let column = ANSWERS.iter().position(|&answer| answer == expected_number).expect("an answer of document 01");
+    tally.counts[kind][column] += 1;
+    let digest = digest([t.to_bits(), x.to_bits(), u64::from(expected_number)].into_iter().chain(expected));
+    tally.note(index, digest, got_number == expected_number && got == expected, || {
+        let name = if door == Door::Pressure { "makhroeng_from_pressure" } else { "makhroeng_from_density" };
+        let mut told =
+            format!("{name}({:#018x}, {:#018x}, figures, {len}), which are {t:?} and {x:?} ({}):\n", t.to_bits(), x.to_bits(), KINDS[kind]);
+        told += &format!("    {expected_number} expected, {got_number} answered\n");
+        for i in (0..got.len()).filter(|&i| got[i] != expected[i]) {
+            told += &format!("    figures[{}]: {:016x} expected, {:016x} left\n", i as i64 - GUARD as i64, expected[i], got[i]);
+        }
+        told
+    });
+}
+
+/// Compares half as many of each door.
+pub fn compare(seed: u64, states: u64, threads: usize) -> Vec<(Tally, Duration)> {
+    let columns: Vec<String> =
+        ANSWERS.iter().map(|n| if *n < 256 { n.to_string() } else { ["vapour", "liquid", "supercr."][*n as usize - 256].to_string() }).collect();
+    let mut told = Vec::new();
+    for (door, name, cases) in [(Door::Pressure, "pressure door", states - states / 2), (Door::Density, "density door", states / 2)] {
+        let (tally, took) = run(name, cases, threads, [KINDS.len(), ANSWERS.len()], |index, tally| case(seed, index, door, tally));
+        tally.print(
+            &format!("{name}: {cases} states in {:.1} s, {:.0} a second", took.as_secs_f64(), cases as f64 / took.as_secs_f64()),
+            &KINDS,
+            &columns,
+        );
+        told.push((tally, took));
+    }
+    told
+}

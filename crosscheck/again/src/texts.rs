@@ -1,0 +1,318 @@
+//! Texts scored by the library and by this implementation.
+
+use crate::library;
+use crate::rng::Rng;
+use crate::sheet::{score, Ending, Outcome};
+use crate::tally::{digest, run, Tally};
+use std::time::Duration;
+
+const KINDS: [&str; 12] = [
+    "good, 1 to 32 lines",
+    "need is the total",
+    "need is the total and one",
+    "any readings, 1 to 32 lines",
+    "edges of every range",
+    "blanks in any field",
+    "numbers of 1 to 11 digits",
+    "no line, or 33 and more",
+    "65,535 to 65,538 bytes",
+    "damaged in one to three places",
+    "any bytes of the form's",
+    "any bytes",
+];
+/// Out of 100.
+const SHARES: [u64; 12] = [14, 8, 8, 12, 12, 8, 8, 6, 1, 16, 4, 3];
+/// The ending that is asked for, whether or not it fits; then what did not fit; then lines, answered and by refusal.
+const COLUMNS: [&str; 20] = [
+    "COVERED",
+    "SHORT",
+    "SB 10",
+    "SB 11",
+    "SB 12",
+    "SB 13",
+    "SB 14",
+    "too long",
+    "just fits",
+    "L M",
+    "R 1",
+    "R 2",
+    "R 3",
+    "R 4",
+    "R 5",
+    "R 6",
+    "R 7",
+    "R 8",
+    "R 9",
+    "L other",
+];
+
+/// What stands on a sheet, as text; "-" is a blank.
+struct Draft {
+    need: String,
+    lines: Vec<[String; 5]>,
+}
+
+impl Draft {
+    fn text(&self) -> Vec<u8> {
+        let mut text = format!("N {}\n", self.need);
+        for [number, temperature, kind, value, volume] in &self.lines {
+            text += &format!("C {number} {temperature} {kind} {value} {volume}\n");
+        }
+        text.into_bytes()
+    }
+
+    fn any_field(&mut self, rng: &mut Rng) -> &mut String {
+        let lines = self.lines.len() as u64;
+        if lines == 0 || rng.one_in(6) {
+            return &mut self.need;
+        }
+        let line = &mut self.lines[rng.below(lines) as usize];
+        &mut line[rng.pick(&[0usize, 1, 3, 4])]
+    }
+}
+
+/// A number with as many digits as one of 1 to `digits` has, each count alike.
+fn number(rng: &mut Rng, digits: u64) -> u64 {
+    let digits = rng.between(1, digits) as u32;
+    if digits == 1 {
+        rng.below(10)
+    } else {
+        rng.between(10u64.pow(digits - 1), 10u64.pow(digits) - 1)
+    }
+}
+
+/// A line that a door will most likely answer.
+fn good_line(rng: &mut Rng) -> [String; 5] {
+    let volume = match rng.below(4) {
+        0 => rng.pick(&[1, 10, 1000, 40000, 67500, 1000000]),
+        1 => rng.between(1, 1000000),
+        _ => rng.between(1, 80) * 1000,
+    };
+    let (temperature, kind, value) = match rng.below(10) {
+        // at 30 MPa a vapour of 523 K has more than 380 kg/m³
+        0..=2 => (rng.between(3051283, 5230000), "D", rng.between(600, 300000)),
+        // cold liquid, and cold vapour
+        3 => (rng.between(2166000, 2200000), "D", rng.between(1180000, 1195000)),
+        4 => (rng.between(2300000, 3031281), "D", rng.between(300, 20000)),
+        5 => (rng.between(2165920, 5230000), "P", rng.between(1, 300) * 100000),
+        6 => (rng.between(2165920, 3031281), "P", rng.between(10000, 8000000)),
+        _ => (rng.between(2165920, 5230000), "P", rng.between(10000, 30000000)),
+    };
+    [number(rng, 4).to_string(), temperature.to_string(), kind.to_string(), value.to_string(), volume.to_string()]
+}
+
+fn any_line(rng: &mut Rng) -> [String; 5] {
+    let temperature = if rng.one_in(4) { rng.between(2160000, 5240000) } else { rng.between(2165920, 5230000) };
+    let (kind, value) = if rng.one_in(2) { ("P", rng.between(1, 30100000)) } else { ("D", rng.between(1, 1310000)) };
+    let volume = if rng.one_in(8) { rng.between(0, 1100000) } else { rng.between(1, 1000000) };
+    [number(rng, 10).to_string(), temperature.to_string(), kind.to_string(), value.to_string(), volume.to_string()]
+}
+
+/// The first and last numbers of every range, and those beside them.
+fn edge_line(rng: &mut Rng) -> [String; 5] {
+    let beside = |rng: &mut Rng, of: &[u64]| {
+        let edge = rng.pick(of);
+        (edge + rng.below(3)).saturating_sub(1)
+    };
+    let pressure = rng.one_in(2);
+    let temperature = beside(rng, &[2165920, 5230000, 3031282, 3051282, 3041282, 3000000, 0]);
+    let value = match pressure {
+        true => beside(rng, &[10000, 30000000, 7000000, 8000000, 7377300, 5000000]),
+        false => beside(rng, &[100, 1300000, 350700, 584500, 467600, 101000]),
+    };
+    let volume = if rng.one_in(2) { beside(rng, &[1, 1000000]) } else { 40000 };
+    [number(rng, 10).to_string(), temperature.to_string(), if pressure { "P" } else { "D" }.to_string(), value.to_string(), volume.to_string()]
+}
+
+fn sheet(rng: &mut Rng, most: u64, line: fn(&mut Rng) -> [String; 5]) -> Draft {
+    let need = match rng.below(4) {
+        0 => number(rng, 10).max(1),
+        _ => rng.between(1, 100000000),
+    };
+    let lines = if rng.one_in(4) { most } else { rng.between(1, most) };
+    Draft { need: need.to_string(), lines: (0..lines).map(|_| line(rng)).collect() }
+}
+
+/// A good sheet whose need is the sum of its lines and so many more. Such a sheet may be one that has no sum, or one over 10 digits.
+fn weighed(rng: &mut Rng, more: u64) -> Vec<u8> {
+    let mut draft = sheet(rng, 12, good_line);
+    if let Some(total) = score(&draft.text()).total() {
+        draft.need = (total + more).to_string();
+    }
+    draft.text()
+}
+
+fn of_the_form(rng: &mut Rng) -> u8 {
+    rng.pick(b"NCPD  --00123456789\n\n")
+}
+
+fn damage(rng: &mut Rng, text: &mut Vec<u8>) {
+    for _ in 0..rng.between(1, 3) {
+        let len = text.len() as u64;
+        let at = rng.below(len + 1) as usize;
+        let byte = match rng.below(4) {
+            0 => rng.below(256) as u8,
+            1 => rng.pick(b"\r\t+.,eE/:\0\x7f\x80\xff"),
+            _ => of_the_form(rng),
+        };
+        match rng.below(5) {
+            0 if at < text.len() => text[at] = byte,
+            1 => text.insert(at, byte),
+            2 if at < text.len() => {
+                text.remove(at);
+            }
+            3 if at + 1 < text.len() => text.swap(at, at + 1),
+            4 if len > 0 => {
+                let other = rng.below(len) as usize;
+                let at = at.min(text.len() - 1);
+                text.swap(at, other);
+            }
+            _ => text.truncate(at),
+        }
+    }
+}
+
+/// A text in the form, or nearly, of just so many bytes: lines of the same number as often as it takes, and digits to fill up.
+fn long_text(rng: &mut Rng) -> Vec<u8> {
+    let bytes = rng.between(65535, 65538) as usize;
+    let mut text = b"N 1\n".to_vec();
+    let shortest = b"C 1 1 P 1 1\n";
+    while bytes - text.len() >= 2 * shortest.len() {
+        text.extend(shortest);
+    }
+    // the last line takes 12 to 23 bytes: up to 11 more than the shortest, in two numbers
+    let more = bytes - text.len() - shortest.len();
+    let (first, second) = (more.min(9), more - more.min(9));
+    text.extend(format!("C 1{} 1{} P 1 1\n", "0".repeat(first), "0".repeat(second)).bytes());
+    text
+}
+
+fn text_of(rng: &mut Rng, kind: usize) -> Vec<u8> {
+    match kind {
+        0 => sheet(rng, 32, good_line).text(),
+        1 => weighed(rng, 0),
+        2 => weighed(rng, 1),
+        3 => sheet(rng, 32, any_line).text(),
+        4 => {
+            let mut draft = sheet(rng, 32, edge_line);
+            if rng.one_in(4) {
+                draft.need = rng.pick(&["0", "1", "9999999999", "9999999998", "10000000000", "-"]).to_string();
+            }
+            draft.text()
+        }
+        5 => {
+            let mut draft = sheet(rng, 12, good_line);
+            for _ in 0..rng.between(1, 4) {
+                *draft.any_field(rng) = "-".to_string();
+            }
+            draft.text()
+        }
+        6 => {
+            let mut draft = sheet(rng, 12, good_line);
+            for _ in 0..rng.between(1, 4) {
+                let number = match rng.below(8) {
+                    0 => format!("0{}", number(rng, 9)),
+                    1 => "0".to_string(),
+                    _ => number(rng, 11).to_string(),
+                };
+                *draft.any_field(rng) = number;
+            }
+            draft.text()
+        }
+        7 => {
+            let lines = match rng.below(60) {
+                0..=19 => 0,
+                20..=22 => rng.between(33, 1500),
+                _ => rng.between(33, 40),
+            };
+            let mut draft = sheet(rng, 1, any_line);
+            draft.lines = (0..lines).map(|_| any_line(rng)).collect();
+            for _ in 0..rng.below(3) {
+                *draft.any_field(rng) = "-".to_string();
+            }
+            let mut text = draft.text();
+            if rng.one_in(4) {
+                damage(rng, &mut text);
+            }
+            text
+        }
+        8 => long_text(rng),
+        9 => {
+            let mut text = sheet(rng, 6, good_line).text();
+            damage(rng, &mut text);
+            text
+        }
+        10 => (0..rng.below(60)).map(|_| of_the_form(rng)).collect(),
+        _ => (0..rng.below(200)).map(|_| rng.below(256) as u8).collect(),
+    }
+}
+
+/// Bytes that are not lent, before and after those that are.
+const GUARD: usize = 16;
+
+fn case(seed: u64, index: u64, tally: &mut Tally) {
+    let mut rng = Rng::of_case(seed, 2, index);
+    let mut share = rng.below(100);
+    let kind = SHARES.iter().position(|&of_kind| {
+        let here = share < of_kind;
+        share = share.wrapping_sub(of_kind);
+        here
+    });
+    let kind = kind.expect("the shares are 100 in all");
+    let mut text = text_of(&mut rng, kind);
+    let text_len = text.len();
+    let outcome = score(&text);
+    let report = outcome.report();
+    let len = report.len() as u64;
+    let lent = match rng.below(10) {
+        0 => len - 1,
+        1 => rng.below(len),
+        2..=4 => len,
+        5 => len + 1,
+        6 => 1512,
+        _ => len + rng.below(100),
+    } as usize;
+    let fits = report.len() <= lent;
+    let mut got: Vec<u8> = (0..lent + 2 * GUARD).map(|_| rng.below(256) as u8).collect();
+    let mut expected = got.clone();
+    if fits {
+        expected[GUARD..GUARD + report.len()].copy_from_slice(&report);
+    }
+    // what stands behind the text could go on with it
+    text.extend((0..GUARD).map(|_| of_the_form(&mut rng)));
+    let before = text.clone();
+    let expected_len = if fits { len } else { 0 };
+    let got_len = library::report(&text[..text_len], &mut got[GUARD..GUARD + lent]);
+
+    let count = &mut tally.counts[kind];
+    let ending = match outcome.ending() {
+        Ending::Covered => 0,
+        Ending::Short => 1,
+        Ending::SentBack(number) => number as usize - 8,
+    };
+    count[ending] += 1;
+    count[7] += u64::from(!fits);
+    count[8] += u64::from(report.len() == lent);
+    if let Outcome::Weighed { lines, .. } = &outcome {
+        for line in lines {
+            count[line.map_or_else(|number| 9 + number as usize, |_| 9).min(19)] += 1;
+        }
+    }
+    let digest = digest([expected_len].into_iter().chain(text[..text_len].iter().chain(&expected).map(|&byte| u64::from(byte))));
+    tally.note(index, digest, got_len == expected_len && got == expected && text == before, || {
+        let mut told = format!("makhroeng_report(text, {text_len}, out, {lent}) ({}):\n", KINDS[kind]);
+        told += &format!("    {expected_len} expected, {got_len} answered\n    text: \"{}\"\n", text[..text_len].escape_ascii());
+        told += &format!("    report expected: \"{}\"\n", report.escape_ascii());
+        for i in (0..got.len()).filter(|&i| got[i] != expected[i]).take(8) {
+            told += &format!("    out[{}]: {:02x} expected, {:02x} left\n", i as i64 - GUARD as i64, expected[i], got[i]);
+        }
+        told
+    });
+}
+
+pub fn compare(seed: u64, texts: u64, threads: usize) -> (Tally, Duration) {
+    let (tally, took) = run("texts", texts, threads, [KINDS.len(), COLUMNS.len()], |index, tally| case(seed, index, tally));
+    let title = format!("sheets: {texts} texts in {:.1} s, {:.0} a second", took.as_secs_f64(), texts as f64 / took.as_secs_f64());
+    tally.print(&title, &KINDS, &COLUMNS.map(String::from));
+    (tally, took)
+}

@@ -1,0 +1,116 @@
+//! This implementation behind the library's interface, whole or with one fault, to show what the comparison finds. FAULT, when it is
+//! compiled, is one of those below, or nothing.
+
+#![allow(dead_code)]
+
+#[path = "../src/doors.rs"]
+mod doors;
+#[path = "../src/equation.rs"]
+mod equation;
+#[path = "../src/numbers.rs"]
+mod numbers;
+#[path = "../src/saturation.rs"]
+mod saturation;
+#[path = "../src/sheet.rs"]
+mod sheet;
+#[path = "../src/tables.rs"]
+mod tables;
+
+fn fault(name: &str) -> bool {
+    option_env!("FAULT") == Some(name)
+}
+
+fn answer(t: f64, x: f64, door: fn(f64, f64) -> doors::Answer, figures: &mut [f64]) -> u32 {
+    if fault("refuses-everything") {
+        return 7;
+    }
+    if figures.len() < 8 {
+        if fault("writes-where-too-few-are-lent") && !figures.is_empty() {
+            figures[0] = t;
+        }
+        return if fault("refusal-before-15") { door(t, x).map_or_else(|number| number, |_| 15) } else { 15 };
+    }
+    match door(t, x) {
+        Ok((phase, mut eight)) => {
+            if fault("sound-speed-one-float-up-in-one-of-4096") && eight[7].to_bits() % 4096 == 7 {
+                eight[7] = f64::from_bits(eight[7].to_bits() + 1);
+            }
+            if fault("upper-neighbour") && door as usize == doors::from_pressure as *const () as usize {
+                eight[2] = f64::from_bits(eight[2].to_bits() + 1);
+            }
+            if fault("ninth-number") && figures.len() > 8 {
+                figures[8] = 0.0;
+            }
+            if fault("number-before-the-first") {
+                // SAFETY: the comparison keeps numbers there
+                unsafe { *figures.as_mut_ptr().sub(1) = 0.0 };
+            }
+            figures[..8].copy_from_slice(&eight);
+            match phase {
+                doors::Phase::Vapour => 256,
+                doors::Phase::Liquid => 257,
+                doors::Phase::Supercritical => 258,
+            }
+        }
+        Err(number) => {
+            if fault("writes-where-refused") {
+                figures[0] = t;
+            }
+            if fault("saturation-line-as-vapour") && number == 8 {
+                256
+            } else {
+                number
+            }
+        }
+    }
+}
+
+/// # Safety
+/// `figures` are `len` numbers.
+#[no_mangle]
+pub unsafe extern "C" fn makhroeng_from_pressure(t: f64, p: f64, figures: *mut f64, len: usize) -> u32 {
+    answer(t, p, doors::from_pressure, std::slice::from_raw_parts_mut(figures, len))
+}
+
+/// # Safety
+/// `figures` are `len` numbers.
+#[no_mangle]
+pub unsafe extern "C" fn makhroeng_from_density(t: f64, rho: f64, figures: *mut f64, len: usize) -> u32 {
+    answer(t, rho, doors::from_density, std::slice::from_raw_parts_mut(figures, len))
+}
+
+/// # Safety
+/// `text` has `text_len` bytes and `out` has `out_len`.
+#[no_mangle]
+pub unsafe extern "C" fn makhroeng_report(text: *const u8, text_len: usize, out: *mut u8, out_len: usize) -> u64 {
+    let (mut text, out) = (std::slice::from_raw_parts(text, text_len), std::slice::from_raw_parts_mut(out, out_len));
+    if fault("reads-past-the-text") {
+        text = std::slice::from_raw_parts(text.as_ptr(), text_len + 1);
+    }
+    let mut report = sheet::score(text).report();
+    if fault("65,537-bytes-taken") && text_len == 65537 && report == b"SENT BACK 14\n" {
+        report = b"SENT BACK 11\n".to_vec();
+    }
+    if fault("covered-one-short") && report.ends_with(b"SHORT\n") {
+        if let sheet::Outcome::Weighed { lines, need } = sheet::score(text) {
+            if lines.iter().map(|line| line.unwrap_or(0)).sum::<u64>() + 1 == need {
+                report.truncate(report.len() - 6);
+                report.extend(b"COVERED\n");
+            }
+        }
+    }
+    if report.len() > out_len {
+        if fault("writes-what-fits") {
+            out.copy_from_slice(&report[..out_len]);
+        }
+        return if fault("length-where-it-does-not-fit") { report.len() as u64 } else { 0 };
+    }
+    if fault("needs-a-byte-more") && report.len() == out_len {
+        return 0;
+    }
+    out[..report.len()].copy_from_slice(&report);
+    if fault("a-zero-after-the-report") && report.len() < out_len {
+        out[report.len()] = 0;
+    }
+    report.len() as u64
+}

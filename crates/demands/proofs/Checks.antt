@@ -4,13 +4,13 @@ use mathlib.Core.Path.{_≡_, refl}
 use mathlib.Core.Bool.{Bool, true, false, _&&_, not}
 use lib.Ieee.{Float}
 use lib.Ieee.Scale.{finite}
-use Rattle.refusals.specs.Check.{if, checks}
-use Rattle.refusals.specs.Limits.{outside}
+use Rattle.checks.specs.Check.{if, checks}
+use Rattle.limits.specs.Limits.{outside}
 use Rattle.demands.specs.Demands.{Barred, no-number, no-temperature, no-value, in-box, Past}
-use Rattle.refusals.specs.declared.check.Check.{Check}
-use Rattle.refusals.specs.declared.check.Check.the-variants.{Passed, No}
-use Rattle.refusals.specs.declared.limits.Range.{Range}
-use Rattle.refusals.specs.declared.limits.Limits.{Limits}
+use Rattle.checks.specs.declared.check.Check.{Check}
+use Rattle.checks.specs.declared.check.Check.the-variants.{Passed, No}
+use Rattle.limits.specs.declared.limits.Range.{Range}
+use Rattle.limits.specs.declared.limits.Limits.{Limits}
 
 module _ (L : Limits) (asked critical : Range) (t x : Float) where
   pub data Finds (c : Check) : Type 0 where

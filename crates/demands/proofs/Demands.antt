@@ -13,18 +13,18 @@ use Rattle.state.specs.declared.state.State as Eight
 use Rattle.state.specs.declared.state.Stated.the-variants.{Known}
 use Rattle.state.proofs.States.{pressure-of-state}
 use Rattle.densities.proofs.Densities.{vapour-nonneg, liquid-nonneg}
-use Rattle.refusals.specs.Limits.{document01}
+use Rattle.limits.specs.Limits.{document01}
 use Rattle.equation.specs.Equation.{Equation, of1996}
 use Rattle.pressure_door.specs.Search.{figure}
 use Rattle.density_door.specs.DensityDoor.{densityDoor}
 use Rattle.demands.specs.Demands as demands
 use Rattle.demands.specs.Demands.{Whatever, Exactly, Barred, no-number, no-temperature, no-value, in-box, PastP, Ranged, supercritical, RefusesP, barred, line-fails, on-line, vapour-fails, vapour-end-fails, liquid-fails, liquid-end-fails, no-crossing, probe-fails, state-fails, Answered, RefusesD, stopped, no-vapour, no-liquid, between, no-pressure, pressure-outside, no-state, AnsweredD, Sane, Settled, given, not-given, eightOf, SameEight, LiesInRange}
-use Rattle.refusals.specs.declared.limits.Range.{Range}
-use Rattle.refusals.specs.declared.limits.Limits.{Limits}
-use Rattle.refusals.specs.declared.answer.Phase.{Phase}
-use Rattle.refusals.specs.declared.answer.State.{State}
-use Rattle.refusals.specs.declared.answer.Answer.{Answer}
-use Rattle.refusals.specs.declared.answer.Answer.the-variants as answer
+use Rattle.limits.specs.declared.limits.Range.{Range}
+use Rattle.limits.specs.declared.limits.Limits.{Limits}
+use Rattle.answers.specs.declared.answer.Phase.{Phase}
+use Rattle.answers.specs.declared.answer.State.{State}
+use Rattle.answers.specs.declared.answer.Answer.{Answer}
+use Rattle.answers.specs.declared.answer.Answer.the-variants as answer
 use Rattle.pressure_door.proofs.pressure_door.from_pressure.Reads as from-pressure
 use Rattle.density_door.proofs.density_door.from_density.Reads as from-density
 use Rattle.pressure_door.proofs.Doors.{searchable, product-nonneg}

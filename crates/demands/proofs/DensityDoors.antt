@@ -8,19 +8,18 @@ use Rattle.numeric.specs.declared.working.Worked.{Worked}
 use Rattle.numeric.specs.declared.working.Worked.the-variants.{Number, Failed}
 use Rattle.state.specs.declared.state.Stated.{Stated}
 use Rattle.state.specs.declared.state.Stated.the-variants.{Known, Unknown}
-use Rattle.refusals.specs.Answer.{withPhase, settled, thenAnswer, either}
-use Rattle.refusals.specs.Check.{passed}
+use Rattle.answers.specs.Answer.{passed, withPhase, settled, thenAnswer, either}
 use Rattle.equation.specs.Equation.{Equation}
-use Rattle.refusals.specs.Limits.{outside}
+use Rattle.limits.specs.Limits.{outside}
 use Rattle.density_door.specs.DensityDoor.{inPhase, below, within, densityDoor}
 use Rattle.demands.specs.Demands.{PastD, Phased, above-critical, as-vapour, as-liquid, RefusesD, stopped, no-vapour, no-liquid, between, no-pressure, pressure-outside, no-state, AnsweredD, DensityRefusals, DensityAnswers}
-use Rattle.refusals.specs.declared.check.Check.{Check}
-use Rattle.refusals.specs.declared.limits.Limits.{Limits}
-use Rattle.refusals.specs.declared.answer.Phase.{Phase}
-use Rattle.refusals.specs.declared.answer.Phase.the-variants.{Vapour, Liquid, Supercritical}
-use Rattle.refusals.specs.declared.answer.State.{State}
-use Rattle.refusals.specs.declared.answer.Answer.{Answer}
-use Rattle.refusals.specs.declared.answer.Answer.the-variants as answer
+use Rattle.checks.specs.declared.check.Check.{Check}
+use Rattle.limits.specs.declared.limits.Limits.{Limits}
+use Rattle.answers.specs.declared.answer.Phase.{Phase}
+use Rattle.answers.specs.declared.answer.Phase.the-variants.{Vapour, Liquid, Supercritical}
+use Rattle.answers.specs.declared.answer.State.{State}
+use Rattle.answers.specs.declared.answer.Answer.{Answer}
+use Rattle.answers.specs.declared.answer.Answer.the-variants as answer
 use Rattle.demands.proofs.Checks.{stops, passes, finds, stops-back, passes-back}
 
 module _ (E : Equation) (L : Limits) (t rho : Float) where

@@ -9,8 +9,8 @@ use Rattle.text.specs.Parse.{byte}
 use Rattle.text.specs.Field.{digitsAfter, field, fieldTo, fieldAfter}
 use Rattle.lines.specs.Cylinder.{kind, reading, cylinder}
 use Rattle.sheet.specs.Form.{cylinders, written, inForm}
-use Rattle.refusals.specs.Limits.{document01}
-use Rattle.refusals.specs.Check.{checks}
+use Rattle.limits.specs.Limits.{document01}
+use Rattle.checks.specs.Check.{checks}
 use Rattle.pressure_door.specs.PressureDoor.{pressureDoor}
 use Rattle.weighing.specs.Weighing.{filled, weighed}
 use Rattle.writing.specs.Writing.{ascii}

@@ -13,20 +13,19 @@ use Rattle.halving.proofs.Halvings.{answer, nowhere, nowhere-back, breaks, brea
 use Rattle.roots.specs.Formula.{num, _⊗_, work}
 use Rattle.state.specs.declared.state.Stated.{Stated}
 use Rattle.state.specs.declared.state.Stated.the-variants.{Known, Unknown}
-use Rattle.refusals.specs.Answer.{withPhase, settled, thenAnswer, either}
-use Rattle.refusals.specs.Check.{passed}
+use Rattle.answers.specs.Answer.{passed, withPhase, settled, thenAnswer, either}
 use Rattle.equation.specs.Equation.{Equation}
 use Rattle.pressure_door.specs.Search.{figure, found, searched}
 use Rattle.pressure_door.specs.PressureDoor.{vapour, liquid, beneath, entered, pressureDoor}
 use Rattle.demands.specs.Demands as demands
 use Rattle.demands.specs.Demands.{PastP, Ranged, supercritical, RefusesP, barred, line-fails, on-line, vapour-fails, vapour-end-fails, liquid-fails, liquid-end-fails, no-crossing, probe-fails, state-fails, Answered, Sane, PressureRefusals, PressureAnswers, NoCrossingExactly}
-use Rattle.refusals.specs.declared.check.Check.{Check}
-use Rattle.refusals.specs.declared.limits.Limits.{Limits}
-use Rattle.refusals.specs.declared.answer.Phase.{Phase}
-use Rattle.refusals.specs.declared.answer.Phase.the-variants.{Vapour, Liquid, Supercritical}
-use Rattle.refusals.specs.declared.answer.State.{State}
-use Rattle.refusals.specs.declared.answer.Answer.{Answer}
-use Rattle.refusals.specs.declared.answer.Answer.the-variants as answer
+use Rattle.checks.specs.declared.check.Check.{Check}
+use Rattle.limits.specs.declared.limits.Limits.{Limits}
+use Rattle.answers.specs.declared.answer.Phase.{Phase}
+use Rattle.answers.specs.declared.answer.Phase.the-variants.{Vapour, Liquid, Supercritical}
+use Rattle.answers.specs.declared.answer.State.{State}
+use Rattle.answers.specs.declared.answer.Answer.{Answer}
+use Rattle.answers.specs.declared.answer.Answer.the-variants as answer
 use Rattle.demands.proofs.Checks.{stops, passes, finds, stops-back, passes-back}
 
 module _ (E : Equation) (L : Limits) (sane : Sane E L) (t p : Float) where

@@ -11,17 +11,17 @@ use Rattle.halving.specs.declared.halving.Crossing.the-variants.{At}
 use Rattle.roots.specs.Formula.{num, _⊗_, work}
 use Rattle.state.specs.declared.state.State as Eight
 use Rattle.state.specs.declared.state.Stated.the-variants.{Known, Unknown}
-use Rattle.refusals.specs.Answer.{withPhase}
+use Rattle.answers.specs.Answer.{withPhase}
 use Rattle.equation.specs.Equation.{Equation}
-use Rattle.refusals.specs.Limits.{outside}
+use Rattle.limits.specs.Limits.{outside}
 use Rattle.pressure_door.specs.Search.{figure}
-use Rattle.refusals.specs.declared.limits.Range.{Range}
-use Rattle.refusals.specs.declared.limits.Limits.{Limits}
-use Rattle.refusals.specs.declared.answer.Phase.{Phase}
-use Rattle.refusals.specs.declared.answer.Phase.the-variants.{Vapour, Liquid, Supercritical}
-use Rattle.refusals.specs.declared.answer.State.{State}
-use Rattle.refusals.specs.declared.answer.Answer.{Answer}
-use Rattle.refusals.specs.declared.answer.Answer.the-variants as answer
+use Rattle.limits.specs.declared.limits.Range.{Range}
+use Rattle.limits.specs.declared.limits.Limits.{Limits}
+use Rattle.answers.specs.declared.answer.Phase.{Phase}
+use Rattle.answers.specs.declared.answer.Phase.the-variants.{Vapour, Liquid, Supercritical}
+use Rattle.answers.specs.declared.answer.State.{State}
+use Rattle.answers.specs.declared.answer.Answer.{Answer}
+use Rattle.answers.specs.declared.answer.Answer.the-variants as answer
 use Rattle.pressure_door.specs.PressureDoor.{pressureDoor}
 use Rattle.density_door.specs.DensityDoor.{densityDoor}
 

@@ -1,23 +1,23 @@
 // The density door: the state at a temperature and a density (document 01, "The doors, step by step"). A step of the
 // definition and a function of the same shape.
 ghost use mathlib.Core.Path.{_≡_};
-ghost use Rattle.refusals.specs.Limits.{document01};
+ghost use Rattle.limits.specs.Limits.{document01};
 ghost use Rattle.equation.specs.Equation.{of1996};
 ghost use Rattle.density_door.specs.DensityDoor.{inPhase, below, within, densityDoor};
+use answers::answer::Answer;
+use answers::answer::Phase;
+use answers::answer::refusal;
+use answers::answer::settle;
+use checks::check::Check;
+use checks::check::check_inputs;
 use densities::density::liquid_density;
 use densities::density::vapour_density;
 use isotherm::isotherm::at_temperature;
+use limits::limits::document_01;
+use limits::limits::is_outside;
 use numeric::constant::span_wagner;
 use numeric::working::Worked;
 use pressure::pressure::pressure_on;
-use refusals::answer::Answer;
-use refusals::answer::Phase;
-use refusals::answer::settle;
-use refusals::check::Check;
-use refusals::check::check_inputs;
-use refusals::check::refusal;
-use refusals::limits::document_01;
-use refusals::limits::is_outside;
 use state::state::state_on;
 
 fn in_phase(phase: Phase, t: f64, rho: f64) -> Answer

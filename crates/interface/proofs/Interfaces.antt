@@ -6,8 +6,8 @@ use native.Mathlib.Omega.{arith}
 use lib.ListN.{length, set}
 use lib.Ieee.{Float}
 use borrow.Author.Tests.{lt-ltb, le-ltb}
-use Rattle.refusals.specs.declared.answer.State.{State}
-use Rattle.refusals.specs.declared.answer.Answer.{Answer}
+use Rattle.answers.specs.declared.answer.State.{State}
+use Rattle.answers.specs.declared.answer.Answer.{Answer}
 use Rattle.report.specs.Report.{ReportIs}
 use Rattle.report.specs.declared.report.Written.{Written}
 use Rattle.interface.specs.Interface.{laid, told, held, Handed, ReportedIn}

@@ -6,9 +6,9 @@ use mathlib.Core.List.{List, [], _∷_, _++_}
 use lib.Dec.{ltb}
 use lib.ListN.{length, drop}
 use lib.Ieee.{Float}
-use Rattle.refusals.specs.declared.answer.Phase.{Phase}
-use Rattle.refusals.specs.declared.answer.State.{State}
-use Rattle.refusals.specs.declared.answer.Answer.{Answer}
+use Rattle.answers.specs.declared.answer.Phase.{Phase}
+use Rattle.answers.specs.declared.answer.State.{State}
+use Rattle.answers.specs.declared.answer.Answer.{Answer}
 use Rattle.writing.specs.Writing.{over}
 
 -- vapour, liquid, supercritical: above every refusal number

@@ -3,7 +3,7 @@
 ghost use mathlib.Core.Path.{_≡_};
 ghost use Prim.Native.Nat.{_≤_};
 ghost use lib.ListN.{length};
-ghost use Rattle.refusals.specs.Limits.{document01};
+ghost use Rattle.limits.specs.Limits.{document01};
 ghost use Rattle.equation.specs.Equation.{of1996};
 ghost use Rattle.pressure_door.specs.PressureDoor.{pressureDoor};
 ghost use Rattle.density_door.specs.DensityDoor.{densityDoor};
@@ -12,9 +12,9 @@ ghost use Rattle.score.specs.Score.{report};
 ghost use Rattle.interface.specs.Interface.{phaseNumber, laid, Handed, ReportedIn};
 use density_door::density_door::from_density;
 use pressure_door::pressure_door::from_pressure;
-use refusals::answer::Answer;
-use refusals::answer::Phase;
-use refusals::answer::State;
+use answers::answer::Answer;
+use answers::answer::Phase;
+use answers::answer::State;
 use report::report::Written;
 use score::score::score;
 

@@ -1,10 +1,10 @@
 // 004's Table 35, its isobars, against the pressure door at the printed temperature and pressure (document 01, end of
 // "Readings on each side of a boundary"; docs/READING.md, D).
+use answers::answer::Answer;
+use answers::answer::State;
+use limits::limits::document_01;
+use limits::limits::is_outside;
 use pressure_door::pressure_door::from_pressure;
-use refusals::answer::Answer;
-use refusals::answer::State;
-use refusals::limits::document_01;
-use refusals::limits::is_outside;
 use tables::decimal::Cell;
 use tables::decimal::unit;
 use tables::decimal::value;

@@ -12,8 +12,8 @@ use Rattle.numeric.proofs.Workings.{checked-number}
 use Rattle.roots.specs.Formula.{num, _⊗_, value, work}
 use Rattle.roots.proofs.Formulas.{once}
 use Rattle.roots.proofs.Orders.{mul-unsigned, unsigned-finite}
-use Rattle.refusals.specs.Limits.{document01}
-use Rattle.refusals.specs.declared.limits.Limits.{Limits}
+use Rattle.limits.specs.Limits.{document01}
+use Rattle.limits.specs.declared.limits.Limits.{Limits}
 
 -- a product as code works it
 pub product : (a d : Float) (w : Worked) → w ≡ checked (mul binary64 a d) → work (num a ⊗ num d) ≡ w

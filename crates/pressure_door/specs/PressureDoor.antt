@@ -1,14 +1,14 @@
 -- The pressure door, from a temperature and a pressure, step by step (document 01), over any equation and any limits. Definitions only.
 use lib.Ieee.{Float, eq, lt, le}
 use Rattle.roots.specs.Formula.{num, _⊗_, work}
-use Rattle.refusals.specs.Answer.{thenAnswer, either}
-use Rattle.refusals.specs.Check.{checks, passed}
+use Rattle.answers.specs.Answer.{passed, thenAnswer, either}
+use Rattle.checks.specs.Check.{checks}
 use Rattle.equation.specs.Equation.{Equation}
 use Rattle.pressure_door.specs.Search.{searched}
-use Rattle.refusals.specs.declared.limits.Limits.{Limits}
-use Rattle.refusals.specs.declared.answer.Phase.the-variants.{Vapour, Liquid, Supercritical}
-use Rattle.refusals.specs.declared.answer.Answer.{Answer}
-use Rattle.refusals.specs.declared.answer.Answer.the-variants as answer
+use Rattle.limits.specs.declared.limits.Limits.{Limits}
+use Rattle.answers.specs.declared.answer.Phase.the-variants.{Vapour, Liquid, Supercritical}
+use Rattle.answers.specs.declared.answer.Answer.{Answer}
+use Rattle.answers.specs.declared.answer.Answer.the-variants as answer
 
 module _ (E : Equation) (L : Limits) where
   -- "vapour, range 0.05 to 1.01 times saturated vapour density"

@@ -6,10 +6,10 @@ use Rattle.numeric.specs.declared.working.Worked.{Worked}
 use Rattle.halving.specs.declared.halving.Crossing.{Crossing}
 use Rattle.halving.specs.declared.halving.Crossing.the-variants.{At, Nowhere, Broke}
 use Rattle.state.specs.declared.state.Stated.{Stated}
-use Rattle.refusals.specs.Answer.{settled}
-use Rattle.refusals.specs.declared.answer.Phase.{Phase}
-use Rattle.refusals.specs.declared.answer.Answer.{Answer}
-use Rattle.refusals.specs.declared.answer.Answer.the-variants as answer
+use Rattle.answers.specs.Answer.{settled}
+use Rattle.answers.specs.declared.answer.Phase.{Phase}
+use Rattle.answers.specs.declared.answer.Answer.{Answer}
+use Rattle.answers.specs.declared.answer.Answer.the-variants as answer
 
 -- the pressure at the density with the bits b
 abbrev pub figure : (Float → Worked) → Figure

@@ -1,21 +1,21 @@
 // The pressure door: the state at a temperature and a pressure (document 01, "The doors, step by step"). A step of the
 // definition and a function of the same shape.
 ghost use mathlib.Core.Path.{_≡_};
-ghost use Rattle.refusals.specs.Limits.{document01};
+ghost use Rattle.limits.specs.Limits.{document01};
 ghost use Rattle.equation.specs.Equation.{of1996};
 ghost use Rattle.pressure_door.specs.PressureDoor.{vapour, liquid, beneath, entered, pressureDoor};
 use crate::search::search_at;
+use answers::answer::Answer;
+use answers::answer::Phase;
+use answers::answer::refusal;
+use checks::check::Check;
+use checks::check::check_inputs;
 use densities::density::liquid_density;
 use densities::density::vapour_density;
+use limits::limits::document_01;
 use numeric::constant::span_wagner;
 use numeric::working::Worked;
 use numeric::working::checked;
-use refusals::answer::Answer;
-use refusals::answer::Phase;
-use refusals::check::Check;
-use refusals::check::check_inputs;
-use refusals::check::refusal;
-use refusals::limits::document_01;
 use saturation::saturation::vapour_pressure;
 
 fn as_vapour(t: f64, p: f64) -> Answer

@@ -9,14 +9,14 @@ ghost use Rattle.numeric.specs.Number.{nonneg};
 ghost use Rattle.pressure.specs.Pressure.{pressureOn, pressure};
 ghost use Rattle.state.specs.State.{stateOn, state};
 ghost use Rattle.pressure_door.specs.Search.{figure, searched};
+use answers::answer::Answer;
+use answers::answer::Phase;
+use answers::answer::settle;
 use halving::halving::Crossing;
 use isotherm::isotherm::Isotherm;
 use isotherm::isotherm::at_temperature;
 use numeric::working::Worked;
 use pressure::pressure::pressure_on;
-use refusals::answer::Answer;
-use refusals::answer::Phase;
-use refusals::answer::settle;
 use state::state::state_on;
 
 // From lo, where the pressure is not above p, to hi, where it is above.

@@ -1,6 +1,6 @@
 // The readings of document 01 that are run, exponentials and roots, and states by the two doors, whose bits were worked
 // elsewhere (crosscheck/numerics.py and doors.py): one a line, numbers as the sixteen hexadecimal digits of their bits.
-mod answers;
+mod doors;
 
 use exponential::exponential::exponential;
 use exponents::exponent::Exponent;
@@ -124,5 +124,5 @@ fn main() {
     roots_of(1.4042);
     roots_of(17.77);
     roots_of(1000.0);
-    answers::run();
+    doors::run();
 }

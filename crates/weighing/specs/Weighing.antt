@@ -8,8 +8,8 @@ use Rattle.text.specs.declared.field.Field.{Field}
 use Rattle.lines.specs.declared.line.Temperature.{Temperature}
 use Rattle.lines.specs.declared.line.Reading.{Reading}
 use Rattle.lines.specs.declared.line.Line.{Line}
-use Rattle.refusals.specs.Limits.{document01}
-use Rattle.refusals.specs.declared.answer.Answer.{Answer}
+use Rattle.limits.specs.Limits.{document01}
+use Rattle.answers.specs.declared.answer.Answer.{Answer}
 use Rattle.equation.specs.Equation.{of1996}
 use Rattle.pressure_door.specs.PressureDoor.{pressureDoor}
 use Rattle.density_door.specs.DensityDoor.{densityDoor}

@@ -1,9 +1,10 @@
 -- The checks, and the steps after them. Assumes nothing.
 use mathlib.Core.Path.{_≡_, refl, sym, ap, _∙_}
-use Rattle.refusals.specs.Check.{checks, passed, refusal}
-use Rattle.refusals.specs.Limits.{document01}
-use Rattle.refusals.specs.declared.check.Check.{Check}
-use Rattle.refusals.specs.declared.limits.Limits.{Limits}
+use Rattle.answers.specs.Answer.{passed, refusal}
+use Rattle.checks.specs.Check.{checks}
+use Rattle.limits.specs.Limits.{document01}
+use Rattle.checks.specs.declared.check.Check.{Check}
+use Rattle.limits.specs.declared.limits.Limits.{Limits}
 use Rattle.equation.specs.Equation.{of1996}
 use Rattle.density_door.specs.DensityDoor.{within, densityDoor}
 use borrow.Author.Needs.{needs}

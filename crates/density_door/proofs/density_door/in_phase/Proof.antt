@@ -3,9 +3,9 @@ use mathlib.Core.Path.{_≡_, refl, sym, ap, subst, _∙_}
 use Rattle.isotherm.specs.declared.isotherm.Isotherm.{Isotherm}
 use Rattle.pressure.specs.Pressure.{pressureOn, pressure}
 use Rattle.state.specs.State.{stateOn, state}
-use Rattle.refusals.specs.Answer.{settled}
-use Rattle.refusals.specs.Limits.{outside}
-use Rattle.refusals.specs.declared.limits.Limits.{Limits}
+use Rattle.answers.specs.Answer.{settled}
+use Rattle.limits.specs.Limits.{outside}
+use Rattle.limits.specs.declared.limits.Limits.{Limits}
 use Rattle.equation.specs.Equation.{of1996}
 use Rattle.density_door.specs.DensityDoor.{inPhase}
 use borrow.Author.Needs.{needs}

@@ -8,7 +8,7 @@ use Rattle.numeric.proofs.Numbers.{no-nan, nonneg-no-nan}
 use Rattle.halving.proofs.Halvings.{answer}
 use Rattle.pressure.specs.Pressure.{pressureOn}
 use Rattle.state.specs.State.{stateOn}
-use Rattle.refusals.specs.Answer.{settled}
+use Rattle.answers.specs.Answer.{settled}
 use Rattle.pressure_door.specs.Search.{figure, found, searched}
 use Rattle.pressure_door.proofs.Searches.{bits-below}
 use borrow.Author.Needs.{needs}

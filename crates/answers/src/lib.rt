@@ -1,0 +1,2 @@
+// What a door answers.
+pub mod answer;

@@ -1,0 +1,2 @@
+// The checks on what a door is asked.
+pub mod check;

@@ -1,0 +1,2 @@
+// The limits that document 01 sets.
+pub mod limits;

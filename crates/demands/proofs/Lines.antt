@@ -12,17 +12,9 @@ use Rattle.lines.specs.Line.{temperatureOf, readingOf, lineOf}
 use Rattle.lines.specs.declared.cylinder.Kind.{Kind}
 use Rattle.lines.specs.declared.cylinder.Cylinder.{Cylinder}
 use Rattle.lines.specs.declared.line.Temperature.{Temperature}
-<<<<<<< HEAD
 use Rattle.limits.specs.Limits.{document01}
 use Rattle.answers.specs.declared.answer.State.{State}
 use Rattle.answers.specs.declared.answer.Answer.{Answer}
-=======
-use Rattle.lines.specs.declared.line.Reading.{Reading}
-use Rattle.lines.specs.declared.line.Line.{Line}
-use Rattle.answers.specs.declared.answer.State.{State}
-use Rattle.answers.specs.declared.answer.Answer.{Answer}
-use Rattle.limits.specs.Limits.{document01}
->>>>>>> 7eebfe8 (limits, checks and answers: a crate each, in place of refusals)
 use Rattle.equation.specs.Equation.{of1996}
 use Rattle.pressure_door.specs.PressureDoor.{pressureDoor}
 use Rattle.density_door.specs.DensityDoor.{densityDoor}

@@ -6,18 +6,11 @@ use Rattle.numeric.specs.Number.{whole, decimal, fraction}
 use Rattle.numeric.specs.declared.working.Worked.{Worked}
 use Rattle.roots.specs.Readings as numerics
 use Rattle.roots.proofs.Readings as numerics-read
-<<<<<<< HEAD
 use Rattle.limits.specs.Limits.{document01}
 use Rattle.checks.specs.Check.{checks}
 use Rattle.pressure_door.specs.PressureDoor.{pressureDoor}
 use Rattle.weighing.specs.Weighing.{weighed, filled}
 use Rattle.demands.specs.Readings.{Read, number, Starred, at, of-checks, of-lines, readings}
-=======
-use Rattle.limits.specs.Limits.{document01}
-use Rattle.checks.specs.Check.{checks}
-use Rattle.weighing.specs.Weighing.{weighed, read, filled}
-use Rattle.demands.specs.Readings.{Read, number, Starred, at, of-doors, of-lines, readings}
->>>>>>> 7eebfe8 (limits, checks and answers: a crate each, in place of refusals)
 
 abbrev worked : List Starred → List Read
 worked rs = map (λ (r : Starred). r .worked) rs

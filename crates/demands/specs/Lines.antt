@@ -6,18 +6,9 @@ use Rattle.numeric.specs.Number.{whole}
 use Rattle.text.specs.declared.field.Field.{Field}
 use Rattle.lines.specs.declared.cylinder.Kind.{Kind}
 use Rattle.lines.specs.declared.cylinder.Cylinder.{Cylinder}
-<<<<<<< HEAD
 use Rattle.limits.specs.Limits.{document01}
 use Rattle.answers.specs.declared.answer.State.{State}
 use Rattle.answers.specs.declared.answer.Answer.{Answer}
-=======
-use Rattle.lines.specs.declared.line.Temperature.{Temperature}
-use Rattle.lines.specs.declared.line.Reading.{Reading}
-use Rattle.lines.specs.declared.line.Line.{Line}
-use Rattle.limits.specs.Limits.{document01}
-use Rattle.answers.specs.declared.answer.State.{State}
-use Rattle.answers.specs.declared.answer.Answer.{Answer}
->>>>>>> 7eebfe8 (limits, checks and answers: a crate each, in place of refusals)
 use Rattle.equation.specs.Equation.{of1996}
 use Rattle.pressure_door.specs.PressureDoor.{pressureDoor}
 use Rattle.density_door.specs.DensityDoor.{densityDoor}

@@ -5,17 +5,10 @@ use lib.Ieee.{binary64, div}
 use Rattle.numeric.specs.Number.{whole}
 use Rattle.numeric.specs.declared.working.Worked.{Worked}
 use Rattle.roots.specs.Readings as numerics
-<<<<<<< HEAD
 use Rattle.limits.specs.Limits.{document01}
 use Rattle.checks.specs.Check.{checks}
 use Rattle.checks.specs.declared.check.Check.{Check}
 use Rattle.checks.specs.declared.check.Check.the-variants.{Passed}
-=======
-use Rattle.limits.specs.Limits.{document01}
-use Rattle.checks.specs.Check.{checks}
-use Rattle.checks.specs.declared.check.Check.{Check}
-use Rattle.checks.specs.declared.check.Check.the-variants.{Passed, No}
->>>>>>> 7eebfe8 (limits, checks and answers: a crate each, in place of refusals)
 use Rattle.text.specs.declared.field.Field.the-variants.{Number}
 use Rattle.lines.specs.Line.{lineOf}
 use Rattle.lines.specs.declared.cylinder.Cylinder.{Cylinder}

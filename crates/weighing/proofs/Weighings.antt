@@ -11,13 +11,8 @@ use Rattle.numeric.specs.Number.{whole}
 use Rattle.whole.specs.Whole.{wholeBelow}
 use Rattle.whole.specs.declared.whole.Below.{Below}
 use Rattle.report.specs.declared.report.Weighed.{Weighed}
-<<<<<<< HEAD
 use Rattle.lines.specs.declared.line.Reading.{Reading}
 use Rattle.weighing.specs.Weighing.{isVolume, milligrams, mass, asked, answered, filled}
-=======
-use Rattle.answers.specs.declared.answer.Answer.{Answer}
-use Rattle.weighing.specs.Weighing.{isVolume, milligrams, mass, filled, passedOn}
->>>>>>> 7eebfe8 (limits, checks and answers: a crate each, in place of refusals)
 
 pub in-float : (v : ℕ) → v ≤ 1_000_000 → T (inFloat binary64 (pos v))
 unfolding inFloat

@@ -8,15 +8,7 @@ use Rattle.text.specs.declared.field.Field.{Field}
 use Rattle.lines.specs.declared.line.Temperature.{Temperature}
 use Rattle.lines.specs.declared.line.Reading.{Reading}
 use Rattle.lines.specs.declared.line.Line.{Line}
-<<<<<<< HEAD
 use Rattle.answers.specs.declared.answer.Answer.{Answer}
-=======
-use Rattle.answers.specs.declared.answer.Answer.{Answer}
-use Rattle.limits.specs.Limits.{document01}
-use Rattle.equation.specs.Equation.{of1996}
-use Rattle.pressure_door.specs.PressureDoor.{pressureDoor}
-use Rattle.density_door.specs.DensityDoor.{densityDoor}
->>>>>>> 7eebfe8 (limits, checks and answers: a crate each, in place of refusals)
 use Rattle.whole.specs.Whole.{wholeBelow}
 use Rattle.whole.specs.declared.whole.Below.{Below}
 use Rattle.whole.proofs.Wholes.{is-at-or-below}

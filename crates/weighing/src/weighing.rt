@@ -2,17 +2,13 @@
 // below it" (document 01).
 ghost use mathlib.Core.Path.{_≡_};
 ghost use Prim.Native.Nat.{_≤_};
-<<<<<<< HEAD
 ghost use Rattle.weighing.specs.Weighing.{isVolume, isBlank, milligrams, asked, handedOn, filled, weighed};
-=======
-ghost use Rattle.weighing.specs.Weighing.{isVolume, milligrams, filled, read, weighed};
-use answers::answer::Answer;
->>>>>>> 7eebfe8 (limits, checks and answers: a crate each, in place of refusals)
 use density_door::density_door::from_density;
 use lines::line::Line;
 use lines::line::Reading;
 use lines::line::Temperature;
 use pressure_door::pressure_door::from_pressure;
+use answers::answer::Answer;
 use report::report::Weighed;
 use text::field::Field;
 use whole::whole::Below;

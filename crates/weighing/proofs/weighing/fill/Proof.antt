@@ -2,13 +2,8 @@
 use mathlib.Core.Path.{sym, ap, _∙_}
 use borrow.Author.Needs.{needs}
 use borrow.Author.Tests.{not-true, not-false}
-<<<<<<< HEAD
 use Rattle.answers.specs.declared.answer.Answer.{Answer}
 use Rattle.weighing.specs.Weighing.{handedOn, answered}
-=======
-use Rattle.answers.specs.declared.answer.Answer.{Answer}
-use Rattle.weighing.specs.Weighing.{passedOn}
->>>>>>> 7eebfe8 (limits, checks and answers: a crate each, in place of refusals)
 use Rattle.weighing.proofs.Weighings.{volume-most, out-of-range, in-range}
 use Rattle.weighing.proofs.weighing.fill.Statement.{statement}
 use Rattle.weighing.proofs.weighing.fill.Tie as tie

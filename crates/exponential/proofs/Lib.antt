@@ -1,3 +1,5 @@
 pub mod Tables
 pub mod Exponentials
+pub mod Halves
+pub mod Decays
 pub mod Unique

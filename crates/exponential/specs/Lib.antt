@@ -1,1 +1,2 @@
 pub mod Exponential
+pub mod Decay

@@ -1,27 +1,81 @@
 // The exponential (document 01, "How a number is worked").
 ghost use mathlib.Core.Path.{_≡_};
-ghost use Rattle.exponential.specs.Exponential.{exponential, falling};
+ghost use lib.Dec.{T};
+ghost use lib.Ieee.{le};
+ghost use Rattle.numeric.specs.Number.{decimal, whole};
+ghost use Rattle.numeric.specs.Working.{checked};
+ghost use Rattle.exponential.specs.Exponential.{exponential, falling, series, squared};
+ghost use Rattle.exponential.specs.Decay.{ordinary};
 use numeric::working::Worked;
 use numeric::working::checked;
 use numeric::working::is_finite;
 
-// eˣ for x from −700 to 0.
-fn falling(x: f64) -> Worked
-    ensures { λ r. ⌜ r ≡ falling x ⌝ }
+// "for k = 14 down to 1, s = 1 − (y/k)·s"
+fn series(y: f64) -> f64
+    ensures { λ r. ⌜ checked r ≡ series (checked y) 14 (checked (whole 1)) ⌝ }
 {
-    let y = (-x) / 1024.0;
     let mut s = 1.0;
     let mut k = 14u32;
     while 0 < k {
         s = 1.0 - (y / (k as f64)) * s;
         k -= 1;
     }
+    s
+}
+
+// The same with six divisions: for such a y each y/(k·2ᵗ) is in the normal range, and is y/k times 2⁻ᵗ bit for bit (`halved`, proofs/Halves.antt).
+pub(crate) fn eased(y: f64) -> f64
+    requires { ⌜ T (le (decimal 1 250) y) × T (le y (whole 1)) ⌝ }
+    ensures { λ r. ⌜ checked r ≡ series (checked y) 14 (checked (whole 1)) ⌝ }
+{
+    let third = y / 3.0;
+    let fifth = y / 5.0;
+    let seventh = y / 7.0;
+    let s = 1.0 - (seventh * 0.5) * 1.0;
+    let s = 1.0 - (y / 13.0) * s;
+    let s = 1.0 - (third * 0.25) * s;
+    let s = 1.0 - (y / 11.0) * s;
+    let s = 1.0 - (fifth * 0.5) * s;
+    let s = 1.0 - (y / 9.0) * s;
+    let s = 1.0 - (y / 8.0) * s;
+    let s = 1.0 - seventh * s;
+    let s = 1.0 - (third * 0.5) * s;
+    let s = 1.0 - fifth * s;
+    let s = 1.0 - (y / 4.0) * s;
+    let s = 1.0 - third * s;
+    let s = 1.0 - (y / 2.0) * s;
+    1.0 - (y / 1.0) * s
+}
+
+// "then s = s·s ten times"
+pub(crate) fn squared(s: f64) -> f64
+    ensures { λ r. ⌜ checked r ≡ squared 10 (checked s) ⌝ }
+{
+    let mut s = s;
     let mut n = 10u32;
     while 0 < n {
         s = s * s;
         n -= 1;
     }
-    checked(s)
+    s
+}
+
+// x from 10⁻²⁰⁰ to 700, where six divisions do for e⁻ˣ.
+pub(crate) fn ordinary(x: f64) -> bool
+    ensures { λ r. ⌜ r ≡ ordinary x ⌝ }
+{
+    if 1e-200 <= x { x <= 700.0 } else { false }
+}
+
+// eˣ for x from −700 to 0.
+fn falling(x: f64) -> Worked
+    ensures { λ r. ⌜ r ≡ falling x ⌝ }
+{
+    let y = (-x) / 1024.0;
+    if ordinary(-x) {
+        return checked(squared(eased(y)));
+    }
+    checked(squared(series(y)))
 }
 
 pub fn exponential(x: f64) -> Worked

@@ -1,2 +1,3 @@
-// The exponential (document 01, "How a number is worked").
+// The exponential (document 01, "How a number is worked"), and ten of it side by side.
+pub mod decay;
 pub mod exponential;

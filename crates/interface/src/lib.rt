@@ -10,11 +10,11 @@ ghost use Rattle.density_door.specs.DensityDoor.{densityDoor};
 ghost use Rattle.sheet.specs.Form.{inForm};
 ghost use Rattle.score.specs.Score.{report};
 ghost use Rattle.interface.specs.Interface.{phaseNumber, laid, Handed, ReportedIn};
-use density_door::density_door::from_density;
-use pressure_door::pressure_door::from_pressure;
 use answers::answer::Answer;
 use answers::answer::Phase;
 use answers::answer::State;
+use density_door::density_door::from_density;
+use pressure_door::pressure_door::from_pressure;
 use report::report::Written;
 use score::score::score;
 

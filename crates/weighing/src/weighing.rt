@@ -3,12 +3,12 @@
 ghost use mathlib.Core.Path.{_≡_};
 ghost use Prim.Native.Nat.{_≤_};
 ghost use Rattle.weighing.specs.Weighing.{isVolume, isBlank, milligrams, asked, handedOn, filled, weighed};
+use answers::answer::Answer;
 use density_door::density_door::from_density;
 use lines::line::Line;
 use lines::line::Reading;
 use lines::line::Temperature;
 use pressure_door::pressure_door::from_pressure;
-use answers::answer::Answer;
 use report::report::Weighed;
 use text::field::Field;
 use whole::whole::Below;

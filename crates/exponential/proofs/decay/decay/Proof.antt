@@ -2,8 +2,9 @@
 use mathlib.Core.Path.{ap, _∙_}
 use borrow.Author.Needs.{needs}
 use Rattle.numeric.specs.Working.{plain}
-use Rattle.residual.proofs.term.decay.Statement.{statement}
-use Rattle.residual.proofs.term.decay.Tie as tie
+use Rattle.exponential.specs.Decay.{decay}
+use Rattle.exponential.proofs.decay.decay.Statement.{statement}
+use Rattle.exponential.proofs.decay.decay.Tie as tie
 
 exponential-requires : tie.Need-exponential-requires
 exponential-requires c κs = search needs
@@ -12,6 +13,7 @@ plain-requires : tie.Need-plain-requires
 plain-requires c κs = search needs
 
 returns : tie.Need-returns
+unfolding decay
 returns c = c .plain .ensures ∙ ap plain (c .before .exponential .ensures)
 
 pub decay-spec : {M : Type 1} → statement M

@@ -1,0 +1,38 @@
+-- e⁻ˣ for a formula that goes on in plain f64. Definitions only.
+use mathlib.Core.Bool.{Bool, true, _&&_}
+use mathlib.Core.List.{List, [], _∷_}
+use lib.Ieee as Ieee
+use lib.Ieee.{Float}
+use Rattle.numeric.specs.Number.{decimal, whole}
+use Rattle.numeric.specs.Working.{plain}
+use Rattle.exponential.specs.Exponential.{exponential}
+use Rattle.exponential.specs.declared.decay.Ten.{Ten}
+
+unfoldable pub decay : Float → Float
+decay x = plain (exponential (Ieee.neg x))
+
+-- x from 10⁻²⁰⁰ to 700, where the exponential of −x is that of "x ≤ 0", and y/k of a y = x/1024 is in the normal range for each k
+unfoldable pub ordinary : Float → Bool
+ordinary x = Ieee.le (decimal 1 200) x && Ieee.le x (whole 700)
+
+-- ten numbers at once
+unfoldable pub each : (Float → Float) → Ten → Ten
+each f x = record {
+  a = f (x .a);
+  b = f (x .b);
+  c = f (x .c);
+  d = f (x .d);
+  e = f (x .e);
+  f = f (x .f);
+  g = f (x .g);
+  h = f (x .h);
+  i = f (x .i);
+  j = f (x .j);
+}
+
+abbrev pub numbers : Ten → List Float
+numbers x = x .a ∷ x .b ∷ x .c ∷ x .d ∷ x .e ∷ x .f ∷ x .g ∷ x .h ∷ x .i ∷ x .j ∷ []
+
+unfoldable pub allOrdinary : List Float → Bool
+allOrdinary [] = true
+allOrdinary (x ∷ l) = ordinary x && allOrdinary l

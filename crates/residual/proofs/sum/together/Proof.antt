@@ -1,5 +1,5 @@
 -- Each step is the definition's. Assumes nothing.
-use mathlib.Core.Path.{_≡_, sym, _∙_}
+use mathlib.Core.Path.{_≡_, refl, sym, _∙_}
 use Rattle.derivatives.specs.Derivative.{Delta, DeltaDelta, Tau, TauTau, DeltaTau}
 use Rattle.residual.specs.Sum.{together}
 use Rattle.residual.proofs.Totals.{all-summed}
@@ -19,7 +19,7 @@ enum-told c = search needs
 returns : tie.Need-returns
 unfolding together
 returns c =
-    simp (together, sym (c .before .before .checked .ensures) ∙ c .enum-told .given .1)
+    rw (sym (c .before .before .checked .ensures) ∙ c .enum-told .given .1) refl
 
 checked-requires-2 : tie.Need-checked-requires-2
 checked-requires-2 c κs = search needs
@@ -34,7 +34,7 @@ returns-2 : tie.Need-returns-2
 unfolding together
 returns-2 c =
     let l0 = c .before .before .before .before in
-    simp (together, sym (l0 .before .before .checked .ensures) ∙ l0 .d .given .1, sym (c .before .before .checked2 .ensures) ∙ c .enum-told2 .given .1)
+    rw (sym (l0 .before .before .checked .ensures) ∙ l0 .d .given .1, sym (c .before .before .checked2 .ensures) ∙ c .enum-told2 .given .1) refl
 
 checked-requires-3 : tie.Need-checked-requires-3
 checked-requires-3 c κs = search needs
@@ -50,7 +50,7 @@ unfolding together
 returns-3 c =
     let l1 = c .before .before .before .before in
     let l0 = l1 .before .before .before .before in
-    simp (together, sym (l0 .before .before .checked .ensures) ∙ l0 .d .given .1, sym (l1 .before .before .checked2 .ensures) ∙ l1 .dd .given .1, sym (c .before .before .checked3 .ensures) ∙ c .enum-told3 .given .1)
+    rw (sym (l0 .before .before .checked .ensures) ∙ l0 .d .given .1, sym (l1 .before .before .checked2 .ensures) ∙ l1 .dd .given .1, sym (c .before .before .checked3 .ensures) ∙ c .enum-told3 .given .1) refl
 
 checked-requires-4 : tie.Need-checked-requires-4
 checked-requires-4 c κs = search needs
@@ -67,7 +67,7 @@ returns-4 c =
     let l2 = c .before .before .before .before in
     let l1 = l2 .before .before .before .before in
     let l0 = l1 .before .before .before .before in
-    simp (together, sym (l0 .before .before .checked .ensures) ∙ l0 .d .given .1, sym (l1 .before .before .checked2 .ensures) ∙ l1 .dd .given .1, sym (l2 .before .before .checked3 .ensures) ∙ l2 .t .given .1, sym (c .before .before .checked4 .ensures) ∙ c .enum-told4 .given .1)
+    rw (sym (l0 .before .before .checked .ensures) ∙ l0 .d .given .1, sym (l1 .before .before .checked2 .ensures) ∙ l1 .dd .given .1, sym (l2 .before .before .checked3 .ensures) ∙ l2 .t .given .1, sym (c .before .before .checked4 .ensures) ∙ c .enum-told4 .given .1) refl
 
 checked-requires-5 : tie.Need-checked-requires-5
 checked-requires-5 c κs = search needs
@@ -85,7 +85,7 @@ returns-5 c =
     let l2 = l3 .before .before .before .before in
     let l1 = l2 .before .before .before .before in
     let l0 = l1 .before .before .before .before in
-    simp (together, sym (l0 .before .before .checked .ensures) ∙ l0 .d .given .1, sym (l1 .before .before .checked2 .ensures) ∙ l1 .dd .given .1, sym (l2 .before .before .checked3 .ensures) ∙ l2 .t .given .1, sym (l3 .before .before .checked4 .ensures) ∙ l3 .tt .given .1, sym (c .before .before .checked5 .ensures) ∙ c .enum-told5 .given .1)
+    rw (sym (l0 .before .before .checked .ensures) ∙ l0 .d .given .1, sym (l1 .before .before .checked2 .ensures) ∙ l1 .dd .given .1, sym (l2 .before .before .checked3 .ensures) ∙ l2 .t .given .1, sym (l3 .before .before .checked4 .ensures) ∙ l3 .tt .given .1, sym (c .before .before .checked5 .ensures) ∙ c .enum-told5 .given .1) refl
 
 returns-6 : tie.Need-returns-6
 returns-6 c =

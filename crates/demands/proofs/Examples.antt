@@ -1,7 +1,6 @@
 -- Document 01's sheets have the reports that it prints, by computation. Assumes nothing.
 use mathlib.Core.Path.{_≡_, refl}
-use mathlib.Core.List.{List, map}
-use Prim.Native.Nat.{ℕ}
+use mathlib.Core.List.{map}
 use lib.Ieee.{ofInt, round, div, lt}
 use Rattle.numeric.specs.Number.{whole, decimal, fraction}
 use Rattle.text.specs.Decimal as Decimal

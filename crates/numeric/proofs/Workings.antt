@@ -7,9 +7,8 @@ use lib.Dec.{T, eqb}
 use lib.Ieee as Ieee
 use lib.Ieee.{Float, nan, inf, fin, binary64, unlike}
 use lib.Ieee.Scale.{finite}
-use Rattle.numeric.specs.declared.working.Worked.{Worked}
 use Rattle.numeric.specs.declared.working.Worked.the-variants.{Number, Failed}
-use Rattle.numeric.specs.Working.{checked, both, _+ᵂ_, _-ᵂ_, _*ᵂ_, _/ᵂ_}
+use Rattle.numeric.specs.Working.{checked, _+ᵂ_, _-ᵂ_, _*ᵂ_, _/ᵂ_}
 
 -- ---- the test
 pub checked-finite : (x : Float) → finite x ≡ true → Number x ≡ checked x

@@ -3,7 +3,6 @@ use mathlib.Core.Path.{_≡_, sym, subst, _∙_}
 use lib.Dec.{T}
 use lib.Ieee.{Float, binary64, mul, fits, ofInt, round}
 use lib.Ieee.Fits.{mul-fits}
-use lib.Ieee.Scale.{finite}
 use Rattle.numeric.specs.Number.{whole, decimal, fraction, nonneg}
 use Rattle.numeric.specs.Working.{checked}
 use Rattle.numeric.specs.declared.working.Worked.{Worked}

@@ -1,5 +1,4 @@
 -- The search for a density: "Halve with the worked pressure as the figure and the asked one as the target. Then work the state at the found density". Definitions only.
-use Prim.Native.Nat.{ℕ}
 use lib.Ieee.{Float, binary64, ofBits, toBits}
 use Rattle.halving.specs.Halving.{Figure, halve}
 use Rattle.numeric.specs.declared.working.Worked.{Worked}

@@ -1,6 +1,6 @@
 -- What fails with the temperature: the quarter root, which fails where τ does, stands in the second row, so each sum fails with it. Assumes nothing.
-use mathlib.Core.Path.{_≡_, refl, sym, ap, _∙_}
-use mathlib.Core.List.{List, [], _∷_, _++_}
+use mathlib.Core.Path.{_≡_, refl, _∙_}
+use mathlib.Core.List.{List, [], _∷_}
 use lib.ListN.{getD}
 use lib.Ieee.{Float, nan, ofInt}
 use Rattle.numeric.specs.Number.{whole}
@@ -8,15 +8,14 @@ use Rattle.powers.specs.Power.{_^ᵂ_}
 use Rattle.numeric.specs.Working.{checked, _+ᵂ_, _*ᵂ_}
 use Rattle.numeric.specs.declared.working.Worked.{Worked}
 use Rattle.numeric.specs.declared.working.Worked.the-variants.{Number, Failed}
-use Rattle.roots.specs.Formula.{_⊗_, value, work}
+use Rattle.roots.specs.Formula.{value, work}
 use Rattle.roots.proofs.Formulas.{once}
 use Rattle.derivatives.specs.Derivative.{Derivative}
-use Rattle.rows.specs.Row.{polynomials, exponentials, gaussians}
+use Rattle.rows.specs.Row.{polynomials}
 use Rattle.isotherm.specs.Isotherm.{quarterOf, tauPower, tauPowers, quarters, isotherm}
 use Rattle.isotherm.specs.declared.isotherm.Isotherm.{Isotherm}
-use Rattle.residual.specs.Term.{polynomialTerm, polynomialBracket}
+use Rattle.residual.specs.Term.{polynomialTerm}
 use Rattle.residual.specs.Sum.{onto, total, polynomialFigures, figures, residual}
-use Rattle.residual.proofs.Figures.{no-polynomial}
 
 times-failed : (v : Worked) → v *ᵂ Failed ≡ Failed
 unfolding _*ᵂ_

@@ -1,8 +1,8 @@
 -- A row's figure as code works it, from the arrays at the row's place, is the definition's. Assumes nothing.
 use mathlib.Core.Path.{_≡_, refl, sym, ap, _∙_}
-use mathlib.Core.Bool.{Bool, true, false, _&&_}
+use mathlib.Core.Bool.{Bool, true, _&&_}
 use mathlib.Core.List.{List, [], _∷_}
-use Prim.Native.Nat.{ℕ, zero, suc, _+_, _-_, _<_, _≤_}
+use Prim.Native.Nat.{ℕ, zero, suc, _+_, _-_, _<_}
 use native.Mathlib.Nat.{not-suc-le-zero, le-of-suc-le-suc}
 use native.Mathlib.Omega.{arith}
 use lib.Dec.{T, ltb, ltb→lt}
@@ -11,10 +11,9 @@ use lib.Ieee.{Float, nan, binary64, mul}
 use lib.Ieee.Fits.{and-l, and-r}
 use Rattle.powers.specs.Power.{power, powers}
 use Rattle.numeric.specs.Working.{checked}
-use Rattle.numeric.specs.declared.working.Worked.{Worked}
 use Rattle.numeric.specs.declared.working.Worked.the-variants.{Failed}
 use Rattle.powers.proofs.Powers.{powers-at}
-use Rattle.roots.specs.Formula.{Formula, num, _⊗_, _^^_, value, work}
+use Rattle.roots.specs.Formula.{num, _⊗_, _^^_, value, work}
 use Rattle.roots.proofs.Formulas.{once}
 use Rattle.rows.specs.declared.row.Polynomial.{Polynomial}
 use Rattle.rows.specs.declared.row.Exponential.{Exponential}

@@ -1,16 +1,15 @@
 -- A formula worked in plain f64 and tested once at its end is the formula worked with a test of every number. Assumes nothing.
 use Prim.Native.Nat.{ℕ, zero, suc, _*_}
-use mathlib.Core.Path.{_≡_, refl, sym, ap, _∙_, subst}
+use mathlib.Core.Path.{_≡_, refl, sym, ap, _∙_}
 use mathlib.Core.Bool.{Bool, true, false, not, cond}
-use native.Mathlib.Omega.{arith}
-use lib.Dec.{T, ltb, eqb}
+use lib.Dec.{T, ltb}
 use lib.IntN.{ℤ}
 use lib.Ieee as Ieee
 use lib.Ieee.{Float, nan, inf, fin, binary64}
 use lib.Ieee.Scale.{finite}
 use Rattle.numeric.specs.Number.{whole}
 use Rattle.numeric.specs.Working.{checked, over, plain, then, pick, both, _+ᵂ_, _-ᵂ_, _*ᵂ_, _/ᵂ_}
-use Rattle.powers.specs.Power.{power, _^ᵂ_}
+use Rattle.powers.specs.Power.{_^ᵂ_}
 use Rattle.exponential.specs.Exponential.{exponential, falling, squared, series}
 use Rattle.roots.specs.Root as Root
 use Rattle.roots.specs.Root.{rootBits, rootOf, searched}

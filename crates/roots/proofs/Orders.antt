@@ -1,16 +1,15 @@
 -- Floats with no minus sign: their order is that of their bits, and a product and a whole power keep it. Assumes nothing.
 use mathlib.Core.Path.{_≡_, refl, sym, ap, _∙_, subst}
-use mathlib.Core.Logic.{_⊎_, inl, inr}
+use mathlib.Core.Logic.{inl, inr}
 use Prim.Native.Nat.{ℕ, zero, suc, _+_, _-_, _*_, _/_, _%_, _^_, _≤_, _<_}
 use native.Mathlib.Nat.{le-trans, le-of-eq, le-of-lt, mul-le-mul, mul-mul-mul-comm, mul-pos, mul-assoc, mul-le-mul-right, mul-le-mul-left, pow-succ', mod-eq-of-lt, eq-or-lt-of-le, mul-one, le-of-suc-le-suc, not-le-of-lt}
 use native.Mathlib.Omega.{arith}
 use mathlib.Core.Bool.{Bool, true, false, not, _&&_, _||_, cond, true≢false, Bool·beq}
-use lib.IntN.{ℤ}
-use lib.Dec.{T, leb, ltb, eqb, eqb→eq, ltb→lt, lt→ltb}
+use lib.Dec.{T, ltb, eqb, eqb→eq, ltb→lt}
 use lib.Pow.{pow-pos, pow-mono}
 use borrow.Author.Tests.{lt-leb, le-ltb, ne-eqb, ltb-true, ltb-false}
-use lib.Ieee.{Float, nan, inf, fin, Format, binary64, prec, emax, low, up, down, size, odd, units, round, ofFields, ofBits, ofInt, mul, le, lt}
-use lib.Ieee.Fits.{and-l, round-is, down-pos}
+use lib.Ieee.{Float, nan, inf, fin, Format, binary64, prec, emax, low, up, down, odd, units, round, ofFields, ofBits, ofInt, mul, le, lt}
+use lib.Ieee.Fits.{round-is}
 use lib.Ieee.Exact.{HasValue, odd-sign}
 use lib.Ieee.Order.{le-of-values, round-mono}
 use lib.Ieee.Positive.{num, den, den-pos, through}

@@ -1,6 +1,6 @@
 -- Every starred reading of the numerics is what document 01 says, by computation. Assumes nothing.
 use mathlib.Core.Path.{_≡_, refl}
-use mathlib.Core.List.{List, map}
+use mathlib.Core.List.{map}
 use lib.Ieee as Ieee
 use Rattle.numeric.specs.Number.{whole}
 use Rattle.numeric.specs.Working.{_-ᵂ_, _*ᵂ_, _/ᵂ_}
@@ -10,7 +10,6 @@ use Rattle.halving.specs.Halving.{halve, narrow, middle}
 use Rattle.roots.specs.Root.{root, searched, rootBits, powerAt}
 use Rattle.roots.specs.Formula.{work, absolute}
 use Rattle.roots.specs.Readings.{Starred, readings, sizes}
-use Rattle.numeric.specs.declared.working.Worked.{Worked}
 
 pub all-read : map (λ (r : Starred). r .worked) readings ≡ map (λ (r : Starred). r .reads) readings
 unfolding readings exponential falling series squared root searched rootBits powerAt halve narrow middle whole _-ᵂ_ _*ᵂ_ _/ᵂ_ _^ᵂ_ power Ieee.ofInt Ieee.eq Ieee.lt Ieee.le Ieee.neg Ieee.sub Ieee.mul Ieee.div Ieee.toBits Ieee.ofBits

@@ -1,13 +1,11 @@
 -- The k-th whole power rises with the bits, so that the place where it passes a target is the halving's answer, however it was come by. Assumes nothing.
-use mathlib.Core.Path.{_≡_, refl, sym, ap, _∙_, subst}
+use mathlib.Core.Path.{_≡_, refl, sym, ap, _∙_}
 use mathlib.Core.Bool.{Bool, true, false}
 use Prim.Native.Nat.{ℕ, zero, suc, _+_, _-_, _*_, _≤_, _<_}
-use native.Mathlib.Numerals.{add-one}
 use native.Mathlib.Omega.{arith}
 use borrow.Author.Tests.{le-ltb}
 use lib.Dec.{T}
-use lib.Ieee.{Float, nan, inf, fin, binary64, ofBits, toBits, ofInt, up, down, lt, eq, mul}
-use lib.Ieee.Bits.{is-true}
+use lib.Ieee.{Float, nan, inf, fin, binary64, ofBits, toBits, ofInt, up, down, lt, mul}
 use lib.Ieee.Scale.{finite}
 use Rattle.numeric.specs.declared.working.Worked.{Worked}
 use Rattle.numeric.specs.declared.working.Worked.the-variants.{Number, Failed}
@@ -19,9 +17,9 @@ use Rattle.halving.specs.Halving.{halve, NotAbove, Above, worthy, failed, secon
 use Rattle.roots.specs.Root.{powerAt, rootBits, rootOf, searched}
 use Rattle.exponential.proofs.Tables.{at}
 use Rattle.numeric.proofs.Numbers.{infinity}
-use Rattle.numeric.proofs.Workings.{checked-finite, checked-failed, checked-number}
+use Rattle.numeric.proofs.Workings.{checked-number}
 use Rattle.powers.proofs.Powers.{power-next, checked-power}
-use Rattle.halving.proofs.Halvings.{Rises, Works, answer, nowhere-back, breaks-back, unique-crossing}
+use Rattle.halving.proofs.Halvings.{Rises, answer, nowhere-back, breaks-back, unique-crossing}
 use Rattle.roots.proofs.Orders.{Ordered, bits-mono, power-mono, never-falls}
 
 -- the bits of 2²⁰

@@ -1,6 +1,5 @@
 -- No second answer meets a public function's promise. Assumes nothing.
 use Rattle.numeric.specs.declared.working.Worked.{Worked}
-use Rattle.exponents.specs.declared.exponent.Exponent.{Exponent}
 use Rattle.numeric.proofs.Unique.{OneAnswer, by-equation}
 use Rattle.roots.proofs.root.root.Reads as root
 

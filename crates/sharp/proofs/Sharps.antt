@@ -2,7 +2,7 @@
 use mathlib.Core.Path.{_≡_, refl, ap, _∙_}
 use mathlib.Core.Bool.{Bool}
 use lib.Dec.{T}
-use lib.Ieee.{Float, binary64, mul}
+use lib.Ieee.{Float}
 use Rattle.numeric.specs.Working.{checked, _+ᵂ_}
 use Rattle.numeric.specs.declared.working.Worked.{Worked}
 use Rattle.numeric.proofs.Workings.{checked-add}

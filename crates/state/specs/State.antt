@@ -12,7 +12,6 @@ use Rattle.residual.specs.declared.sum.Sums.{Sums}
 use Rattle.residual.specs.declared.sum.Sums.the-variants.{Summed, Broken}
 use Rattle.ideal.specs.Ideal.{idealPart}
 use Rattle.pressure.specs.Pressure.{deltaOf, pressureFormula}
-use Rattle.state.specs.declared.state.State.{State}
 use Rattle.state.specs.declared.state.Stated.{Stated}
 use Rattle.state.specs.declared.state.Stated.the-variants.{Known, Unknown}
 

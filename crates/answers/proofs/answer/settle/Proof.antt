@@ -1,6 +1,5 @@
 -- The eight numbers, or 7. Assumes nothing.
-use mathlib.Core.Path.{_≡_, sym, ap}
-use Rattle.state.specs.declared.state.Stated.{Stated}
+use mathlib.Core.Path.{sym, ap}
 use Rattle.answers.specs.Answer.{settled}
 use borrow.Author.Needs.{needs}
 use Rattle.answers.proofs.answer.settle.Statement.{statement}

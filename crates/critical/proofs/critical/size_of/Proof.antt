@@ -1,5 +1,4 @@
 -- The two arms of the definition. Assumes nothing.
-use mathlib.Core.Path.{refl}
 use lib.Ieee.{ofBits, ofInt}
 use Rattle.numeric.specs.Number.{whole}
 use Rattle.roots.specs.Formula.{absolute}

@@ -1,5 +1,5 @@
 -- Each step is the definition's. Assumes nothing.
-use mathlib.Core.Path.{_≡_, refl, sym, ap, subst, _∙_}
+use mathlib.Core.Path.{refl, sym, ap, _∙_}
 use Rattle.isotherm.specs.declared.isotherm.Isotherm.{Isotherm}
 use Rattle.pressure.specs.Pressure.{pressureOn, pressure}
 use Rattle.state.specs.State.{stateOn, state}

@@ -8,11 +8,6 @@ use Rattle.numeric.specs.Working.{checked, _/ᵂ_}
 use Rattle.exponential.specs.Exponential.{exponential}
 use Rattle.exponential.proofs.exponential.exponential.Statement.{statement}
 use Rattle.exponential.proofs.exponential.exponential.Tie as tie
-use Rattle.exponential.proofs.exponential.exponential.Reads as reads
-use Rattle.exponential.proofs.exponential.exponential.Lts as lts
-use Rattle.exponential.proofs.exponential.falling.Reads as falling-reads
-use Rattle.numeric.proofs.working.checked.Reads as checked-reads
-use Rattle.numeric.proofs.working.is_finite.Reads as is-finite-reads
 
 -- past the tests: 1 divided by the exponential of −x
 rising : (c : tie.After-falling2) → exponential (c .before .before .before .before .before .before .args .x) ≡ checked (whole 1) /ᵂ c .falling2 .result

@@ -1,12 +1,11 @@
 -- Each turn puts the next row's power in its place. Assumes nothing.
-use mathlib.Core.Path.{_≡_, refl, sym, subst, ap, _∙_}
+use mathlib.Core.Path.{_≡_, refl, sym, subst, _∙_}
 use mathlib.Core.List.{List}
 use Prim.Native.Nat.{ℕ, _/_, _%_, _<_, _≤_, _-_}
 use native.Mathlib.Omega.{arith}
 use borrow.Author.Needs.{needs}
 use lib.ListN.{length, getD, length-map}
 use lib.Ieee.{Float, nan, binary64, mul}
-use Rattle.powers.specs.Power.{powers}
 use Rattle.roots.specs.Formula.{value}
 use Rattle.isotherm.specs.Isotherm.{quarters, tauPower, tauPowers}
 use Rattle.isotherm.proofs.Fills.{Filled, fill-more, fill-all}

@@ -1,5 +1,5 @@
 use mathlib.Core.Path.{_≡_, refl, sym}
-use mathlib.Core.Bool.{true, false, true≢false}
+use mathlib.Core.Bool.{true, false}
 use lib.Ieee.{Float, nan, inf, fin, ofBits, neg, div, lt, binary64}
 use lib.Ieee.Scale.{finite}
 use Rattle.numeric.proofs.working.is_finite.Statement.{statement}

@@ -1,4 +1,4 @@
-use mathlib.Core.Path.{_≡_, refl, sym, ap, _∙_}
+use mathlib.Core.Path.{_≡_, refl, ap, _∙_}
 use Prim.Native.Nat.{_≤_, _-_}
 use native.Mathlib.Omega.{arith}
 use lib.Ieee.{Float, binary64, mul, ofBits, ofInt}
@@ -7,8 +7,6 @@ use Rattle.powers.specs.Power.{power}
 use Rattle.powers.proofs.Powers.{power-next}
 use Rattle.powers.proofs.power.whole_power.Statement.{statement}
 use Rattle.powers.proofs.power.whole_power.Tie as tie
-use Rattle.powers.proofs.power.whole_power.Reads as reads
-use Rattle.powers.proofs.power.whole_power.Lts as lts
 
 abbrev Inv-loop : tie.InvT-loop
 Inv-loop x n r₀ i₀ r i = (1 ≤ i) × (i ≤ n) × (r ≡ power x i)

@@ -1,7 +1,6 @@
 -- Each step is the definition's. Assumes nothing.
 use mathlib.Core.Path.{_≡_, sym, _∙_}
 use lib.Ieee.{ofBits, ofInt}
-use Rattle.numeric.specs.Constant.{spanWagner}
 use Rattle.numeric.specs.Number.{whole}
 use Rattle.roots.specs.Formula.{value, work}
 use Rattle.roots.proofs.Formulas.{once}

@@ -1,5 +1,5 @@
 -- Each step is the definition's. Assumes nothing.
-use mathlib.Core.Path.{_≡_, refl, sym, ap, subst, _∙_}
+use mathlib.Core.Path.{refl, sym, ap, subst, _∙_}
 use lib.Ieee.{binary64, mul}
 use Rattle.numeric.specs.Working.{checked}
 use Rattle.densities.proofs.Densities.{vapour-nonneg}

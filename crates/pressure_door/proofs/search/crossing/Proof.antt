@@ -1,5 +1,5 @@
 -- The ends are looked at as the definition has it.  Assumes nothing.
-use mathlib.Core.Path.{_≡_, sym, _∙_}
+use mathlib.Core.Path.{sym, _∙_}
 use native.Mathlib.Omega.{arith}
 use Rattle.halving.specs.Halving.{met, first-above, second-not-above, at-first, at-second, failed}
 use Rattle.numeric.proofs.Numbers.{no-nan}

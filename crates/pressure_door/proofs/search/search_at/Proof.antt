@@ -1,5 +1,5 @@
 -- On the temperature's isotherm. Assumes nothing.
-use mathlib.Core.Path.{refl, ap, _∙_}
+use mathlib.Core.Path.{ap, _∙_}
 use Rattle.pressure.specs.Pressure.{pressureOn, pressure}
 use Rattle.state.specs.State.{stateOn, state}
 use Rattle.isotherm.specs.declared.isotherm.Isotherm.{Isotherm}

@@ -1,9 +1,7 @@
 -- The crossing is the definition's, and the state is worked there. Assumes nothing.
-use mathlib.Core.Path.{_≡_, sym, ap, _∙_}
+use mathlib.Core.Path.{sym, ap, _∙_}
 use native.Mathlib.Omega.{arith}
 use lib.Ieee.{binary64, toBits}
-use Rattle.halving.specs.Halving.{Found}
-use Rattle.halving.specs.declared.halving.Crossing.{Crossing}
 use Rattle.numeric.proofs.Numbers.{no-nan, nonneg-no-nan}
 use Rattle.halving.proofs.Halvings.{answer}
 use Rattle.pressure.specs.Pressure.{pressureOn}

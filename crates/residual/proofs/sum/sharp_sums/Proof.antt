@@ -1,5 +1,5 @@
 -- The three rows one after the other. Assumes nothing.
-use mathlib.Core.Path.{_≡_, refl, ap, _∙_}
+use mathlib.Core.Path.{ap, _∙_}
 use mathlib.Core.List.{List}
 use lib.ListN.{getD}
 use Rattle.numeric.specs.Working.{_+ᵂ_}

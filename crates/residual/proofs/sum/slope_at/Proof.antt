@@ -1,5 +1,5 @@
 -- The first sum, tested. Assumes nothing.
-use mathlib.Core.Path.{ap, _∙_}
+use mathlib.Core.Path.{_∙_}
 use Rattle.derivatives.specs.Derivative.{Delta}
 use borrow.Author.Needs.{needs}
 use Rattle.residual.proofs.sum.slope_at.Statement.{statement}

@@ -1,5 +1,5 @@
 -- The four kinds of rows in turn. Assumes nothing.
-use mathlib.Core.Path.{_≡_, refl, sym, ap, subst, _∙_}
+use mathlib.Core.Path.{_≡_, sym, ap, _∙_}
 use lib.Ieee.{Float}
 use Rattle.numeric.specs.Working.{checked}
 use Rattle.derivatives.specs.Derivative.{of}

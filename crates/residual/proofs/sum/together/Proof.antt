@@ -1,5 +1,5 @@
 -- Each step is the definition's. Assumes nothing.
-use mathlib.Core.Path.{_≡_, refl, sym, _∙_}
+use mathlib.Core.Path.{refl, sym, _∙_}
 use Rattle.derivatives.specs.Derivative.{Delta, DeltaDelta, Tau, TauTau, DeltaTau}
 use Rattle.residual.specs.Sum.{together}
 use Rattle.residual.proofs.Totals.{all-summed}

@@ -1,7 +1,7 @@
 -- The loop keeps a bracket: not above at its lower end, above at its upper end or there the end of the range, which is looked at last.
 -- Where the ends have met, the crossing is between them, and there is only one. Assumes nothing.
 use mathlib.Core.Path.{_≡_, sym}
-use Prim.Native.Nat.{ℕ, _≤_, _<_, _-_, _+_}
+use Prim.Native.Nat.{ℕ, _≤_, _<_, _-_}
 use native.Mathlib.Omega.{arith}
 use borrow.Author.Needs.{needs}
 use lib.Ieee.{Float}

@@ -1,5 +1,5 @@
 -- Each return is the arm of the definition that the tests before it lead to; past k = 51 the search fails at once. Assumes nothing.
-use mathlib.Core.Path.{_≡_, sym, ap, _∙_}
+use mathlib.Core.Path.{_≡_, sym, _∙_}
 use mathlib.Core.Bool.{true}
 use Prim.Native.Nat.{_*_}
 use native.Mathlib.Omega.{arith}
@@ -8,7 +8,6 @@ use borrow.Author.Tests.{lt-ltb, le-ltb}
 use lib.Dec.{ltb}
 use lib.Ieee.{ofBits, ofInt}
 use lib.Ieee.Scale.{finite}
-use Rattle.numeric.specs.declared.working.Worked.the-variants.{Failed}
 use Rattle.numeric.specs.Number.{whole}
 use Rattle.roots.specs.Root.{root, searched}
 use Rattle.numeric.proofs.Numbers.{above-0}

@@ -7,12 +7,11 @@ use lib.Dec.{T}
 use lib.Ieee.{Float}
 use lib.Ieee.Scale.{finite}
 use Rattle.numeric.specs.declared.working.Worked.{Worked}
-use Rattle.halving.specs.declared.halving.Crossing.the-variants.{At}
 use Rattle.numeric.specs.Number.{nonneg}
 use Rattle.powers.specs.Power.{power}
 use Rattle.numeric.specs.Working.{checked, then}
 use Rattle.roots.specs.Root.{searched, rootBits, rootOf}
-use Rattle.numeric.proofs.Numbers.{infinity, no-nan}
+use Rattle.numeric.proofs.Numbers.{no-nan}
 use Rattle.powers.proofs.Powers.{checked-power}
 use Rattle.numeric.proofs.Workings.{checked-number}
 use Rattle.roots.proofs.Orders.{power-unsigned}

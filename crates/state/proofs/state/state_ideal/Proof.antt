@@ -1,5 +1,5 @@
 -- Each step is the definition's. Assumes nothing.
-use mathlib.Core.Path.{_≡_, sym, ap, _∙_}
+use mathlib.Core.Path.{sym, ap, _∙_}
 use Rattle.ideal.specs.declared.ideal.Ideal.{Ideal}
 use Rattle.state.specs.State.{stateIdeal}
 use borrow.Author.Needs.{needs}

@@ -1,9 +1,9 @@
 -- Each field is its formula, worked in plain f64 and tested. Assumes nothing.
-use mathlib.Core.Path.{_≡_, sym, ap, _∙_}
+use mathlib.Core.Path.{_≡_, sym, _∙_}
 use lib.Ieee.{ofBits, ofInt}
 use Rattle.numeric.specs.Number.{whole}
 use Rattle.numeric.specs.Working.{checked}
-use Rattle.roots.specs.Formula.{Formula, value, work}
+use Rattle.roots.specs.Formula.{value, work}
 use Rattle.roots.proofs.Formulas.{once}
 use Rattle.pressure.specs.Pressure.{pressureFormula}
 use Rattle.state.specs.State.{energy, enthalpy, stateOf}

@@ -95,12 +95,13 @@ int main(int argc, char **argv) {
     printf("the peer's densities are within %.1e of the library's\n\n", far);
     twin_worked = peer_worked = 0;
     states(twin_from_pressure, P, 1); states(peer_from_pressure, P, 1);
+    double probes = (double)twin_worked / N, steps = (double)peer_worked / N;
     printf("%-28s %10s %10s %6s %10s %6s\n", "ns", "library", "C", "ratio", "libm", "ratio");
     double a = states(lib_pressure, P, rounds), b = states(twin_from_pressure, P, rounds), c = states(peer_from_pressure, P, rounds);
     printf("%-28s %10.0f %10.0f %6.2f %10.0f %6.2f\n", "a state by the pressure door", a, b, a / b, c, a / c);
     double d = states(lib_density, R, rounds), e = states(twin_from_density, R, rounds), h = states(peer_from_density, R, rounds);
     printf("%-28s %10.0f %10.0f %6.2f %10.0f %6.2f\n", "a state by the density door", d, e, d / e, h, d / h);
-    printf("(a search works %.1f pressures; the peer's %.1f)\n\n", (double)twin_worked / N, (double)peer_worked / N);
+    printf("(a search works %.1f pressures; the peer's %.1f, with their slopes)\n\n", probes, steps);
 
     printf("%-28s %10s %10s\n", "a sheet by lines", "us", "us a line");
     for (int n = 1; n <= 32; n *= 2) { double t = reports(sheet(n), rounds / 4 + 1, 4) / 1000; printf("%-28d %10.1f %10.2f\n", n, t, t / n); }

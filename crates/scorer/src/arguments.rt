@@ -1,23 +1,33 @@
 // What the program is asked for, by its arguments.
-ghost use mathlib.Core.Path.{_≡_};
-ghost use Rattle.scorer.specs.Scorer.{askedBy};
+ghost use Rattle.scorer.specs.Scorer.{AskedIs};
+use check::same;
 
-// The sheet on standard input, or in the file that the first argument names; or how the program is used.
+// The sheet on standard input, or in a file, with or without an explanation; or how the program is used.
 pub enum Asked {
     StandardInput,
     File,
+    Explain,
+    Help,
     Usage,
 }
 
-// The program's own name counts as an argument.
-pub fn asked_by(count: usize) -> Asked
-    ensures { λ r. ⌜ r ≡ askedBy count ⌝ }
+// The program's own name counts as an argument; first is the one after it.
+pub fn asked_by(count: usize, first: &[u8]) -> Asked
+    ensures { λ r. ⌜ AskedIs count (now (first .entry)) r ⌝ }
 {
     if count < 2 {
         return Asked::StandardInput;
     }
-    if count > 2 {
-        return Asked::Usage;
+    if count == 2 {
+        if same(first, b"--help") {
+            return Asked::Help;
+        }
+        return Asked::File;
     }
-    Asked::File
+    if count == 3 {
+        if same(first, b"--explain") {
+            return Asked::Explain;
+        }
+    }
+    Asked::Usage
 }

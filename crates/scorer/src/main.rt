@@ -1,6 +1,8 @@
-// `scorer FILE`, or `scorer` alone on standard input: a sheet's report on standard output, exactly its bytes. What goes
-// wrong is said on standard error; a program has no exit status to choose.
+// `scorer FILE`, or `scorer` alone on standard input: a sheet's report on standard output, exactly its bytes. With
+// `--explain FILE` what its refusals mean stands under it. What goes wrong is said on standard error; a program has no exit
+// status to choose.
 mod arguments;
+mod words;
 
 ghost use Rattle.scorer.specs.Scorer.{ReadInto, Reports, Scores};
 use arguments::Asked;
@@ -10,6 +12,8 @@ use libc::STDIN_FILENO;
 use libc::STDOUT_FILENO;
 use report::report::Written;
 use score::score::score;
+use words::explain;
+use words::help;
 
 // How many bytes were read.
 enum Read {
@@ -67,7 +71,7 @@ fn complain(text: &[u8]) {
 }
 
 // "A text over 65,536 bytes is not in the form": one byte more is enough to know.
-fn answer(fd: i32, name: &[u8]) {
+fn answer(fd: i32, name: &[u8], explained: bool) {
     let mut space = [0; 65537];
     let mut out = [0; 1512];
     let Scored::Report(n, long) = score_from(fd, &mut space, &mut out) else {
@@ -80,13 +84,17 @@ fn answer(fd: i32, name: &[u8]) {
     }
     if !io::write_all(STDOUT_FILENO, &out[..long]) {
         os::fail(b"standard output");
+        return;
+    }
+    if explained {
+        explain(&out[..long]);
     }
 }
 
-// The file that the first argument names.
-fn answer_file() {
+// The file that an argument names.
+fn answer_file(argument: usize, explained: bool) {
     let mut name = io::buffer();
-    let n = os::arg(1, &mut name);
+    let n = os::arg(argument, &mut name);
     if os::errno() != 0 {
         os::fail(b"FILE");
         return;
@@ -96,16 +104,20 @@ fn answer_file() {
         os::fail(&name[..n]);
         return;
     }
-    answer(fd, &name[..n]);
+    answer(fd, &name[..n], explained);
     libc::close(fd);
 }
 
 fn main() {
-    match asked_by(os::arg_count()) {
-        Asked::StandardInput => answer(STDIN_FILENO, b"standard input"),
-        Asked::File => answer_file(),
+    let mut first = io::buffer();
+    let n = os::arg(1, &mut first);
+    match asked_by(os::arg_count(), &first[..n]) {
+        Asked::StandardInput => answer(STDIN_FILENO, b"standard input", false),
+        Asked::File => answer_file(1, false),
+        Asked::Explain => answer_file(2, true),
+        Asked::Help => help(),
         Asked::Usage => complain(
-            b"usage: scorer FILE, or scorer alone, which reads standard input\n",
+            b"usage: scorer FILE, scorer --explain FILE, scorer --help, or scorer alone, which reads standard input\n",
         ),
     }
 }

@@ -50,8 +50,20 @@ fail-requires-2 c κs = search needs
 returns-2 : tie.Need-returns-2
 returns-2 c = search needs
 
+array-share-prefix-out-2 : tie.Need-array-share-prefix-out-2
+array-share-prefix-out-2 c = (rw (c .before .before .before .before .before .before .n .given .1) at (c .before .before .before .before .before .before .before .before .before .score-from .ensures)) .1 .fits
+
+slice-aggregate-explain : tie.Need-slice-aggregate-explain
+slice-aggregate-explain c = sym (length-take-le _ _ ((rw (c .before .before .before .before .before .before .before .n .given .1) at (c .before .before .before .before .before .before .before .before .before .before .score-from .ensures)) .1 .fits))
+
+explain-requires : tie.Need-explain-requires
+explain-requires c κs = search needs
+
 returns-3 : tie.Need-returns-3
 returns-3 c = search needs
+
+returns-4 : tie.Need-returns-4
+returns-4 c = search needs
 
 pub answer-spec : {M : Type 1} → statement M
 answer-spec =
@@ -72,4 +84,8 @@ answer-spec =
     slice-aggregate-fail
     fail-requires-2
     returns-2
-    returns-3)
+    array-share-prefix-out-2
+    slice-aggregate-explain
+    explain-requires
+    returns-3
+    returns-4)

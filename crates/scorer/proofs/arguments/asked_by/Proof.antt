@@ -1,16 +1,52 @@
--- Each branch is one of the two tests of the definition. Assumes nothing.
-use borrow.Author.Tests.{lt-ltb, le-ltb}
+-- Each answer is given under its condition: the number of words, and the first of them. Assumes nothing.
+use mathlib.Core.Path.{sym, _∙_}
+use mathlib.Core.Bool.{true≢false}
+use native.Mathlib.Omega.{arith}
+use borrow.Author.Needs.{needs}
 use Rattle.scorer.proofs.arguments.asked_by.Statement.{statement}
 use Rattle.scorer.proofs.arguments.asked_by.Tie as tie
 
 returns : tie.Need-returns
-returns c = simp (lt-ltb _ 2 (c .if1 .taken))
+returns c = search needs
+
+slice-aggregate-same : tie.Need-slice-aggregate-same
+slice-aggregate-same c = search needs
+
+same-requires : tie.Need-same-requires
+same-requires c κs = search needs
 
 returns-2 : tie.Need-returns-2
-returns-2 c = simp (le-ltb _ 2 (c .before .if1 .left), lt-ltb 2 _ (c .if2 .taken))
+returns-2 c = (omega arith, c .before .same .ensures .0 (c .if3 .taken))
 
 returns-3 : tie.Need-returns-3
-returns-3 c = simp (le-ltb _ 2 (c .before .if1 .left), le-ltb 2 _ (c .if2 .left))
+returns-3 c = (omega arith, λ e. true≢false (sym (c .before .same .ensures .1 e) ∙ c .if3 .left))
+
+slice-aggregate-same-2 : tie.Need-slice-aggregate-same-2
+slice-aggregate-same-2 c = search needs
+
+same-requires-2 : tie.Need-same-requires-2
+same-requires-2 c κs = search needs
+
+returns-4 : tie.Need-returns-4
+returns-4 c = (omega arith, c .before .same2 .ensures .0 (c .if5 .taken))
+
+returns-5 : tie.Need-returns-5
+returns-5 c = (omega arith, λ _ e. true≢false (sym (c .before .same2 .ensures .1 e) ∙ c .if5 .left))
+
+returns-6 : tie.Need-returns-6
+returns-6 c = search needs
 
 pub asked-by-spec : {M : Type 1} → statement M
-asked-by-spec = tie.close (tie.spec returns returns-2 returns-3)
+asked-by-spec =
+    tie.close
+    (tie.spec
+    returns
+    slice-aggregate-same
+    same-requires
+    returns-2
+    returns-3
+    slice-aggregate-same-2
+    same-requires-2
+    returns-4
+    returns-5
+    returns-6)

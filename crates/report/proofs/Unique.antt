@@ -10,7 +10,6 @@ use Rattle.report.specs.Report.{ReportIs}
 use Rattle.report.specs.declared.report.Written.{Written}
 use Rattle.report.specs.declared.report.Written.the-variants.{Bytes, Refused}
 use Rattle.report.proofs.report.write_report.Reads as write-report
-use Rattle.report.proofs.report.send_back.Reads as send-back
 
 pub one-report : (o bs xs ys : List ℕ) (r s : Written) → ReportIs o xs bs r → ReportIs o ys bs s → (r ≡ s) × (xs ≡ ys)
 one-report o bs xs ys (Bytes n) (Bytes k) p q = (ap Bytes (by-equation (p .0 .count) (q .0 .count)), by-equation (p .0 .bytes) (q .0 .bytes))
@@ -20,6 +19,3 @@ one-report o bs xs ys (Refused n) (Refused k) p q = (ap Refused (by-equation (p 
 
 pub write-report-once : (κs : Lfts 1) → OneWriting Written (write-report.Post κs)
 write-report-once κs a r s x y = one-report _ _ _ _ r s
-
-pub send-back-once : (κs : Lfts 1) → OneWriting Written (send-back.Post κs)
-send-back-once κs a r s x y = one-report _ _ _ _ r s

@@ -6,7 +6,7 @@ ghost use Prim.Native.Nat.{_+_, _≤_};
 ghost use lib.ListN.{length};
 ghost use Rattle.text.specs.Decimal.{decimal};
 ghost use Rattle.writing.specs.Writing.{Wrote};
-ghost use Rattle.report.specs.Report.{weighedBytes, lineBytes, linesBytes, marksOf, endingBytes, sentBack, reportBytes, ReportIs};
+ghost use Rattle.report.specs.Report.{weighedBytes, lineBytes, linesBytes, marksOf, endingBytes, reportBytes, ReportIs};
 use writing::writing::number_len;
 use writing::writing::put;
 use writing::writing::put_number;
@@ -151,15 +151,4 @@ pub fn write_report(out: &mut [u8], m: Marks, e: Ending) -> Written
     let a = put_lines(out, m);
     let b = a + put_ending(&mut out[a..], e);
     Written::Bytes(b)
-}
-
-// The report that is one line alone.
-pub fn send_back(out: &mut [u8], number: u8) -> Written
-    ensures { λ r. ⌜ ReportIs (now (out .entry)) (now (out .exit)) (sentBack number) r ⌝ }
-{
-    let e = Ending::SentBack(number);
-    if ending_len(e) > out.len() {
-        return Written::Refused(TOO_LONG);
-    }
-    Written::Bytes(put_ending(out, e))
 }

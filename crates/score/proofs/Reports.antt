@@ -18,10 +18,11 @@ use Rattle.sheet.specs.Padded.{padded}
 use Rattle.sheet.specs.Sheet.{sheetOf, sheetRead}
 use Rattle.sheet.specs.declared.sheet.SheetRead.{SheetRead}
 use Rattle.sheet.proofs.Paddings.{padded-set, taken-back}
-use Rattle.report.specs.Report.{marksOf, sentBack, reportBytes}
+use Rattle.report.specs.Report.{linesBytes, marksOf, sentBack, reportBytes}
 use Rattle.report.specs.declared.report.Mark.{Mark}
+use Rattle.report.specs.declared.report.Ending.{Ending}
 use Rattle.verdict.specs.Verdict.{when, needed, checked, ending}
-use Rattle.score.specs.Score.{mark, noMark, marksFor, total, report, Light}
+use Rattle.score.specs.Score.{mark, noMark, noMarks, marksFor, total, report, Light}
 use Rattle.verdict.specs.declared.verdict.Checked.{Checked}
 use Rattle.score.proofs.Totals.{all-light}
 
@@ -86,10 +87,17 @@ module _ (o : Option Written) where
 pub known : (o : Option Written) (r : SheetRead) (c d : Checked) → r ≡ sheetRead o → c ≡ checked (r .ok) (r .sheet .count) (r .sheet .need) → c ≡ d → checkedRead o ≡ d
 known o r c d e f g = ap (λ (x : SheetRead). checked (x .ok) (x .sheet .count) (x .sheet .need)) (sym e) ∙ sym f ∙ g
 
-pub sent : (o : Option Written) (number : ℕ) → checkedRead o ≡ Checked.SentBack number → sentBack number ≡ report o
+one-line : (number : ℕ) → reportBytes noMarks (Ending.SentBack number) ≡ sentBack number
+unfolding reportBytes linesBytes noMarks
+one-line number = refl
+
+sent-back : (o : Option Written) (number : ℕ) → checkedRead o ≡ Checked.SentBack number → sentBack number ≡ report o
 unfolding sheetRead sheetOf checked report
-sent none number e = ap sentBack (sym (ap sent-with e))
-sent (some w) number e = rw e refl
+sent-back none number e = ap sentBack (sym (ap sent-with e))
+sent-back (some w) number e = rw e refl
+
+pub sent : (o : Option Written) (number : ℕ) → checkedRead o ≡ Checked.SentBack number → reportBytes noMarks (Ending.SentBack number) ≡ report o
+sent o number e = one-line number ∙ sent-back o number e
 
 module _ (mg : ℕ) where
   pub worked : (o : Option Written) → checkedRead o ≡ Checked.Need mg → (let m = marksFor (sheetRead o .sheet) in reportBytes m (ending mg (total (marksOf m))) ≡ report o)

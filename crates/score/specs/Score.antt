@@ -50,6 +50,10 @@ report (some w) = finished (checked true (length (w .cylinders)) (w .need)) (map
 abbrev pub noMark : Mark
 noMark = record { weighed = Weighed.Refused 0 }
 
+-- of a sheet that is sent back before its lines are worked
+unfoldable pub noMarks : Marks
+noMarks = record { marks = padded noMark 32 []; count = 0 }
+
 unfoldable pub marksFor : Sheet → Marks
 marksFor s = record { marks = padded noMark 32 (map mark (take (s .count) (s .lines))); count = s .count }
 

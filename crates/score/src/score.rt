@@ -4,12 +4,12 @@ ghost use mathlib.Core.Path.{_≡_};
 ghost use Prim.Native.Nat.{_≤_};
 ghost use Rattle.report.specs.Report.{marksOf, ReportIs};
 ghost use Rattle.sheet.specs.Form.{inForm};
-ghost use Rattle.score.specs.Score.{marksFor, Light, total, report};
+ghost use Rattle.score.specs.Score.{noMarks, marksFor, Light, total, report};
+use report::report::Ending;
 use report::report::Mark;
 use report::report::Marks;
 use report::report::Weighed;
 use report::report::Written;
-use report::report::send_back;
 use report::report::write_report;
 use sheet::sheet::Sheet;
 use sheet::sheet::read_sheet;
@@ -18,6 +18,18 @@ use verdict::verdict::Summed;
 use verdict::verdict::check_sheet;
 use verdict::verdict::ending;
 use weighing::weighing::weigh;
+
+fn no_marks() -> Marks
+    ensures { λ r. ⌜ r ≡ noMarks ⌝ }
+{
+    let none = Mark {
+        weighed: Weighed::Refused(0),
+    };
+    Marks {
+        marks: [none; 32],
+        count: 0,
+    }
+}
 
 // Each line's milligrams or refusal: "i counts the cylinder lines from 1".
 fn weigh_all(s: Sheet) -> Marks
@@ -69,7 +81,7 @@ pub fn score(text: &[u8], out: &mut [u8]) -> Written
     let s = r.sheet;
     let need = s.need;
     match check_sheet(r.ok, s.count, need) {
-        Checked::SentBack(number) => send_back(out, number),
+        Checked::SentBack(number) => write_report(out, no_marks(), Ending::SentBack(number)),
         Checked::Need(mg) => {
             let m = weigh_all(s);
             write_report(out, m, ending(mg, total(m)))

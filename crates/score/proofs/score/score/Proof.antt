@@ -15,8 +15,11 @@ check-sheet-requires c κs = search needs
 enum-known-number : tie.Need-enum-known-number
 enum-known-number c = search needs
 
-send-back-requires : tie.Need-send-back-requires
-send-back-requires c κs = search needs
+no-marks-requires : tie.Need-no-marks-requires
+no-marks-requires c κs = search needs
+
+write-report-requires : tie.Need-write-report-requires
+write-report-requires c κs = search needs
 
 enum-known-mg : tie.Need-enum-known-mg
 enum-known-mg c = search needs
@@ -35,17 +38,17 @@ total-requires c κs =
 ending-requires : tie.Need-ending-requires
 ending-requires c κs = search needs
 
-write-report-requires : tie.Need-write-report-requires
-write-report-requires c κs = search needs
+write-report-requires-2 : tie.Need-write-report-requires-2
+write-report-requires-2 c κs = search needs
 
 same-length : tie.Need-same-length
 same-length c = search needs
 
 returns : tie.Need-returns
 returns c =
-    let k = c .before .before .before .before in
+    let k = c .before .before .before .before .before in
     let r = k .before .before .before in
-    rw (← sent _ _ (known _ _ _ _ (r .before .before .read-sheet .ensures) (r .check-sheet .ensures) (k .before .number .given .1))) (c .before .before .send-back .ensures)
+    rw (← sent _ _ (known _ _ _ _ (r .before .before .read-sheet .ensures) (r .check-sheet .ensures) (k .before .number .given .1)), ← c .before .before .before .no-marks .ensures) (c .before .before .write-report .ensures)
 
 same-length-2 : tie.Need-same-length-2
 same-length-2 c = search needs
@@ -57,7 +60,7 @@ returns-2 c =
     let k = w .before .before in
     let r = k .before .before in
     let e = known _ _ _ _ (r .before .before .read-sheet .ensures) (r .check-sheet .ensures) (k .mg .given .1) in
-    rw (← worked _ _ e, ← r .before .before .read-sheet .ensures, ← w .weigh-all .ensures, ← t .total .ensures, ← c .before .before .before .ending .ensures) (c .before .before .write-report .ensures)
+    rw (← worked _ _ e, ← r .before .before .read-sheet .ensures, ← w .weigh-all .ensures, ← t .total .ensures, ← c .before .before .before .ending .ensures) (c .before .before .write-report2 .ensures)
 
 pub score-spec : {M : Type 1} → statement M
 score-spec =
@@ -66,12 +69,13 @@ score-spec =
     read-sheet-requires
     check-sheet-requires
     enum-known-number
-    send-back-requires
+    no-marks-requires
+    write-report-requires
     enum-known-mg
     weigh-all-requires
     total-requires
     ending-requires
-    write-report-requires
+    write-report-requires-2
     same-length
     returns
     same-length-2

@@ -1,1 +1,1 @@
-// What is demanded of the doors, as theorems; no code.
+// What is demanded of the doors, of a line and of a sheet, as theorems; no code.

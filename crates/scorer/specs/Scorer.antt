@@ -13,10 +13,10 @@ use Rattle.scorer.specs.declared.Scored.{Scored}
 -- by the number of words, the program's own name counted, and the first after it: `scorer`, `scorer FILE`, `scorer --help`, `scorer --explain FILE`, and whatever else
 abbrev pub AskedIs : ℕ → List ℕ → Asked → Type 0
 AskedIs words first Asked.StandardInput = words < 2
-AskedIs words first Asked.File = (words ≡ 2) × (first ≡ ascii "--help" → ⊥)
+AskedIs words first Asked.File = (words ≡ 2) × (first ≡ ascii "--help" → ⊥) × (first ≡ ascii "--explain" → ⊥)
 AskedIs words first Asked.Help = (words ≡ 2) × (first ≡ ascii "--help")
 AskedIs words first Asked.Explain = (words ≡ 3) × (first ≡ ascii "--explain")
-AskedIs words first Asked.Usage = (2 < words) × (words ≡ 3 → first ≡ ascii "--explain" → ⊥)
+AskedIs words first Asked.Usage = (2 ≤ words) × (words ≡ 2 → first ≡ ascii "--explain") × (words ≡ 3 → first ≡ ascii "--explain" → ⊥)
 
 -- what was read is at the front of the lent space
 abbrev pub ReadInto : List ℕ → Read → Type 0

@@ -22,6 +22,9 @@ pub fn asked_by(count: usize, first: &[u8]) -> Asked
         if same(first, b"--help") {
             return Asked::Help;
         }
+        if same(first, b"--explain") {
+            return Asked::Usage;
+        }
         return Asked::File;
     }
     if count == 3 {

@@ -1,4 +1,6 @@
 // What the program says to a person: how a sheet is written, and what each refusal means.
+ghost use Prim.Native.Nat.{_≤_};
+ghost use lib.ListN.{length};
 use check::same;
 use libc::STDOUT_FILENO;
 
@@ -7,53 +9,100 @@ fn say(text: &[u8]) {
 }
 
 pub fn help() {
-    say(b"scorer FILE            scores the sheet in FILE\n");
-    say(b"scorer                 scores the sheet on standard input\n");
-    say(b"scorer --explain FILE  the report, and under it what each refusal in it means\n\n");
-    say(b"A sheet, every line ending in LF, one space between parts, whole numbers, - for what was not read:\n\n");
-    say(b"  N need                                     in mg: kg times 1,000,000\n");
-    say(b"  C number temperature P pressure volume     temperature in 0.1 mK: (C + 273.15) times 10,000;\n");
-    say(b"  C number temperature D density volume      pressure in Pa: bar times 100,000, absolute;\n");
-    say(b"                                             density in g/m3; volume in mL. 1 to 32 such lines\n\n");
-    say(b"The report: L i M mg for each cylinder line that is answered, L i R no for one that is refused; then\n");
-    say(b"TOTAL mg COVERED, TOTAL mg SHORT, or SENT BACK no where there is no verdict.\n");
+    say(
+        b"scorer FILE            scores the sheet in FILE\n\
+            scorer                 scores the sheet on standard input\n\
+            scorer --help          says this\n\
+            scorer --explain FILE  the report, and under it what each refusal in it means\n\n\
+            A sheet, every line ending in LF, one space between parts, whole numbers, - for what was not read:\n\n\
+            \x20 N need                                     in mg: kg times 1,000,000\n\
+            \x20 C number temperature P pressure volume     temperature in 0.1 mK: (Celsius + 273.15) times 10,000;\n\
+            \x20 C number temperature D density volume      pressure in Pa: bar times 100,000, absolute;\n\
+            \x20                                            density in g/m3: kg/m3 times 1,000; volume in mL. 1 to 32 such lines\n\n\
+            The report: L i M mg for each cylinder line that is answered, L i R no for one that is refused; then\n\
+            TOTAL mg COVERED, TOTAL mg SHORT, or SENT BACK no where there is no verdict.\n",
+    );
 }
 
-// Whether the mark stands in the text.
-fn occurs(text: &[u8], mark: &[u8]) -> bool {
-    let mut at = 0;
-    while at < text.len() {
-        if text.len() - at < mark.len() {
+// Whether a refusal of the report has this number: after `R` or `BACK` and a space, with its line's end.
+fn refuses(report: &[u8], number: &[u8]) -> bool {
+    let mut at = 2;
+    while at < report.len() {
+        if report.len() - at < number.len() {
             return false;
         }
-        let end = at + mark.len();
-        if same(&text[at..end], mark) {
-            return true;
+        let end = at + number.len();
+        let letter = report[at - 2];
+        if letter == b'R' || letter == b'K' {
+            if same(&report[at..end], number) {
+                return true;
+            }
         }
         at += 1;
     }
     false
 }
 
-fn say_of(report: &[u8], mark: &[u8], words: &[u8]) {
-    if occurs(report, mark) {
-        say(words);
+// The first place past a byte from a place on; the end where there is none.
+fn past(text: &[u8], from: usize, mark: u8) -> usize
+    requires { ⌜ from ≤ length (now text) ⌝ }
+    ensures { λ r. ⌜ (from ≤ r) × (r ≤ length (now (text .entry))) ⌝ }
+{
+    let mut i = from;
+    while i < text.len() {
+        i += 1;
+        if text[i - 1] == mark {
+            return i;
+        }
+    }
+    i
+}
+
+// Lines of a number, LF, and a sentence: those sentences whose number the report has.
+fn explain_by(lines: &[u8], report: &[u8]) {
+    let mut at = 0;
+    while at < lines.len() {
+        let words = past(lines, at, b'\n');
+        let next = past(lines, words, b'\n');
+        if refuses(report, &lines[at..words]) {
+            say(&lines[words..next]);
+        }
+        if next <= at {
+            return;
+        }
+        at = next;
     }
 }
 
-// A sentence for each refusal in the report (README, "What a refusal means, and what to do").
+// README, "What a refusal means, and what to do".
 pub fn explain(report: &[u8]) {
-    say_of(report, b" R 1\n", b"1: a field of the line is blank. Read it at the cylinder and fill it in.\n");
-    say_of(report, b" R 2\n", b"2: the volume is not 1 to 1,000,000 mL. Look at the cylinder's stamp; litres times 1,000.\n");
-    say_of(report, b" R 4\n", b"4: the temperature is not 216.592 to 523 K. Check the thermometer; (C + 273.15) times 10,000.\n");
-    say_of(report, b" R 5\n", b"5: the pressure or the density, or the pressure that belongs to it, is out of range. Check the gauge and its unit.\n");
-    say_of(report, b" R 6\n", b"6: too close to the critical point to tell the density. Warm the cylinder above 305.2 K and read again.\n");
-    say_of(report, b" R 7\n", b"7: the working failed. No reading is known that gives this; report it with the sheet.\n");
-    say_of(report, b" R 8\n", b"8: liquid and vapour stand together. Warm the cylinder above 305.2 K and read again.\n");
-    say_of(report, b" R 9\n", b"9: no density has this pressure. No reading is known that gives this; report it with the sheet.\n");
-    say_of(report, b"BACK 10\n", b"10: the sheet has no cylinder lines.\n");
-    say_of(report, b"BACK 11\n", b"11: more than 32 cylinders. Make two sheets.\n");
-    say_of(report, b"BACK 12\n", b"12: the need is blank or 0. Fill in what the dryer needs, in mg.\n");
-    say_of(report, b"BACK 13\n", b"13: some line was refused, so there is no verdict. See to that line.\n");
-    say_of(report, b"BACK 14\n", b"14: the text is not in the form. scorer --help shows it; every line must end in LF alone.\n");
+    explain_by(
+        b"1\n\
+            1: a field of the line is blank. Read it at the cylinder and fill it in.\n\
+            2\n\
+            2: the volume is not 1 to 1,000,000 mL. Look at the cylinder's stamp; litres times 1,000.\n\
+            4\n\
+            4: the temperature is not 216.592 to 523 K. Check the thermometer; (Celsius + 273.15) times 10,000.\n\
+            5\n\
+            5: the pressure or the density, or the pressure that belongs to it, is out of range. Check the gauge, its unit and the thermometer.\n\
+            6\n\
+            6: too close to the critical point to tell the density. Warm the cylinder above 32.1 Celsius (305.2 K) and read again.\n\
+            7\n\
+            7: the working failed. No reading is known that gives this; report it with the sheet.\n\
+            8\n\
+            8: liquid and vapour stand together. Warm the cylinder above 32.1 Celsius (305.2 K) and read again.\n\
+            9\n\
+            9: no density has this pressure. No reading is known that gives this; report it with the sheet.\n\
+            10\n\
+            10: the sheet has no cylinder lines. Add them.\n\
+            11\n\
+            11: more than 32 cylinders. Make two sheets and add their totals; the verdict of one is not the bank's.\n\
+            12\n\
+            12: the need is blank or 0. Fill in what the dryer needs, in mg.\n\
+            13\n\
+            13: some line was refused, so there is no verdict. See to that line.\n\
+            14\n\
+            14: the text is not in the form. scorer --help shows it; every line must end in LF alone.\n",
+        report,
+    );
 }

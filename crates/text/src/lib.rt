@@ -1,2 +1,2 @@
-// Reading a text: bytes, and fields that are blank or a whole number. What later formats share.
+// Reading a text: bytes, and fields that are blank or a whole number.
 pub mod field;

@@ -1,4 +1,4 @@
-//! Makhroeng worked a second time, from document 01 and docs/ARRANGEMENT.md alone, and compared with the library bit for bit.
+//! Makhroeng worked a second time, from document 01, docs/ and the paper, without the sources, and compared with the library bit for bit.
 //!
 //!     again [--states N] [--texts N] [--seed S] [--threads N]    compares with the library it is linked with
 //!     again --ask        reads lines `P T p` or `D T rho`, each number as the hexadecimal digits of its bits, and answers each

@@ -18,23 +18,32 @@ same-requires c κs = search needs
 returns-2 : tie.Need-returns-2
 returns-2 c = (omega arith, c .before .same .ensures .0 (c .if3 .taken))
 
-returns-3 : tie.Need-returns-3
-returns-3 c = (omega arith, λ e. true≢false (sym (c .before .same .ensures .1 e) ∙ c .if3 .left))
-
 slice-aggregate-same-2 : tie.Need-slice-aggregate-same-2
 slice-aggregate-same-2 c = search needs
 
 same-requires-2 : tie.Need-same-requires-2
 same-requires-2 c κs = search needs
 
+returns-3 : tie.Need-returns-3
+returns-3 c = (omega arith, λ _. c .before .same2 .ensures .0 (c .if4 .taken), λ e. absurd (omega arith))
+
 returns-4 : tie.Need-returns-4
-returns-4 c = (omega arith, c .before .same2 .ensures .0 (c .if5 .taken))
+returns-4 c = (omega arith, λ e. true≢false (sym (c .before .before .before .before .same .ensures .1 e) ∙ c .before .before .before .if3 .left), λ e. true≢false (sym (c .before .same2 .ensures .1 e) ∙ c .if4 .left))
+
+slice-aggregate-same-3 : tie.Need-slice-aggregate-same-3
+slice-aggregate-same-3 c = search needs
+
+same-requires-3 : tie.Need-same-requires-3
+same-requires-3 c κs = search needs
 
 returns-5 : tie.Need-returns-5
-returns-5 c = (omega arith, λ _ e. true≢false (sym (c .before .same2 .ensures .1 e) ∙ c .if5 .left))
+returns-5 c = (omega arith, c .before .same3 .ensures .0 (c .if6 .taken))
 
 returns-6 : tie.Need-returns-6
-returns-6 c = search needs
+returns-6 c = (omega arith, λ e. absurd (omega arith), λ _ e. true≢false (sym (c .before .same3 .ensures .1 e) ∙ c .if6 .left))
+
+returns-7 : tie.Need-returns-7
+returns-7 c = (omega arith, λ e. absurd (c .before .if2 .left e), λ e. absurd (c .if5 .left e))
 
 pub asked-by-spec : {M : Type 1} → statement M
 asked-by-spec =
@@ -44,9 +53,12 @@ asked-by-spec =
     slice-aggregate-same
     same-requires
     returns-2
-    returns-3
     slice-aggregate-same-2
     same-requires-2
+    returns-3
     returns-4
+    slice-aggregate-same-3
+    same-requires-3
     returns-5
-    returns-6)
+    returns-6
+    returns-7)

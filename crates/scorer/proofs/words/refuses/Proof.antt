@@ -1,16 +1,15 @@
--- A place that is looked at lies in the text. Assumes nothing.
+-- Two bytes stand before each place that is looked at. Assumes nothing.
 use Prim.Native.Nat.{_-_, _≤_}
-use native.Mathlib.Omega.{arith}
 use lib.ListN.{length}
 use borrow.Author.Needs.{needs}
-use Rattle.scorer.proofs.words.occurs.Statement.{statement}
-use Rattle.scorer.proofs.words.occurs.Tie as tie
+use Rattle.scorer.proofs.words.refuses.Statement.{statement}
+use Rattle.scorer.proofs.words.refuses.Tie as tie
 
 abbrev Inv-loop : tie.InvT-loop
-Inv-loop text mark at₀ at = at ≤ length text
+Inv-loop report number at₀ at = 2 ≤ at
 
 abbrev μ-loop : tie.MeasureT-loop
-μ-loop text mark at₀ at = length text - at
+μ-loop report number at₀ at = length report - at
 
 loop-holds : tie.Need-loop-holds Inv-loop μ-loop
 loop-holds c = search needs
@@ -23,6 +22,12 @@ returns c = search needs
 
 add-end : tie.Need-add-end Inv-loop μ-loop
 add-end c = search needs
+
+sub-letter : tie.Need-sub-letter Inv-loop μ-loop
+sub-letter c = search needs
+
+shared-slice-read-letter : tie.Need-shared-slice-read-letter Inv-loop μ-loop
+shared-slice-read-letter c = search needs
 
 sub-same : tie.Need-sub-same Inv-loop μ-loop
 sub-same c = search needs
@@ -51,8 +56,8 @@ loop-again c = search needs
 returns-3 : tie.Need-returns-3 Inv-loop μ-loop
 returns-3 c = search needs
 
-pub occurs-spec : {M : Type 1} → statement M
-occurs-spec =
+pub refuses-spec : {M : Type 1} → statement M
+refuses-spec =
     tie.close
     (tie.spec
     Inv-loop
@@ -61,6 +66,8 @@ occurs-spec =
     sub-if1
     returns
     add-end
+    sub-letter
+    shared-slice-read-letter
     sub-same
     part-same-start
     part-same-end

@@ -3,7 +3,6 @@ use Prim.Native.Nat.{ℕ}
 use mathlib.Core.Bool.{Bool, true, false}
 use lib.ListN.{getD}
 use lib.Ieee.{Float, nan}
-use Rattle.exponents.specs.declared.exponent.Printed.{Printed}
 use Rattle.exponents.specs.declared.exponent.Printed.the-variants.{Of0_34, Of10_6}
 use Rattle.exponents.specs.declared.exponent.Exponent.{Exponent}
 use Rattle.exponents.specs.Exponent.{workedAs}
@@ -13,6 +12,7 @@ use Rattle.rows.specs.declared.row.NonAnalytic.{NonAnalytic}
 use Rattle.isotherm.specs.declared.isotherm.Isotherm.{Isotherm}
 use Rattle.critical.specs.declared.critical.Near.{Near}
 use Rattle.critical.specs.declared.critical.Edge.{Edge}
+use Rattle.critical.specs.declared.critical.Side.{Side}
 use Rattle.critical.specs.declared.critical.Critical.{Critical}
 
 -- ---- what the three rows share: e = δ − 1, X = e·e, r = root 5/3 of X, v = root 2/3 of X
@@ -40,17 +40,16 @@ abbrev pub lowered : Bool → Around → Formula
 lowered true n = n .X ^^ 2 ⊗ size (n .e)
 lowered false n = n .X ^^ 2
 
--- ---- θ, Δ, P₀ = Δᵇ, P₁ = P₀/Δ, Ψ and Xᵃ⁻¹ of a row, with z for D·(τ−1)²
+-- ---- θ, Δ, P₀ = Δᵇ, P₁ = P₀/Δ and Xᵃ⁻¹ of a row
 pub record Parts : Type 0 where
   pub θ : Formula
   pub Δ : Formula
   pub P₀ : Formula
   pub P₁ : Formula
-  pub Ψ : Formula
   pub low : Formula
 
-abbrev pub parts : NonAnalytic → Around → Float → Float → Parts
-parts row n tau z =
+abbrev pub parts : NonAnalytic → Around → Float → Parts
+parts row n tau =
     let θ = (one ⊖ num tau) ⊕ num (row .ka) ⊗ n .r in
     let Δ = θ ⊗ θ ⊕ num (row .kb) ⊗ raised (row .half) n in
     let P₀ = root (workedAs (row .root)) Δ in
@@ -59,16 +58,19 @@ parts row n tau z =
       Δ = Δ;
       P₀ = P₀;
       P₁ = P₀ ⊘ Δ;
-      Ψ = e^ (minus (num (row .kc) ⊗ n .X ⊕ num z));
       low = lowered (row .half) n;
     }
+
+-- Ψ = e^(−(C·X + z)), with z for D·(τ−1)²
+abbrev pub psi : NonAnalytic → Around → Float → Formula
+psi row n z = e^ (minus (num (row .kc) ⊗ n .X ⊕ num z))
 
 -- ---- what is worked once for a state, in plain f64
 abbrev pub near : Around → Near
 near n = record { e = value (n .e); x = value (n .X); r = value (n .r); v = value (n .v) }
 
 abbrev pub edge : Parts → Edge
-edge g = record { theta = value (g .θ); delta = value (g .Δ); p0 = value (g .P₀); p1 = value (g .P₁); psi = value (g .Ψ); low = value (g .low) }
+edge g = record { theta = value (g .θ); delta = value (g .Δ); p0 = value (g .P₀); p1 = value (g .P₁); low = value (g .low) }
 
 -- no row, for a place that the table does not have
 abbrev pub blank : NonAnalytic
@@ -81,7 +83,7 @@ row i = getD nonAnalytics i blank
 unfoldable pub critical : Isotherm → Float → Critical
 critical iso delta =
     let n = around delta in
-    let at : ℕ → Edge = λ i. edge (parts (row i) n (iso .tau) (iso .cold)) in
+    let at : ℕ → Edge = λ i. edge (parts (row i) n (iso .tau)) in
     record { near = near n; first = at 0; second = at 1; third = at 2 }
 
 -- ---- the same as code holds them, by their numbers
@@ -89,8 +91,11 @@ abbrev pub heldNear : Near → Around
 heldNear n = record { e = num (n .e); X = num (n .x); r = num (n .r); v = num (n .v) }
 
 abbrev pub heldEdge : Edge → Parts
-heldEdge g = record { θ = num (g .theta); Δ = num (g .delta); P₀ = num (g .p0); P₁ = num (g .p1); Ψ = num (g .psi); low = num (g .low) }
+heldEdge g = record { θ = num (g .theta); Δ = num (g .delta); P₀ = num (g .p0); P₁ = num (g .p1); low = num (g .low) }
 
--- a row that differs from another in b alone
-abbrev pub based : Printed → Parts → Parts
-based b g = record { θ = g .θ; Δ = g .Δ; P₀ = root (workedAs b) (g .Δ); P₁ = root (workedAs b) (g .Δ) ⊘ g .Δ; Ψ = g .Ψ; low = g .low }
+-- what rows 40 and 41 share, and a row that has it by its P₀
+abbrev pub side : Parts → Side
+side g = record { theta = value (g .θ); delta = value (g .Δ); low = value (g .low) }
+
+abbrev pub based : Formula → Side → Parts
+based P₀ s = record { θ = num (s .theta); Δ = num (s .delta); P₀ = P₀; P₁ = P₀ ⊘ num (s .delta); low = num (s .low) }

@@ -1,18 +1,15 @@
 // Rows 40 to 42, the non-analytic ones, which see the neighbourhood of the critical point: what their terms and brackets
-// are made of, in plain f64. A number here that is not finite fails whatever is worked from it.
+// are made of but for Ψ, in plain f64. A number here that is not finite fails whatever is worked from it.
 ghost use mathlib.Core.Path.{_≡_};
-ghost use Rattle.numeric.specs.Working.{plain};
-ghost use Rattle.roots.specs.Root.{root};
-ghost use Rattle.roots.specs.Formula.{absolute, value};
-ghost use Rattle.critical.specs.Critical.{around, near, raised, lowered, heldNear, heldEdge, parts, based, edge, critical};
-use exponential::exponential::exponential;
+ghost use Rattle.roots.specs.Formula.{absolute, num, value};
+ghost use Rattle.critical.specs.Critical.{around, near, raised, lowered, heldNear, parts, side, edge, based, critical};
 use exponents::exponent::Exponent;
 use exponents::exponent::Printed;
 use exponents::exponent::worked_as;
 use isotherm::isotherm::Isotherm;
 use numeric::working::over;
-use numeric::working::plain;
-use roots::root::root;
+use roots::side::three_roots;
+use roots::side::two_roots;
 use rows::row::NonAnalytic;
 use rows::row::non_analytics;
 
@@ -24,13 +21,19 @@ pub struct Near {
     pub v: f64,
 }
 
-// θ, Δ, P₀ = Δᵇ, P₁ = P₀/Δ, Ψ and Xᵃ⁻¹ of a row.
+// θ, Δ and Xᵃ⁻¹ of a row, which rows 40 and 41 share.
+struct Side {
+    theta: f64,
+    delta: f64,
+    low: f64,
+}
+
+// θ, Δ, P₀ = Δᵇ, P₁ = P₀/Δ and Xᵃ⁻¹ of a row.
 pub struct Edge {
     pub theta: f64,
     pub delta: f64,
     pub p0: f64,
     pub p1: f64,
-    pub psi: f64,
     pub low: f64,
 }
 
@@ -47,9 +50,13 @@ fn near_critical(delta: f64) -> Near
 {
     let e = delta - 1.0;
     let x = e * e;
-    let r = rooted(x, worked_as(Printed::Of10_6));
-    let v = rooted(x, Exponent { m: 2, k: 3 });
-    Near { e, x, r, v }
+    let roots = two_roots(x, worked_as(Printed::Of10_6), Exponent { m: 2, k: 3 });
+    Near {
+        e,
+        x,
+        r: roots.first,
+        v: roots.second,
+    }
 }
 
 fn size_of(x: f64) -> f64
@@ -78,46 +85,25 @@ fn lower(half: bool, n: Near) -> f64
     if half { x * x * size_of(n.e) } else { x * x }
 }
 
-// A root, for a formula that goes on in plain f64.
-fn rooted(x: f64, e: Exponent) -> f64
-    ensures { λ r. ⌜ r ≡ plain (root e x) ⌝ }
-{
-    plain(root(x, e))
-}
-
-fn edge_of(row: NonAnalytic, n: Near, tau: f64, z: f64) -> Edge
-    ensures { λ r. ⌜ r ≡ edge (parts row (heldNear n) tau z) ⌝ }
+fn side_of(row: NonAnalytic, n: Near, tau: f64) -> Side
+    ensures { λ r. ⌜ r ≡ side (parts row (heldNear n) tau) ⌝ }
 {
     let theta = (1.0 - tau) + row.ka * n.r;
     let delta = theta * theta + row.kb * raise(row.half, n);
-    let psi = plain(exponential(-(row.kc * n.x + z)));
     let low = lower(row.half, n);
-    let b = row.root;
-    let p0 = rooted(delta, worked_as(b));
-    let p1 = over(p0, delta);
-    Edge {
-        theta,
-        delta,
-        p0,
-        p1,
-        psi,
-        low,
-    }
+    Side { theta, delta, low }
 }
 
-// A row that differs from another in b alone.
-fn edge_with(g: Edge, b: Printed) -> Edge
-    ensures { λ r. ⌜ r ≡ edge (based b (heldEdge g)) ⌝ }
+// A row by its root Δᵇ.
+fn edge_at(s: Side, p0: f64) -> Edge
+    ensures { λ r. ⌜ r ≡ edge (based (num p0) s) ⌝ }
 {
-    let p0 = rooted(g.delta, worked_as(b));
-    let p1 = over(p0, g.delta);
     Edge {
-        theta: g.theta,
-        delta: g.delta,
+        theta: s.theta,
+        delta: s.delta,
         p0,
-        p1,
-        psi: g.psi,
-        low: g.low,
+        p1: over(p0, s.delta),
+        low: s.low,
     }
 }
 
@@ -126,16 +112,19 @@ pub fn at_critical(iso: Isotherm, delta: f64) -> Critical
 {
     let rows = non_analytics();
     let near = near_critical(delta);
-    let first = edge_of(rows[0], near, iso.tau, iso.cold);
-    // Row 41 differs from row 40 in n and b alone.
-    let row = rows[1];
+    let tau = iso.tau;
+    // Row 41 differs from row 40 in n and b alone, and row 42 has the b of row 40.
+    let row = rows[0];
+    let next = rows[1];
+    let side = side_of(row, near, tau);
+    let other = side_of(rows[2], near, tau);
     let b = row.root;
-    let second = edge_with(first, b);
-    let third = edge_of(rows[2], near, iso.tau, iso.cold);
+    let c = next.root;
+    let roots = three_roots(side.delta, worked_as(b), worked_as(c), other.delta);
     Critical {
         near,
-        first,
-        second,
-        third,
+        first: edge_at(side, roots.first),
+        second: edge_at(side, roots.second),
+        third: edge_at(other, roots.other),
     }
 }

@@ -6,7 +6,7 @@ use lib.Ieee.{Float}
 use Rattle.numeric.specs.Number.{decimal, whole}
 use Rattle.numeric.specs.Working.{plain}
 use Rattle.exponential.specs.Exponential.{exponential}
-use Rattle.exponential.specs.declared.decay.Ten.{Ten}
+use Rattle.exponential.specs.declared.decay.Twelve.{Twelve}
 
 unfoldable pub decay : Float → Float
 decay x = plain (exponential (Ieee.neg x))
@@ -15,8 +15,8 @@ decay x = plain (exponential (Ieee.neg x))
 unfoldable pub ordinary : Float → Bool
 ordinary x = Ieee.le (decimal 1 200) x && Ieee.le x (whole 700)
 
--- ten numbers at once
-unfoldable pub each : (Float → Float) → Ten → Ten
+-- twelve numbers at once
+unfoldable pub each : (Float → Float) → Twelve → Twelve
 each f x = record {
   a = f (x .a);
   b = f (x .b);
@@ -28,10 +28,12 @@ each f x = record {
   h = f (x .h);
   i = f (x .i);
   j = f (x .j);
+  k = f (x .k);
+  l = f (x .l);
 }
 
-abbrev pub numbers : Ten → List Float
-numbers x = x .a ∷ x .b ∷ x .c ∷ x .d ∷ x .e ∷ x .f ∷ x .g ∷ x .h ∷ x .i ∷ x .j ∷ []
+abbrev pub numbers : Twelve → List Float
+numbers x = x .a ∷ x .b ∷ x .c ∷ x .d ∷ x .e ∷ x .f ∷ x .g ∷ x .h ∷ x .i ∷ x .j ∷ x .k ∷ x .l ∷ []
 
 unfoldable pub allOrdinary : List Float → Bool
 allOrdinary [] = true

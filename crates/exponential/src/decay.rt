@@ -1,5 +1,5 @@
-// e⁻ˣ of ten numbers side by side, for a formula that goes on in plain f64. One exponential is a chain of 38 operations, each of which waits for the
-// one before it; ten chains fill each other's waits.
+// e⁻ˣ of twelve numbers side by side, for a formula that goes on in plain f64. One exponential is a chain of 38 operations, each of which waits for the
+// one before it; twelve chains fill each other's waits.
 ghost use mathlib.Core.Path.{_≡_};
 ghost use mathlib.Core.Bool.{_&&_};
 ghost use lib.Dec.{T};
@@ -12,7 +12,7 @@ use numeric::working::checked;
 use numeric::working::plain;
 
 // By fields: of an array each place would have to be proved to lie in it.
-pub struct Ten {
+pub struct Twelve {
     pub a: f64,
     pub b: f64,
     pub c: f64,
@@ -23,9 +23,11 @@ pub struct Ten {
     pub h: f64,
     pub i: f64,
     pub j: f64,
+    pub k: f64,
+    pub l: f64,
 }
 
-// With no branch on x, so that a compiler can work ten of it two by two.
+// With no branch on x, so that a compiler can work twelve of it two by two.
 fn ordinary_decay(x: f64) -> f64
     requires { ⌜ T (ordinary x) ⌝ }
     ensures { λ r. ⌜ r ≡ decay x ⌝ }
@@ -45,10 +47,12 @@ fn also(x: f64, others: bool) -> bool
     if ordinary(x) { others } else { false }
 }
 
-fn all_ordinary(x: Ten) -> bool
+fn all_ordinary(x: Twelve) -> bool
     ensures { λ r. ⌜ r ≡ allOrdinary (numbers x) ⌝ }
 {
-    let r = also(x.j, true);
+    let r = also(x.l, true);
+    let r = also(x.k, r);
+    let r = also(x.j, r);
     let r = also(x.i, r);
     let r = also(x.h, r);
     let r = also(x.g, r);
@@ -60,11 +64,11 @@ fn all_ordinary(x: Ten) -> bool
     also(x.a, r)
 }
 
-fn side_by_side(x: Ten) -> Ten
+fn side_by_side(x: Twelve) -> Twelve
     requires { ⌜ T (allOrdinary (numbers x)) ⌝ }
     ensures { λ r. ⌜ r ≡ each decay x ⌝ }
 {
-    Ten {
+    Twelve {
         a: ordinary_decay(x.a),
         b: ordinary_decay(x.b),
         c: ordinary_decay(x.c),
@@ -75,13 +79,15 @@ fn side_by_side(x: Ten) -> Ten
         h: ordinary_decay(x.h),
         i: ordinary_decay(x.i),
         j: ordinary_decay(x.j),
+        k: ordinary_decay(x.k),
+        l: ordinary_decay(x.l),
     }
 }
 
-fn one_by_one(x: Ten) -> Ten
+fn one_by_one(x: Twelve) -> Twelve
     ensures { λ r. ⌜ r ≡ each decay x ⌝ }
 {
-    Ten {
+    Twelve {
         a: decay(x.a),
         b: decay(x.b),
         c: decay(x.c),
@@ -92,10 +98,12 @@ fn one_by_one(x: Ten) -> Ten
         h: decay(x.h),
         i: decay(x.i),
         j: decay(x.j),
+        k: decay(x.k),
+        l: decay(x.l),
     }
 }
 
-pub fn ten_decays(x: Ten) -> Ten
+pub fn twelve_decays(x: Twelve) -> Twelve
     ensures { λ r. ⌜ r ≡ each decay x ⌝ }
 {
     if all_ordinary(x) {

@@ -11,6 +11,7 @@ use Rattle.rows.specs.declared.row.Exponential.{Exponential}
 use Rattle.rows.specs.declared.row.Gaussian.{Gaussian}
 use Rattle.rows.specs.Row.{gaussians}
 use Rattle.isotherm.specs.Isotherm.{bellAt}
+use Rattle.critical.specs.Critical.{around, psi, row}
 use Rattle.isotherm.specs.declared.isotherm.Isotherm.{Isotherm}
 use Rattle.residual.specs.declared.term.Point.{Point}
 use Rattle.derivatives.specs.Derivative.{Derivative, Delta, DeltaDelta, Tau, TauTau, DeltaTau}
@@ -86,5 +87,9 @@ decays delta = map (λ (c : ℕ). value (decay delta c)) (1 ∷ 2 ∷ 3 ∷ 4 �
 unfoldable pub bells : List Float → Float → List Float
 bells spread delta = numbered (λ (i : ℕ) (r : Gaussian). value (bell delta (getD spread (bellAt i) nan) r)) 0 gaussians
 
+-- rows 40 and 41 have one Ψ
+unfoldable pub psis : Float → Float → List Float
+psis z delta = map (λ (i : ℕ). value (psi (row i) (around delta) z)) (0 ∷ 2 ∷ [])
+
 unfoldable pub point : Isotherm → Float → Point
-point iso delta = record { delta = delta; powers = powers 10 delta; decays = decays delta; bells = bells (iso .spread) delta }
+point iso delta = record { delta = delta; powers = powers 10 delta; decays = decays delta; bells = bells (iso .spread) delta; psis = psis (iso .cold) delta }

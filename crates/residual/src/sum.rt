@@ -142,14 +142,18 @@ fn gaussian_sums(all: bool, start: Five, iso: Isotherm, p: Point) -> Five
 }
 
 // Rows 40 to 42.
-fn sharp_sums(all: bool, start: Five, iso: Isotherm, delta: f64) -> Five
-    ensures { λ v. ⌜ Meet all v (λ k. onto (checked (of start k)) (sharpFigures iso delta k)) ⌝ }
+fn sharp_sums(all: bool, start: Five, iso: Isotherm, p: Point) -> Five
+    requires { ⌜ p ≡ point iso (p .delta) ⌝ }
+    ensures { λ v. ⌜ Meet all v (λ k. onto (checked (of start k)) (sharpFigures iso (p .delta) k)) ⌝ }
 {
     let rows = non_analytics();
-    let c = at_critical(iso, delta);
-    let s40 = sharpen(all, start, rows[0], c.near, c.first, delta, iso.tau);
-    let s41 = sharpen(all, s40, rows[1], c.near, c.second, delta, iso.tau);
-    sharpen(all, s41, rows[2], c.near, c.third, delta, iso.tau)
+    let d = p.delta;
+    let t = iso.tau;
+    let z = p.psis;
+    let c = at_critical(iso, d);
+    let s40 = sharpen(all, start, rows[0], c.near, c.first, z[0], d, t);
+    let s41 = sharpen(all, s40, rows[1], c.near, c.second, z[0], d, t);
+    sharpen(all, s41, rows[2], c.near, c.third, z[1], d, t)
 }
 
 // All 42, in plain f64.
@@ -160,7 +164,7 @@ fn sums_at(all: bool, iso: Isotherm, delta: f64) -> Five
     let s7 = polynomial_sums(all, iso, p);
     let s34 = exponential_sums(all, s7, iso, p);
     let s39 = gaussian_sums(all, s34, iso, p);
-    sharp_sums(all, s39, iso, delta)
+    sharp_sums(all, s39, iso, p)
 }
 
 // δφ_δ, which a pressure needs.

@@ -1,17 +1,18 @@
 // What the residual part's sums are made of: what is worked once for a state at a density.
 ghost use mathlib.Core.Path.{_≡_};
 ghost use Rattle.residual.specs.Term.{point};
-use exponential::decay::Ten;
-use exponential::decay::ten_decays;
+use exponential::decay::Twelve;
+use exponential::decay::twelve_decays;
 use isotherm::isotherm::Isotherm;
 use powers::power::powers_to_10;
 
-// The powers of δ, e^(−δᶜ) for c from 1 to 6, and the exponentials of rows 35 to 39.
+// The powers of δ, e^(−δᶜ) for c from 1 to 6, the exponentials of rows 35 to 39, and Ψ of rows 40 and 41 and of row 42.
 pub struct Point {
     pub delta: f64,
     pub powers: [f64; 11],
     pub decays: [f64; 6],
     pub bells: [f64; 5],
+    pub psis: [f64; 2],
 }
 
 pub(crate) fn at_density(iso: Isotherm, delta: f64) -> Point
@@ -21,7 +22,7 @@ pub(crate) fn at_density(iso: Isotherm, delta: f64) -> Point
     let x = delta - 1.0;
     let xx = x * x;
     let spread = iso.spread;
-    let e = ten_decays(Ten {
+    let e = twelve_decays(Twelve {
         a: powers[1],
         b: powers[2],
         c: powers[3],
@@ -32,11 +33,14 @@ pub(crate) fn at_density(iso: Isotherm, delta: f64) -> Point
         h: 25.0 * xx + spread[1],
         i: 15.0 * xx + spread[2],
         j: 20.0 * xx + spread[3],
+        k: 10.0 * xx + iso.cold,
+        l: 12.5 * xx + iso.cold,
     });
     Point {
         delta,
         powers,
         decays: [e.a, e.b, e.c, e.d, e.e, e.f],
         bells: [e.g, e.h, e.h, e.i, e.j],
+        psis: [e.k, e.l],
     }
 }

@@ -251,3 +251,56 @@ never-falls t x y p o h k =
 -- ---- whole powers of a number with no minus sign have none
 pub power-unsigned : (x : Float) (k : ℕ) → T (nonneg x) → T (finite (power x k)) → T (nonneg (power x k))
 power-unsigned x k p f = power-mono x x k (record { first = p; second = p; order = le-self x p }) f .second
+
+-- ---- a whole power of what has no minus sign has none either, and is a number where anything lies above it
+abbrev plus : Float → Bool
+plus nan = true
+plus (inf s) = not s
+plus (fin s m e) = not s
+
+unsigned-plus : (x : Float) → T (unsigned x) → T (plus x)
+unsigned-plus nan h = absurd h
+unsigned-plus (inf true) h = absurd h
+unsigned-plus (inf false) h = tt
+unsigned-plus (fin true m e) h = absurd h
+unsigned-plus (fin false m e) h = tt
+
+mul-plus : (p x : Float) → T (plus p) → T (nonneg x) → T (plus (mul binary64 p x))
+unfolding mul
+mul-plus nan x h q = tt
+mul-plus (inf true) x h q = absurd h
+mul-plus (inf false) nan h q = absurd q
+mul-plus (inf false) (inf t) h q = absurd q
+mul-plus (inf false) (fin true n d) h q = absurd q
+mul-plus (inf false) (fin false n d) h q = go (eqb n 0)
+  where
+    go : (b : Bool) → T (plus (cond b nan (inf false)))
+    go true = tt
+    go false = tt
+mul-plus (fin true m e) x h q = absurd h
+mul-plus (fin false m e) x h q = unsigned-plus (mul binary64 (fin false m e) x) (mul-unsigned binary64 (fin false m e) x tt q)
+
+nonneg-plus : (x : Float) → T (nonneg x) → T (plus x)
+nonneg-plus nan p = absurd p
+nonneg-plus (inf s) p = absurd p
+nonneg-plus (fin true m e) p = absurd p
+nonneg-plus (fin false m e) p = tt
+
+power-plus : (x : Float) (k : ℕ) → T (nonneg x) → T (plus (power x k))
+unfolding power whole ofInt
+power-plus x zero p = tt
+power-plus x (suc zero) p = nonneg-plus x p
+power-plus x (suc (suc k)) p = mul-plus (power x (suc k)) x (power-plus x (suc k) p) p
+
+less-nonneg : (t y : Float) → T (plus t) → lt t y ≡ true → T (nonneg t)
+unfolding lt
+less-nonneg nan y p h = absurd (true≢false (sym h))
+less-nonneg (inf true) y p h = absurd p
+less-nonneg (inf false) nan p h = absurd (true≢false (sym h))
+less-nonneg (inf false) (inf s) p h = absurd (true≢false (sym h))
+less-nonneg (inf false) (fin s m e) p h = absurd (true≢false (sym h))
+less-nonneg (fin true m e) y p h = absurd p
+less-nonneg (fin false m e) y p h = tt
+
+pub power-under : (x y : Float) (k : ℕ) → T (nonneg x) → lt (power x k) y ≡ true → T (nonneg (power x k))
+power-under x y k p h = less-nonneg (power x k) y (power-plus x k p) h

@@ -35,7 +35,7 @@ pub power-at-is : (k b : ℕ) → powerAt k b ≡ checked (power (ofBits binary6
 unfolding powerAt
 power-at-is k b = sym (checked-power (ofBits binary64 b) k)
 
-nonneg-checked : (x : Float) → T (nonneg x) → checked x ≡ Number x
+pub nonneg-checked : (x : Float) → T (nonneg x) → checked x ≡ Number x
 nonneg-checked nan p = absurd p
 nonneg-checked (inf s) p = absurd p
 nonneg-checked (fin s m e) p = refl

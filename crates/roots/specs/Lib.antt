@@ -1,3 +1,4 @@
 pub mod Root
 pub mod Formula
 pub mod Readings
+pub mod Side

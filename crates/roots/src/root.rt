@@ -8,6 +8,7 @@ ghost use lib.Ieee.{binary64, ofBits};
 ghost use Rattle.numeric.specs.Number.{nonneg};
 ghost use Rattle.powers.specs.Power.{power};
 ghost use Rattle.roots.specs.Root.{root, rootBits, searched};
+ghost use Rattle.roots.specs.Side.{PowersAbout, usual};
 use exponents::exponent::Exponent;
 use halving::halving::Crossing;
 use numeric::working::Worked;
@@ -23,11 +24,9 @@ fn power_at(b: u64, k: usize) -> f64
     whole_power(f64::from_bits(b), k)
 }
 
-// Bits near those of x^(m/k): 2 to (m/k)·log₂x, good to ten digits, and a Newton step towards the power t. Whatever is
-// guessed the search finds the same place, so no more is promised than that the guess lies within its ends.
-fn guess(x: f64, m: u32, k: u32, t: f64) -> u64
+// About log₂x, to ten digits. It leads to a guess alone, so nothing is promised of it.
+pub(crate) fn about_log(x: f64) -> f64
     requires { ⌜ T (nonneg x) ⌝ }
-    ensures { λ r. ⌜ r ≤ 0x4130_0000_0000_0000 ⌝ }
 {
     // x is z times a power of 2, and log₂z = ½ + (2/ln 2)·artanh w
     let b = f64::to_bits(x);
@@ -41,7 +40,11 @@ fn guess(x: f64, m: u32, k: u32, t: f64) -> u64
     let series = 2.8853900817779268 + v * 0.9617966939259756 + vv * high;
     let exponent = f64::from_bits(b / 0x0010_0000_0000_0000 % 2048 + 0x4330_0000_0000_0000)
         - 4503599627371519.0;
-    let l = (exponent + 0.5 + w * series) * ((m as f64) / (k as f64));
+    exponent + 0.5 + w * series
+}
+
+// About 2ˡ, to ten digits, or 0 for an l out of all range: of it nothing is promised either.
+fn about_power(l: f64) -> f64 {
     // l is a whole number, which 1.5·2⁵² rounds it to, and f
     let n = l + 6755399441055744.0;
     if n < 9007199254740992.0 {
@@ -58,24 +61,42 @@ fn guess(x: f64, m: u32, k: u32, t: f64) -> u64
             + ff * (0.2402265069591007 + f * 0.05550410866482158)
             + ff * ff * (0.009618129107628477 + f * high);
         let e = (f64::to_bits(n) % 4096 + 1023) % 4096 % 2047;
-        let y = f64::from_bits(e * 0x0010_0000_0000_0000) * part;
-        // yᵏ, by squares
-        let mut p = 1.0;
-        let mut square = y;
-        let mut left = k;
-        while 0 < left {
-            if left % 2 == 1 {
-                p = p * square;
-            }
-            square = square * square;
-            left = left / 2;
+        return f64::from_bits(e * 0x0010_0000_0000_0000) * part;
+    }
+    0.0
+}
+
+// About yᵏ: by squares, and so with other roundings than the whole power.
+pub(crate) fn about_whole_power(y: f64, k: usize) -> f64 {
+    let mut p = 1.0;
+    let mut square = y;
+    let mut left = k;
+    while 0 < left {
+        if left % 2 == 1 {
+            p = p * square;
         }
-        let g = y + y * ((t - p) * (1.0 / (t * (k as f64))));
-        if 0.0 < g {
-            let near = f64::to_bits(g);
-            if near <= 0x4130_0000_0000_0000 {
-                return near;
-            }
+        square = square * square;
+        left = left / 2;
+    }
+    p
+}
+
+// Bits near those of x^(m/k), for an x with about the logarithm l and about the m-th power t: a power of 2 and a Newton step.
+// Whatever is guessed the search finds the same place, so no more is promised than that the guess lies below the search's
+// upper end. 0 is no guess.
+pub(crate) fn guess(l: f64, e: Exponent, t: f64) -> u64
+    requires { ⌜ (e .k ≤ 51) × (e .m < 102) ⌝ }
+    ensures { λ r. ⌜ r < 0x4130_0000_0000_0000 ⌝ }
+{
+    let m = e.m as u32;
+    let k = e.k as u32;
+    let y = about_power(l * ((m as f64) / (k as f64)));
+    let p = about_whole_power(y, e.k);
+    let g = y + y * ((t - p) * (1.0 / (t * (k as f64))));
+    if 0.0 < g {
+        let near = f64::to_bits(g);
+        if near < 0x4130_0000_0000_0000 {
+            return near;
         }
     }
     0
@@ -147,7 +168,7 @@ fn crossing(t: f64, k: usize, guess: u64) -> Crossing
 }
 
 // Whole powers of a float and its two neighbours.
-struct Three {
+pub(crate) struct Three {
     below: f64,
     here: f64,
     above: f64,
@@ -171,32 +192,18 @@ fn three_powers(x: f64, y: f64, z: f64, k: usize) -> Three
     Three { below, here, above }
 }
 
-// The same place as `crossing`: as a rule the guess or the bits below it, and looked for only where it is neither.
-fn near_crossing(t: f64, k: usize, guess: u64) -> Crossing
-    requires { ⌜ T (nonneg t) ⌝ }
-    requires { ⌜ (1 ≤ k) × (k ≤ 51) ⌝ }
-    ensures { λ r. ⌜ r ≡ rootBits k t ⌝ }
+// Those about a guess.
+pub(crate) fn powers_about(at: u64, k: usize) -> Three
+    requires { ⌜ 1 ≤ k ⌝ }
+    requires { ⌜ (0 < at) × (at < 0x4130_0000_0000_0000) ⌝ }
+    ensures { λ r. ⌜ PowersAbout at k (r .below) (r .here) (r .above) ⌝ }
 {
-    if 0 < guess {
-        if guess < 0x4130_0000_0000_0000 {
-            let p = three_powers(
-                f64::from_bits(guess - 1),
-                f64::from_bits(guess),
-                f64::from_bits(guess + 1),
-                k,
-            );
-            if t < p.here {
-                if p.below <= t {
-                    return Crossing::At(guess - 1);
-                }
-            } else {
-                if t < p.above {
-                    return Crossing::At(guess);
-                }
-            }
-        }
-    }
-    crossing(t, k, guess)
+    three_powers(
+        f64::from_bits(at - 1),
+        f64::from_bits(at),
+        f64::from_bits(at + 1),
+        k,
+    )
 }
 
 // For x above 0, and a k for which the ends of the search have a k-th whole power.
@@ -208,14 +215,15 @@ fn searched(x: f64, m: usize, k: usize) -> Worked
     let Worked::Number(t) = checked(whole_power(x, m)) else {
         return Worked::Failed;
     };
-    match near_crossing(t, k, guess(x, m as u32, k as u32, t)) {
+    match crossing(t, k, guess(about_log(x), Exponent { m, k }, t)) {
         Crossing::At(b) => Worked::Number(f64::from_bits(b)),
         Crossing::Nowhere => Worked::Failed,
         Crossing::Broke => Worked::Failed,
     }
 }
 
-pub fn root(x: f64, e: Exponent) -> Worked
+// Any root, looked for from a guess outward.
+fn looked_for(x: f64, e: Exponent) -> Worked
     ensures { λ r. ⌜ r ≡ root e x ⌝ }
 {
     let m = e.m;
@@ -237,4 +245,56 @@ pub fn root(x: f64, e: Exponent) -> Worked
         return Worked::Failed;
     }
     searched(x, m, k)
+}
+
+// Whether x^(m/k) has to be searched for, and 2²⁰, the search's upper end, has a k-th whole power.
+pub(crate) fn usual(x: f64, e: Exponent) -> bool
+    ensures { λ r. ⌜ r ≡ usual e x ⌝ }
+{
+    let m = e.m;
+    let k = e.k;
+    if k <= m / 2 {
+        return false;
+    }
+    if 51 < k {
+        return false;
+    }
+    if x < 0.0 {
+        return false;
+    }
+    if x == 0.0 {
+        return false;
+    }
+    is_finite(x)
+}
+
+// As a rule the root is the guess or the float below it, and is looked for only where it is neither. Which of the two it is
+// no processor foresees: the place is chosen and not branched to.
+pub(crate) fn root_about(x: f64, e: Exponent, t: f64, at: u64, p: Three) -> Worked
+    requires { ⌜ T (usual e x) ⌝ }
+    requires { ⌜ t ≡ power x (e .m) ⌝ }
+    requires { ⌜ (0 < at) × (at < 0x4130_0000_0000_0000) ⌝ }
+    requires { ⌜ PowersAbout at (e .k) (p .below) (p .here) (p .above) ⌝ }
+    ensures { λ r. ⌜ r ≡ root e x ⌝ }
+{
+    let under = t < p.here;
+    let place = if under { at - 1 } else { at };
+    let shown = if under { p.below <= t } else { t < p.above };
+    if shown {
+        return Worked::Number(f64::from_bits(place));
+    }
+    looked_for(x, e)
+}
+
+pub fn root(x: f64, e: Exponent) -> Worked
+    ensures { λ r. ⌜ r ≡ root e x ⌝ }
+{
+    if usual(x, e) {
+        let t = whole_power(x, e.m);
+        let at = guess(about_log(x), e, t);
+        if 0 < at {
+            return root_about(x, e, t, at, powers_about(at, e.k));
+        }
+    }
+    looked_for(x, e)
 }

@@ -6,7 +6,7 @@ use lib.Ieee.{Float}
 use Rattle.numeric.specs.Working.{checked, _+ᵂ_}
 use Rattle.numeric.specs.declared.working.Worked.{Worked}
 use Rattle.numeric.proofs.Workings.{checked-add}
-use Rattle.roots.specs.Formula.{_⊗_, value, work}
+use Rattle.roots.specs.Formula.{Formula, num, _⊗_, value, work}
 use Rattle.roots.proofs.Formulas.{once}
 use Rattle.derivatives.specs.Derivative.{Derivative, Delta, DeltaDelta, Tau, TauTau, DeltaTau, of, grown, asked}
 use Rattle.derivatives.specs.declared.derivative.Five.{Five}
@@ -27,11 +27,11 @@ held row n g delta tau Tau = refl
 held row n g delta tau TauTau = refl
 held row n g delta tau DeltaTau = refl
 
-module _ (all : Bool) (s v : Five) (w row : NonAnalytic) (x : Near) (n : Around) (y : Edge) (g : Parts) (delta tau : Float) (k : Derivative) where
-  pub sharpened : w ≡ row → x ≡ near n → y ≡ edge g → T (asked all k)
-      → v ≡ grown all s (value (sharpTerm w (heldNear x) (heldEdge y) delta tau)) (λ j. value (sharpBracket w (heldNear x) (heldEdge y) delta tau j))
-      → checked (of v k) ≡ checked (of s k) +ᵂ work (sharpTerm row n g delta tau ⊗ sharpBracket row n g delta tau k)
+module _ (all : Bool) (s v : Five) (w row : NonAnalytic) (x : Near) (n : Around) (y : Edge) (g : Parts) (z : Float) (Ψ : Formula) (delta tau : Float) (k : Derivative) where
+  pub sharpened : w ≡ row → x ≡ near n → y ≡ edge g → z ≡ value Ψ → T (asked all k)
+      → v ≡ grown all s (value (sharpTerm w delta (num z))) (λ j. value (sharpBracket w (heldNear x) (heldEdge y) delta tau j))
+      → checked (of v k) ≡ checked (of s k) +ᵂ work (sharpTerm row delta Ψ ⊗ sharpBracket row n g delta tau k)
   unfolding value
-  sharpened a b c h e =
-      rw (e, of-grown all s (value (sharpTerm w (heldNear x) (heldEdge y) delta tau)) (λ j. value (sharpBracket w (heldNear x) (heldEdge y) delta tau j)) k h, a, b, c, held row n g delta tau k)
-      (checked-add (of s k) _ ∙ ap (λ (u : Worked). checked (of s k) +ᵂ u) (once (sharpTerm row n g delta tau ⊗ sharpBracket row n g delta tau k)))
+  sharpened a b c d h e =
+      rw (e, of-grown all s (value (sharpTerm w delta (num z))) (λ j. value (sharpBracket w (heldNear x) (heldEdge y) delta tau j)) k h, a, b, c, d, held row n g delta tau k)
+      (checked-add (of s k) _ ∙ ap (λ (u : Worked). checked (of s k) +ᵂ u) (once (sharpTerm row delta Ψ ⊗ sharpBracket row n g delta tau k)))

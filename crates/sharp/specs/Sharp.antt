@@ -8,7 +8,11 @@ use Rattle.derivatives.specs.Derivative.{Derivative, Delta, DeltaDelta, Tau, Ta
 use Rattle.rows.specs.Row.{nonAnalytics}
 use Rattle.rows.specs.declared.row.NonAnalytic.{NonAnalytic}
 use Rattle.isotherm.specs.declared.isotherm.Isotherm.{Isotherm}
-use Rattle.critical.specs.Critical.{Around, Parts, around, parts}
+use Rattle.critical.specs.Critical.{Around, Parts, around, parts, psi}
+
+-- ---- the term is (n·δ)·Ψ
+abbrev pub sharpTerm : NonAnalytic → Float → Formula → Formula
+sharpTerm row delta Ψ = num (row .n) ⊗ num delta ⊗ Ψ
 
 -- ---- the derivatives
 module _ (row : NonAnalytic) (n : Around) (g : Parts) where
@@ -91,10 +95,6 @@ module _ (row : NonAnalytic) (n : Around) (g : Parts) where
     abbrev pub bracketDT : Formula
     bracketDT = num tau ⊗ (g .P₀ ⊗ psiT tau ⊗ swell ⊕ rise ⊗ psiT tau ⊕ pT ⊗ swell ⊕ num delta ⊗ pDT)
 
-    -- the term is (n·δ)·Ψ
-    abbrev pub sharpTerm : Formula
-    sharpTerm = num (row .n) ⊗ num delta ⊗ g .Ψ
-
     unfoldable pub sharpBracket : Derivative → Formula
     sharpBracket Delta = bracketD
     sharpBracket DeltaDelta = bracketDD
@@ -107,8 +107,7 @@ module _ (iso : Isotherm) (delta : Float) (k : Derivative) where
   abbrev pub sharpFigure : NonAnalytic → Worked
   sharpFigure row =
       let n = around delta in
-      let g = parts row n (iso .tau) (iso .cold) in
-      work (sharpTerm row n g delta (iso .tau) ⊗ sharpBracket row n g delta (iso .tau) k)
+      work (sharpTerm row delta (psi row n (iso .cold)) ⊗ sharpBracket row n (parts row n (iso .tau)) delta (iso .tau) k)
 
   unfoldable pub sharpFigures : List Worked
   sharpFigures = map sharpFigure nonAnalytics

@@ -1,7 +1,7 @@
 // The figures of rows 40 to 42, the term (n·δ)·Ψ times the bracket of each derivative (004, Table 32), added to the sums
 // so far: all five, or the first, which a pressure needs.
 ghost use mathlib.Core.Path.{_≡_};
-ghost use Rattle.roots.specs.Formula.{value};
+ghost use Rattle.roots.specs.Formula.{num, value};
 ghost use Rattle.derivatives.specs.Derivative.{five, grown};
 ghost use Rattle.critical.specs.Critical.{heldNear, heldEdge};
 ghost use Rattle.sharp.specs.Sharp.{bend, bracketD, sharpTerm, sharpBracket};
@@ -67,11 +67,20 @@ fn brackets(row: NonAnalytic, n: Near, g: Edge, delta: f64, tau: f64) -> Five
     }
 }
 
-// The sums so far, and a row's figures added.
-pub fn sharpen(all: bool, s: Five, row: NonAnalytic, n: Near, g: Edge, delta: f64, tau: f64) -> Five
-    ensures { λ r. ⌜ r ≡ grown all s (value (sharpTerm row (heldNear n) (heldEdge g) delta tau)) (λ k. value (sharpBracket row (heldNear n) (heldEdge g) delta tau k)) ⌝ }
+// The sums so far, and a row's figures added. psi is its Ψ.
+pub fn sharpen(
+    all: bool,
+    s: Five,
+    row: NonAnalytic,
+    n: Near,
+    g: Edge,
+    psi: f64,
+    delta: f64,
+    tau: f64,
+) -> Five
+    ensures { λ r. ⌜ r ≡ grown all s (value (sharpTerm row delta (num psi))) (λ k. value (sharpBracket row (heldNear n) (heldEdge g) delta tau k)) ⌝ }
 {
-    let term = row.n * delta * g.psi;
+    let term = row.n * delta * psi;
     if all {
         return grow(true, s, term, brackets(row, n, g, delta, tau));
     }

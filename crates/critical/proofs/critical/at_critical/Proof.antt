@@ -1,4 +1,4 @@
--- Each row is the definition's, and row 41 has the numbers of row 40 but for its root. Assumes nothing.
+-- Each row is the definition's: row 41 has the numbers of row 40 but for its root, and row 42 has its b. Assumes nothing.
 use mathlib.Core.Path.{refl}
 use Rattle.roots.specs.Formula.{value}
 use Rattle.rows.specs.Row.{nonAnalytics}
@@ -13,33 +13,58 @@ non-analytics-requires c κs = search needs
 near-critical-requires : tie.Need-near-critical-requires
 near-critical-requires c κs = search needs
 
-array-copy-out-edge-of : tie.Need-array-copy-out-edge-of
-array-copy-out-edge-of c = search needs
-
-edge-of-requires : tie.Need-edge-of-requires
-edge-of-requires c κs = search needs
-
 array-copy-out-row : tie.Need-array-copy-out-row
 array-copy-out-row c = search needs
 
-edge-with-requires : tie.Need-edge-with-requires
-edge-with-requires c κs = search needs
+array-copy-out-next : tie.Need-array-copy-out-next
+array-copy-out-next c = search needs
 
-array-copy-out-edge-of-2 : tie.Need-array-copy-out-edge-of-2
-array-copy-out-edge-of-2 c = search needs
+side-of-requires : tie.Need-side-of-requires
+side-of-requires c κs = search needs
 
-edge-of-requires-2 : tie.Need-edge-of-requires-2
-edge-of-requires-2 c κs = search needs
+array-copy-out-side-of : tie.Need-array-copy-out-side-of
+array-copy-out-side-of c = search needs
+
+side-of-requires-2 : tie.Need-side-of-requires-2
+side-of-requires-2 c κs = search needs
+
+worked-as-requires : tie.Need-worked-as-requires
+worked-as-requires c κs = search needs
+
+worked-as-requires-2 : tie.Need-worked-as-requires-2
+worked-as-requires-2 c κs = search needs
+
+three-roots-requires : tie.Need-three-roots-requires
+three-roots-requires c κs = search needs
+
+edge-at-requires : tie.Need-edge-at-requires
+edge-at-requires c κs = search needs
+
+edge-at-requires-2 : tie.Need-edge-at-requires-2
+edge-at-requires-2 c κs = search needs
+
+edge-at-requires-3 : tie.Need-edge-at-requires-3
+edge-at-requires-3 c κs = search needs
 
 returns : tie.Need-returns
 unfolding critical value nonAnalytics
 returns c =
+    let t = c .before .before .before in
+    let s = t .before .before .before in
+    let n = s .before .before .before .before .before in
     rw (
-      c .edge-of2 .ensures,
-      c .before .before .edge-with .ensures,
-      c .before .before .before .before .edge-of .ensures,
-      c .before .before .before .before .before .before .near-critical .ensures,
-      c .before .before .before .before .before .before .before .non-analytics .ensures,
+      c .edge-at3 .ensures,
+      c .before .edge-at2 .ensures,
+      c .before .before .edge-at .ensures,
+      t .three-roots .ensures .2,
+      t .three-roots .ensures .1,
+      t .three-roots .ensures .0,
+      t .before .worked-as2 .ensures,
+      t .before .before .worked-as .ensures,
+      s .side-of2 .ensures,
+      s .before .before .side-of .ensures,
+      n .near-critical .ensures,
+      n .before .non-analytics .ensures,
     ) refl
 
 pub at-critical-spec : {M : Type 1} → statement M
@@ -48,10 +73,15 @@ at-critical-spec =
     (tie.spec
     non-analytics-requires
     near-critical-requires
-    array-copy-out-edge-of
-    edge-of-requires
     array-copy-out-row
-    edge-with-requires
-    array-copy-out-edge-of-2
-    edge-of-requires-2
+    array-copy-out-next
+    side-of-requires
+    array-copy-out-side-of
+    side-of-requires-2
+    worked-as-requires
+    worked-as-requires-2
+    three-roots-requires
+    edge-at-requires
+    edge-at-requires-2
+    edge-at-requires-3
     returns)

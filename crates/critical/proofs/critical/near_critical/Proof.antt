@@ -10,16 +10,12 @@ use Rattle.critical.proofs.critical.near_critical.Tie as tie
 worked-as-requires : tie.Need-worked-as-requires
 worked-as-requires c κs = search needs
 
-rooted-requires : tie.Need-rooted-requires
-rooted-requires c κs = search needs
-
-rooted-requires-2 : tie.Need-rooted-requires-2
-rooted-requires-2 c κs = search needs
+two-roots-requires : tie.Need-two-roots-requires
+two-roots-requires c κs = search needs
 
 returns : tie.Need-returns
 unfolding value whole ofBits ofInt
-returns c = rw (c .rooted2 .ensures, c .before .rooted .ensures, c .before .before .worked-as .ensures) refl
+returns c = rw (c .two-roots .ensures .0, c .two-roots .ensures .1, c .before .worked-as .ensures) refl
 
 pub near-critical-spec : {M : Type 1} → statement M
-near-critical-spec =
-    tie.close (tie.spec worked-as-requires rooted-requires rooted-requires-2 returns)
+near-critical-spec = tie.close (tie.spec worked-as-requires two-roots-requires returns)

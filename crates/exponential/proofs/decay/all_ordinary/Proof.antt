@@ -35,21 +35,29 @@ also-requires-9 c κs = search needs
 also-requires-10 : tie.Need-also-requires-10
 also-requires-10 c κs = search needs
 
+also-requires-11 : tie.Need-also-requires-11
+also-requires-11 c κs = search needs
+
+also-requires-12 : tie.Need-also-requires-12
+also-requires-12 c κs = search needs
+
 returns : tie.Need-returns
 unfolding allOrdinary
 returns c =
     rw (
-      c .also10 .ensures,
-      c .before .also9 .ensures,
-      c .before .before .also8 .ensures,
-      c .before .before .before .also7 .ensures,
-      c .before .before .before .before .also6 .ensures,
-      c .before .before .before .before .before .also5 .ensures,
-      c .before .before .before .before .before .before .also4 .ensures,
-      c .before .before .before .before .before .before .before .also3 .ensures,
-      c .before .before .before .before .before .before .before .before .also2 .ensures,
-      c .before .before .before .before .before .before .before .before .before .also .ensures,
+      c .also12 .ensures,
+      c .before .also11 .ensures,
+      c .before .before .also10 .ensures,
+      c .before .before .before .also9 .ensures,
+      c .before .before .before .before .also8 .ensures,
+      c .before .before .before .before .before .also7 .ensures,
+      c .before .before .before .before .before .before .also6 .ensures,
+      c .before .before .before .before .before .before .before .also5 .ensures,
+      c .before .before .before .before .before .before .before .before .also4 .ensures,
+      c .before .before .before .before .before .before .before .before .before .also3 .ensures,
+      c .before .before .before .before .before .before .before .before .before .before .also2 .ensures,
+      c .before .before .before .before .before .before .before .before .before .before .before .also .ensures,
     ) refl
 
 pub all-ordinary-spec : {M : Type 1} → statement M
-all-ordinary-spec = tie.close (tie.spec also-requires also-requires-2 also-requires-3 also-requires-4 also-requires-5 also-requires-6 also-requires-7 also-requires-8 also-requires-9 also-requires-10 returns)
+all-ordinary-spec = tie.close (tie.spec also-requires also-requires-2 also-requires-3 also-requires-4 also-requires-5 also-requires-6 also-requires-7 also-requires-8 also-requires-9 also-requires-10 also-requires-11 also-requires-12 returns)

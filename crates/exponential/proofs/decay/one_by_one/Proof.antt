@@ -35,21 +35,29 @@ decay-requires-9 c κs = search needs
 decay-requires-10 : tie.Need-decay-requires-10
 decay-requires-10 c κs = search needs
 
+decay-requires-11 : tie.Need-decay-requires-11
+decay-requires-11 c κs = search needs
+
+decay-requires-12 : tie.Need-decay-requires-12
+decay-requires-12 c κs = search needs
+
 returns : tie.Need-returns
 unfolding each
 returns c =
     rw (
-      c .decay10 .ensures,
-      c .before .decay9 .ensures,
-      c .before .before .decay8 .ensures,
-      c .before .before .before .decay7 .ensures,
-      c .before .before .before .before .decay6 .ensures,
-      c .before .before .before .before .before .decay5 .ensures,
-      c .before .before .before .before .before .before .decay4 .ensures,
-      c .before .before .before .before .before .before .before .decay3 .ensures,
-      c .before .before .before .before .before .before .before .before .decay2 .ensures,
-      c .before .before .before .before .before .before .before .before .before .decay .ensures,
+      c .decay12 .ensures,
+      c .before .decay11 .ensures,
+      c .before .before .decay10 .ensures,
+      c .before .before .before .decay9 .ensures,
+      c .before .before .before .before .decay8 .ensures,
+      c .before .before .before .before .before .decay7 .ensures,
+      c .before .before .before .before .before .before .decay6 .ensures,
+      c .before .before .before .before .before .before .before .decay5 .ensures,
+      c .before .before .before .before .before .before .before .before .decay4 .ensures,
+      c .before .before .before .before .before .before .before .before .before .decay3 .ensures,
+      c .before .before .before .before .before .before .before .before .before .before .decay2 .ensures,
+      c .before .before .before .before .before .before .before .before .before .before .before .decay .ensures,
     ) refl
 
 pub one-by-one-spec : {M : Type 1} → statement M
-one-by-one-spec = tie.close (tie.spec decay-requires decay-requires-2 decay-requires-3 decay-requires-4 decay-requires-5 decay-requires-6 decay-requires-7 decay-requires-8 decay-requires-9 decay-requires-10 returns)
+one-by-one-spec = tie.close (tie.spec decay-requires decay-requires-2 decay-requires-3 decay-requires-4 decay-requires-5 decay-requires-6 decay-requires-7 decay-requires-8 decay-requires-9 decay-requires-10 decay-requires-11 decay-requires-12 returns)

@@ -4,6 +4,7 @@ use lib.Ieee.{Float}
 use Rattle.numeric.specs.Working.{checked}
 use Rattle.derivatives.specs.Derivative.{of}
 use Rattle.isotherm.specs.declared.isotherm.Isotherm.{Isotherm}
+use Rattle.sharp.specs.Sharp.{sharpFigures}
 use Rattle.residual.specs.declared.term.Point.{Point}
 use Rattle.residual.specs.Term.{point}
 use Rattle.residual.specs.Sum.{onto, total, polynomialFigures, exponentialFigures, gaussianFigures}
@@ -30,7 +31,7 @@ gaussian-sums-requires : tie.Need-gaussian-sums-requires
 gaussian-sums-requires c κs = let a = c .before .before .before .args in own (a .iso) (a .delta) _ (c .before .before .at-density .ensures) .0
 
 sharp-sums-requires : tie.Need-sharp-sums-requires
-sharp-sums-requires c κs = search needs
+sharp-sums-requires c κs = let a = c .before .before .before .before .args in own (a .iso) (a .delta) _ (c .before .before .before .at-density .ensures) .0
 
 returns : tie.Need-returns
 returns c =
@@ -44,7 +45,7 @@ returns c =
     in-turn (a .iso) (a .delta) k _ _ _ _ (p .polynomial-sums .ensures k h ∙ ap (λ (x : Float). total (polynomialFigures (a .iso) x k)) d)
     (e .exponential-sums .ensures k h ∙ ap (λ (x : Float). onto (checked (of (p .polynomial-sums .result) k)) (exponentialFigures (a .iso) x k)) d)
     (g .gaussian-sums .ensures k h ∙ ap (λ (x : Float). onto (checked (of (e .exponential-sums .result) k)) (gaussianFigures (a .iso) x k)) d)
-    (c .sharp-sums .ensures k h)
+    (c .sharp-sums .ensures k h ∙ ap (λ (x : Float). onto (checked (of (g .gaussian-sums .result) k)) (sharpFigures (a .iso) x k)) d)
 
 pub sums-at-spec : {M : Type 1} → statement M
 sums-at-spec =

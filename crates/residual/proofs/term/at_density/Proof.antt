@@ -5,8 +5,8 @@ use Rattle.numeric.specs.Number.{decimal, fraction, whole}
 use Rattle.powers.specs.Power.{power, powers}
 use Rattle.exponential.specs.Decay as Decay
 use Rattle.roots.specs.Formula.{value}
-use Rattle.rows.specs.Row.{gaussians}
-use Rattle.residual.specs.Term.{point, decays, decay, bells, bell}
+use Rattle.rows.specs.Row.{gaussians, nonAnalytics}
+use Rattle.residual.specs.Term.{point, decays, decay, bells, bell, psis}
 use borrow.Author.Needs.{needs}
 use Rattle.residual.proofs.term.at_density.Statement.{statement}
 use Rattle.residual.proofs.term.at_density.Tie as tie
@@ -44,12 +44,12 @@ array-read-t40 c = search needs
 array-read-t45 : tie.Need-array-read-t45
 array-read-t45 c = search needs
 
-ten-decays-requires : tie.Need-ten-decays-requires
-ten-decays-requires c κs = search needs
+twelve-decays-requires : tie.Need-twelve-decays-requires
+twelve-decays-requires c κs = search needs
 
 returns : tie.Need-returns
-unfolding point decays decay bells bell gaussians powers value power Decay.each Decay.decay decimal fraction whole ofBits ofInt round
-returns c = rw (c .ten-decays .ensures, c .before .before .powers-to-10 .ensures) refl
+unfolding point decays decay bells bell gaussians psis nonAnalytics powers value power Decay.each Decay.decay decimal fraction whole ofBits ofInt round
+returns c = rw (c .twelve-decays .ensures, c .before .before .before .before .powers-to-10 .ensures) refl
 
 pub at-density-spec : {M : Type 1} → statement M
 at-density-spec =
@@ -66,5 +66,5 @@ at-density-spec =
     array-read-t35
     array-read-t40
     array-read-t45
-    ten-decays-requires
+    twelve-decays-requires
     returns)

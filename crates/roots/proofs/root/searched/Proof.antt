@@ -30,10 +30,10 @@ raised c =
     ap (lookedFor (a .k)) (sym (checked-power (a .x) (a .m)) ∙ sym (ap checked (c .before .whole-power .ensures)) ∙ sym (c .checked .ensures))
 
 -- and the crossing, as it was found
-told : (c : tie.After-near-crossing) → rootOf (c .near-crossing .result) ≡ searched (c .before .before .before .before .before .before .before .args .m) (c .before .before .before .before .before .before .before .args .k) (c .before .before .before .before .before .before .before .args .x)
+told : (c : tie.After-crossing) → rootOf (c .crossing .result) ≡ searched (c .before .before .before .before .before .before .before .before .args .m) (c .before .before .before .before .before .before .before .before .args .k) (c .before .before .before .before .before .before .before .before .args .x)
 told c =
-    let t = c .before .before .before in
-    ap rootOf (c .near-crossing .ensures) ∙ sym (raised (t .before .before) ∙ ap (lookedFor _) (t .t .given .1))
+    let t = c .before .before .before .before in
+    ap rootOf (c .crossing .ensures) ∙ sym (raised (t .before .before) ∙ ap (lookedFor _) (t .t .given .1))
 
 whole-power-requires : tie.Need-whole-power-requires
 whole-power-requires c κs = search needs
@@ -50,18 +50,15 @@ enum-told c = search needs
 returns : tie.Need-returns
 returns c = sym (raised (c .before .before) ∙ ap (lookedFor _) (c .enum-told .given .1))
 
-cast-guess : tie.Need-cast-guess
-cast-guess c = search needs
-
-cast-guess-2 : tie.Need-cast-guess-2
-cast-guess-2 c = search needs
+about-log-requires : tie.Need-about-log-requires
+about-log-requires c κs = search needs
 
 guess-requires : tie.Need-guess-requires
 guess-requires c κs = search needs
 
-near-crossing-requires : tie.Need-near-crossing-requires
-near-crossing-requires c κs =
-    let t = c .before .before in
+crossing-requires : tie.Need-crossing-requires
+crossing-requires c κs =
+    let t = c .before .before .before in
     let w = t .before .before .before in
     let a = w .before in
     let n = checked-number (w .whole-power .result) (t .t .given .0 .0) (sym (t .before .before .checked .ensures) ∙ t .t .given .1) in
@@ -72,10 +69,10 @@ near-crossing-requires c κs =
 enum-known-b : tie.Need-enum-known-b
 enum-known-b c = search needs
 
-float-from-bits-t13 : tie.Need-float-from-bits-t13
-float-from-bits-t13 c =
+float-from-bits-t12 : tie.Need-float-from-bits-t12
+float-from-bits-t12 c =
     let b = c .before in
-    no-nan _ (crossing-below _ _ _ (sym (b .before .before .near-crossing .ensures) ∙ b .b .given .1))
+    no-nan _ (crossing-below _ _ _ (sym (b .before .before .crossing .ensures) ∙ b .b .given .1))
 
 enum-told-2 : tie.Need-enum-told-2
 enum-told-2 c = search needs
@@ -101,12 +98,11 @@ searched-spec =
     enum-known-t
     enum-told
     returns
-    cast-guess
-    cast-guess-2
+    about-log-requires
     guess-requires
-    near-crossing-requires
+    crossing-requires
     enum-known-b
-    float-from-bits-t13
+    float-from-bits-t12
     enum-told-2
     enum-told-3
     returns-2

@@ -2,8 +2,8 @@
 use mathlib.Core.Path.{sym, _∙_, subst}
 use borrow.Author.Needs.{needs}
 use lib.Dec.{T}
-use Rattle.exponential.proofs.decay.ten_decays.Statement.{statement}
-use Rattle.exponential.proofs.decay.ten_decays.Tie as tie
+use Rattle.exponential.proofs.decay.twelve_decays.Statement.{statement}
+use Rattle.exponential.proofs.decay.twelve_decays.Tie as tie
 
 all-ordinary-requires : tie.Need-all-ordinary-requires
 all-ordinary-requires c κs = search needs
@@ -20,5 +20,5 @@ one-by-one-requires c κs = search needs
 returns-2 : tie.Need-returns-2
 returns-2 c = search needs
 
-pub ten-decays-spec : {M : Type 1} → statement M
-ten-decays-spec = tie.close (tie.spec all-ordinary-requires side-by-side-requires returns one-by-one-requires returns-2)
+pub twelve-decays-spec : {M : Type 1} → statement M
+twelve-decays-spec = tie.close (tie.spec all-ordinary-requires side-by-side-requires returns one-by-one-requires returns-2)

@@ -1,0 +1,16 @@
+-- P₁ is P₀ over Δ. Assumes nothing.
+use mathlib.Core.Path.{refl}
+use Rattle.roots.specs.Formula.{value}
+use borrow.Author.Needs.{needs}
+use Rattle.critical.proofs.critical.edge_at.Statement.{statement}
+use Rattle.critical.proofs.critical.edge_at.Tie as tie
+
+over-requires : tie.Need-over-requires
+over-requires c κs = search needs
+
+returns : tie.Need-returns
+unfolding value
+returns c = rw (c .over .ensures) refl
+
+pub edge-at-spec : {M : Type 1} → statement M
+edge-at-spec = tie.close (tie.spec over-requires returns)

@@ -1,0 +1,21 @@
+-- The formulas, operation by operation. Assumes nothing.
+use mathlib.Core.Path.{refl}
+use lib.Ieee.{ofBits, ofInt}
+use Rattle.numeric.specs.Number.{whole}
+use Rattle.roots.specs.Formula.{value}
+use borrow.Author.Needs.{needs}
+use Rattle.critical.proofs.critical.side_of.Statement.{statement}
+use Rattle.critical.proofs.critical.side_of.Tie as tie
+
+raise-requires : tie.Need-raise-requires
+raise-requires c κs = search needs
+
+lower-requires : tie.Need-lower-requires
+lower-requires c κs = search needs
+
+returns : tie.Need-returns
+unfolding value whole ofBits ofInt
+returns c = rw (c .lower .ensures, c .before .before .raise .ensures) refl
+
+pub side-of-spec : {M : Type 1} → statement M
+side-of-spec = tie.close (tie.spec raise-requires lower-requires returns)

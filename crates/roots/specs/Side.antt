@@ -1,0 +1,20 @@
+-- What is known before a root is told from a guess. Definitions only.
+use mathlib.Core.Path.{_≡_}
+use mathlib.Core.Bool.{Bool, not, _&&_}
+use Prim.Native.Nat.{ℕ, _+_, _-_, _*_}
+use lib.Dec.{ltb}
+use lib.Ieee as Ieee
+use lib.Ieee.{Float, binary64}
+use lib.Ieee.Scale.{finite}
+use Rattle.numeric.specs.Number.{whole}
+use Rattle.powers.specs.Power.{power}
+use Rattle.exponents.specs.declared.exponent.Exponent.{Exponent}
+
+-- the root has to be searched for, and each end of the search has a k-th whole power
+unfoldable pub usual : Exponent → Float → Bool
+usual e x = ltb (e .m) (2 * e .k) && (ltb (e .k) 52 && (not (Ieee.lt x (whole 0)) && (not (Ieee.eq x (whole 0)) && finite x)))
+
+-- the k-th whole powers of the float with the bits `at` and of its neighbours
+abbrev pub PowersAbout : ℕ → ℕ → Float → Float → Float → Type 0
+PowersAbout at k below here above =
+    (below ≡ power (Ieee.ofBits binary64 (at - 1)) k) × (here ≡ power (Ieee.ofBits binary64 at) k) × (above ≡ power (Ieee.ofBits binary64 (at + 1)) k)

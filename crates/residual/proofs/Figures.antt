@@ -3,7 +3,6 @@ use mathlib.Core.Path.{_≡_, refl, sym, ap, _∙_}
 use mathlib.Core.Bool.{Bool, true, _&&_}
 use mathlib.Core.List.{List, [], _∷_}
 use Prim.Native.Nat.{ℕ, zero, suc, _+_, _-_, _<_}
-use native.Mathlib.Nat.{not-suc-le-zero, le-of-suc-le-suc}
 use native.Mathlib.Omega.{arith}
 use lib.Dec.{T, ltb, ltb→lt}
 use lib.ListN.{length, getD}
@@ -21,7 +20,7 @@ use Rattle.rows.specs.declared.row.Gaussian.{Gaussian}
 use Rattle.isotherm.specs.Isotherm.{bellAt}
 use Rattle.isotherm.specs.declared.isotherm.Isotherm.{Isotherm}
 use Rattle.derivatives.specs.Derivative.{Derivative, Delta, DeltaDelta, Tau, TauTau, DeltaTau}
-use Rattle.rows.specs.Row.{polynomials, exponentials, gaussians}
+use Rattle.rows.specs.Row.{polynomials, row7, exponentials, row34, gaussians, row39}
 use Rattle.residual.specs.Term.{polynomialTerm, polynomialBracket, exponentialTerm, exponentialBracket, decay, decays, gaussianTerm, gaussianBracket, bell, bells}
 use Rattle.residual.specs.Sum.{polynomialFigure, polynomialFigures, exponentialFigure, exponentialFigures, gaussianFigure, gaussianFigures}
 use Rattle.residual.proofs.Sums.{length-numbered, getD-numbered}
@@ -31,19 +30,10 @@ abbrev every : {A : Type 0} → (A → Bool) → List A → Bool
 every f [] = true
 every f (x ∷ xs) = f x && every f xs
 
-at : {A : Type 0} (f : A → Bool) (xs : List A) (z : A) → T (every f xs) → (k : ℕ) → k < length xs → T (f (getD xs k z))
-at f [] z t k h = absurd (not-suc-le-zero h)
-at f (x ∷ xs) z t zero h = and-l (f x) (every f xs) t
-at f (x ∷ xs) z t (suc k) h = at f xs z (and-r (f x) (every f xs) t) k (le-of-suc-le-suc h)
-
-abbrev pub no-polynomial : Polynomial
-no-polynomial = record { n = nan; d = 0; q = 0 }
-
-abbrev pub no-exponential : Exponential
-no-exponential = record { n = nan; d = 0; q = 0; c = 0 }
-
-abbrev pub no-gaussian : Gaussian
-no-gaussian = record { n = nan; d = 0; q = 0; alpha = nan; beta = nan; gamma = nan; epsilon = nan }
+at : {A : Type 0} (f : A → Bool) (xs : List A) (z : A) → T (every f xs) → T (f z) → (k : ℕ) → T (f (getD xs k z))
+at f [] z t u k = u
+at f (x ∷ xs) z t u zero = and-l (f x) (every f xs) t
+at f (x ∷ xs) z t u (suc k) = at f xs z (and-r (f x) (every f xs) t) u k
 
 polynomial-count : length polynomials ≡ 7
 unfolding polynomials
@@ -57,9 +47,9 @@ gaussian-count : length gaussians ≡ 5
 unfolding gaussians
 gaussian-count = refl
 
-pub polynomial-small : (i : ℕ) → i < 7 → getD polynomials i no-polynomial .d < 11
+pub polynomial-small : (i : ℕ) → getD polynomials i row7 .d < 11
 unfolding polynomials
-polynomial-small i h = ltb→lt _ 11 (at (λ (r : Polynomial). ltb (r .d) 11) polynomials no-polynomial tt i h)
+polynomial-small i = ltb→lt _ 11 (at (λ (r : Polynomial). ltb (r .d) 11) polynomials row7 tt tt i)
 
 pub record Small (r : Exponential) : Type 0 where
   pub d : r .d < 11
@@ -69,17 +59,17 @@ pub record Small (r : Exponential) : Type 0 where
 small-test : Exponential → Bool
 small-test r = ltb (r .d) 11 && (ltb 0 (r .c) && ltb (r .c) 7)
 
-pub exponential-small : (i : ℕ) → i < 27 → Small (getD exponentials i no-exponential)
+pub exponential-small : (i : ℕ) → Small (getD exponentials i row34)
 unfolding exponentials small-test
-exponential-small i h =
-    let r = getD exponentials i no-exponential in
-    let t = at small-test exponentials no-exponential tt i h in
+exponential-small i =
+    let r = getD exponentials i row34 in
+    let t = at small-test exponentials row34 tt tt i in
     let u = and-r (ltb (r .d) 11) (ltb 0 (r .c) && ltb (r .c) 7) t in
     record { d = ltb→lt _ 11 (and-l (ltb (r .d) 11) _ t); some = ltb→lt 0 _ (and-l (ltb 0 (r .c)) (ltb (r .c) 7) u); c = ltb→lt _ 7 (and-r (ltb 0 (r .c)) (ltb (r .c) 7) u) }
 
-pub gaussian-small : (i : ℕ) → i < 5 → getD gaussians i no-gaussian .d < 11
+pub gaussian-small : (i : ℕ) → getD gaussians i row39 .d < 11
 unfolding gaussians
-gaussian-small i h = ltb→lt _ 11 (at (λ (r : Gaussian). ltb (r .d) 11) gaussians no-gaussian tt i h)
+gaussian-small i = ltb→lt _ 11 (at (λ (r : Gaussian). ltb (r .d) 11) gaussians row39 tt tt i)
 
 -- ---- the exponentials e^(−δᶜ), at c − 1
 decays-at : (delta : Float) (c : ℕ) → 0 < c → c < 7 → getD (decays delta) (c - 1) nan ≡ value (decay delta c)
@@ -107,62 +97,62 @@ module _ (iso : Isotherm) (delta : Float) (k : Derivative) where
   unfolding polynomialFigures
   polynomial-length = length-numbered (polynomialFigure iso delta k) 0 polynomials ∙ polynomial-count
 
-  pub polynomial-there : (i : ℕ) → i < 7 → (let r = getD polynomials i no-polynomial in
+  pub polynomial-there : (i : ℕ) → i < 7 → (let r = getD polynomials i row7 in
       checked (mul binary64 (mul binary64 (mul binary64 (r .n) (getD (powers 10 delta) (r .d) nan)) (getD (iso .powers) i nan)) (value (polynomialBracket r k)))
       ≡ getD (polynomialFigures iso delta k) i Failed)
   unfolding polynomialFigures polynomialTerm value
   polynomial-there i h =
-      let r = getD polynomials i no-polynomial in
-      let s = polynomial-small i h in
+      let r = getD polynomials i row7 in
+      let s = polynomial-small i in
       let x = powers-at 10 (r .d) delta (omega arith) in
       let z : 0 + i ≡ i = omega arith in
       rw x
       (once (polynomialTerm delta (getD (iso .powers) i nan) r ⊗ polynomialBracket r k)
-      ∙ sym (getD-numbered (polynomialFigure iso delta k) 0 polynomials i no-polynomial Failed (rw polynomial-count h) ∙ ap (λ (n : ℕ). polynomialFigure iso delta k n r) z))
+      ∙ sym (getD-numbered (polynomialFigure iso delta k) 0 polynomials i row7 Failed (rw polynomial-count h) ∙ ap (λ (n : ℕ). polynomialFigure iso delta k n r) z))
 
   pub exponential-length : length (exponentialFigures iso delta k) ≡ 27
   unfolding exponentialFigures
   exponential-length = length-numbered (exponentialFigure iso delta k) 7 exponentials ∙ exponential-count
 
-  pub exponential-there : (i : ℕ) → i < 27 → (let r = getD exponentials i no-exponential in
+  pub exponential-there : (i : ℕ) → i < 27 → (let r = getD exponentials i row34 in
       checked (mul binary64
       (mul binary64 (mul binary64 (mul binary64 (r .n) (getD (powers 10 delta) (r .d) nan)) (getD (iso .powers) (7 + i) nan)) (getD (decays delta) (r .c - 1) nan))
       (value (exponentialBracket (num (getD (powers 10 delta) (r .c) nan)) r k)))
       ≡ getD (exponentialFigures iso delta k) i Failed)
   unfolding exponentialFigures exponentialTerm value
   exponential-there i h =
-      let r = getD exponentials i no-exponential in
-      let s = exponential-small i h in
+      let r = getD exponentials i row34 in
+      let s = exponential-small i in
       let x = powers-at 10 (r .d) delta (omega arith) in
       let z = powers-at 10 (r .c) delta (omega arith) in
       let e = decays-at delta (r .c) (s .some) (s .c) in
       rw (x, z, e, bracket-at delta r k)
       (once (exponentialTerm delta (getD (iso .powers) (7 + i) nan) r ⊗ exponentialBracket (num delta ^^ r .c) r k)
-      ∙ sym (getD-numbered (exponentialFigure iso delta k) 7 exponentials i no-exponential Failed (rw exponential-count h)))
+      ∙ sym (getD-numbered (exponentialFigure iso delta k) 7 exponentials i row34 Failed (rw exponential-count h)))
 
   pub gaussian-length : length (gaussianFigures iso delta k) ≡ 5
   unfolding gaussianFigures
   gaussian-length = length-numbered (gaussianFigure iso delta k) 34 gaussians ∙ gaussian-count
 
-  bells-at : (i : ℕ) → i < 5 → getD (bells (iso .spread) delta) i nan ≡ value (bell delta (getD (iso .spread) (bellAt i) nan) (getD gaussians i no-gaussian))
+  bells-at : (i : ℕ) → i < 5 → getD (bells (iso .spread) delta) i nan ≡ value (bell delta (getD (iso .spread) (bellAt i) nan) (getD gaussians i row39))
   unfolding bells
   bells-at i h =
       let z : 0 + i ≡ i = omega arith in
-      getD-numbered (λ (n : ℕ) (r : Gaussian). value (bell delta (getD (iso .spread) (bellAt n) nan) r)) 0 gaussians i no-gaussian nan (rw gaussian-count h)
-      ∙ ap (λ (n : ℕ). value (bell delta (getD (iso .spread) (bellAt n) nan) (getD gaussians i no-gaussian))) z
+      getD-numbered (λ (n : ℕ) (r : Gaussian). value (bell delta (getD (iso .spread) (bellAt n) nan) r)) 0 gaussians i row39 nan (rw gaussian-count h)
+      ∙ ap (λ (n : ℕ). value (bell delta (getD (iso .spread) (bellAt n) nan) (getD gaussians i row39))) z
 
-  pub gaussian-there : (i : ℕ) → i < 5 → (let r = getD gaussians i no-gaussian in
+  pub gaussian-there : (i : ℕ) → i < 5 → (let r = getD gaussians i row39 in
       checked (mul binary64
       (mul binary64 (mul binary64 (mul binary64 (r .n) (getD (powers 10 delta) (r .d) nan)) (getD (iso .powers) (34 + i) nan)) (getD (bells (iso .spread) delta) i nan))
       (value (gaussianBracket delta (iso .tau) r k)))
       ≡ getD (gaussianFigures iso delta k) i Failed)
   unfolding gaussianFigures gaussianTerm value
   gaussian-there i h =
-      let r = getD gaussians i no-gaussian in
-      let s = gaussian-small i h in
+      let r = getD gaussians i row39 in
+      let s = gaussian-small i in
       let x = powers-at 10 (r .d) delta (omega arith) in
       let z : 34 + i - 34 ≡ i = omega arith in
       rw (x, bells-at i h)
       (once (gaussianTerm delta (getD (iso .powers) (34 + i) nan) (getD (iso .spread) (bellAt i) nan) r ⊗ gaussianBracket delta (iso .tau) r k)
-      ∙ sym (getD-numbered (gaussianFigure iso delta k) 34 gaussians i no-gaussian Failed (rw gaussian-count h)
+      ∙ sym (getD-numbered (gaussianFigure iso delta k) 34 gaussians i row39 Failed (rw gaussian-count h)
       ∙ ap (λ (n : ℕ). work (gaussianTerm delta (getD (iso .powers) (34 + i) nan) (getD (iso .spread) (bellAt n) nan) r ⊗ gaussianBracket delta (iso .tau) r k)) z))

@@ -20,10 +20,10 @@ use numeric::working::checked;
 use rows::row::Exponential;
 use rows::row::Gaussian;
 use rows::row::Polynomial;
-use rows::row::exponentials;
-use rows::row::gaussians;
+use rows::row::exponential_row;
+use rows::row::gaussian_row;
 use rows::row::non_analytics;
-use rows::row::polynomials;
+use rows::row::polynomial_row;
 use sharp::sharp::sharpen;
 
 pub enum Sums {
@@ -83,14 +83,13 @@ fn polynomial_sums(all: bool, iso: Isotherm, p: Point) -> Five
     requires { ⌜ p ≡ point iso (p .delta) ⌝ }
     ensures { λ v. ⌜ Meet all v (λ k. total (polynomialFigures iso (p .delta) k)) ⌝ }
 {
-    let rows = polynomials();
     let ds = p.powers;
     let ys = iso.powers;
-    let row = rows[0];
+    let row = polynomial_row(0);
     let mut s = first(row.n * ds[1] * ys[0], polynomial_brackets(row));
     let mut i = 1;
     while i < 7 {
-        let r = rows[i];
+        let r = polynomial_row(i);
         let d = r.d as usize;
         s = grow(all, s, r.n * ds[d] * ys[i], polynomial_brackets(r));
         i += 1;
@@ -103,14 +102,13 @@ fn exponential_sums(all: bool, start: Five, iso: Isotherm, p: Point) -> Five
     requires { ⌜ p ≡ point iso (p .delta) ⌝ }
     ensures { λ v. ⌜ Meet all v (λ k. onto (checked (of start k)) (exponentialFigures iso (p .delta) k)) ⌝ }
 {
-    let rows = exponentials();
     let ds = p.powers;
     let es = p.decays;
     let ys = iso.powers;
     let mut s = start;
     let mut i = 0;
     while i < 27 {
-        let r = rows[i];
+        let r = exponential_row(i);
         let d = r.d as usize;
         let c = r.c as usize;
         let term = r.n * ds[d] * ys[7 + i] * es[c - 1];
@@ -125,14 +123,13 @@ fn gaussian_sums(all: bool, start: Five, iso: Isotherm, p: Point) -> Five
     requires { ⌜ p ≡ point iso (p .delta) ⌝ }
     ensures { λ v. ⌜ Meet all v (λ k. onto (checked (of start k)) (gaussianFigures iso (p .delta) k)) ⌝ }
 {
-    let rows = gaussians();
     let ds = p.powers;
     let bs = p.bells;
     let ys = iso.powers;
     let mut s = start;
     let mut i = 0;
     while i < 5 {
-        let r = rows[i];
+        let r = gaussian_row(i);
         let d = r.d as usize;
         let term = r.n * ds[d] * ys[34 + i] * bs[i];
         s = grow(all, s, term, gaussian_brackets(r, p.delta, iso.tau));

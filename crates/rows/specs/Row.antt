@@ -1,4 +1,5 @@
--- Table 31 of 004 as printed, read as docs/READING.md says: sign, digits, places. Definitions only.
+-- Table 31 of 004 as printed, read as docs/READING.md says: sign, digits, places. The last row of a kind has a name: it is what
+-- stands past the end too, where a row is had by its place. Definitions only.
 use Prim.Native.Nat.{ℕ}
 use mathlib.Core.List.{List, [], _∷_}
 use lib.Dec.{eqb}
@@ -24,6 +25,9 @@ minus digits places = Ieee.neg (decimal digits places)
 abbrev pub polynomial : Float → ℕ → ℕ → Polynomial
 polynomial n d q = record { n = n; d = d; q = q }
 
+abbrev pub row7 : Polynomial
+row7 = polynomial (plus 12279411220335 14) 3 3
+
 unfoldable pub polynomials : List Polynomial
 polynomials =
     polynomial (plus 38856823203161 14) 1 0
@@ -32,12 +36,15 @@ polynomials =
     ∷ polynomial (minus 76753199592477 14) 1 8
     ∷ polynomial (plus 31729005580416 14) 2 3
     ∷ polynomial (plus 54803315897767 14) 2 8
-    ∷ polynomial (plus 12279411220335 14) 3 3
+    ∷ row7
     ∷ []
 
 -- n, d, t in quarters, c
 abbrev pub exponential : Float → ℕ → ℕ → ℕ → Exponential
 exponential n d q c = record { n = n; d = d; q = q; c = c }
+
+abbrev pub row34 : Exponential
+row34 = exponential (minus 30335118055646 17) 8 56 6
 
 unfoldable pub exponentials : List Exponential
 exponentials =
@@ -67,7 +74,7 @@ exponentials =
     ∷ exponential (plus 21058321972940 16) 8 32 4
     ∷ exponential (minus 33958519026368 17) 10 8 4
     ∷ exponential (plus 55993651771592 16) 4 112 5
-    ∷ exponential (minus 30335118055646 17) 8 56 6
+    ∷ row34
     ∷ []
 
 -- n, d, t in quarters, α, β, and γ in hundredths; ε is 1 in every row
@@ -82,13 +89,16 @@ gaussian n d q alpha beta gamma = record {
   epsilon = whole 1;
 }
 
+abbrev pub row39 : Gaussian
+row39 = gaussian (plus 21247284400179 11) 3 12 20 275 122
+
 unfoldable pub gaussians : List Gaussian
 gaussians =
     gaussian (minus 21365488688320 11) 2 4 25 325 116
     ∷ gaussian (plus 26641569149272 9) 2 0 25 300 119
     ∷ gaussian (minus 24027212204557 9) 2 4 25 300 119
     ∷ gaussian (minus 28341603423999 11) 3 12 15 275 125
-    ∷ gaussian (plus 21247284400179 11) 3 12 20 275 122
+    ∷ row39
     ∷ []
 
 -- n, a in tenths, b, and A, B, C, D in tenths; β is 0.3 in every row

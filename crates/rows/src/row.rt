@@ -1,7 +1,9 @@
-// Table 31 of 004, read as docs/READING.md says: a table for each kind of row, each equal to the definition's
-// (specs/Row.antt) by one computation.
+// Table 31 of 004, read as docs/READING.md says: a table for each kind of row, each row equal to the definition's
+// (specs/Row.antt) by computation. Rows 1 to 39 are had by their place in the table of their kind, counted from 0: a
+// table that is taken whole is written to the stack each time. Past the end stands the last row.
 ghost use mathlib.Core.Path.{_≡_};
-ghost use Rattle.rows.specs.Row.{polynomials, exponentials, gaussians, nonAnalytics};
+ghost use lib.ListN.{getD};
+ghost use Rattle.rows.specs.Row.{polynomials, row7, exponentials, row34, gaussians, row39, nonAnalytics};
 use exponents::exponent::Printed;
 
 // Rows 1 to 7: the coefficient, the power of δ, and that of τ in quarters.
@@ -43,257 +45,6 @@ pub struct NonAnalytic {
     pub kd: f64,
 }
 
-const POLYNOMIALS: [Polynomial; 7] = [
-    Polynomial {
-        n: 0.38856823203161e0,
-        d: 1,
-        q: 0,
-    },
-    Polynomial {
-        n: 0.29385475942740e1,
-        d: 1,
-        q: 3,
-    },
-    Polynomial {
-        n: -0.55867188534934e1,
-        d: 1,
-        q: 4,
-    },
-    Polynomial {
-        n: -0.76753199592477e0,
-        d: 1,
-        q: 8,
-    },
-    Polynomial {
-        n: 0.31729005580416e0,
-        d: 2,
-        q: 3,
-    },
-    Polynomial {
-        n: 0.54803315897767e0,
-        d: 2,
-        q: 8,
-    },
-    Polynomial {
-        n: 0.12279411220335e0,
-        d: 3,
-        q: 3,
-    },
-];
-
-const EXPONENTIALS: [Exponential; 27] = [
-    Exponential {
-        n: 0.21658961543220e1,
-        d: 1,
-        q: 6,
-        c: 1,
-    },
-    Exponential {
-        n: 0.15841735109724e1,
-        d: 2,
-        q: 6,
-        c: 1,
-    },
-    Exponential {
-        n: -0.23132705405503e0,
-        d: 4,
-        q: 10,
-        c: 1,
-    },
-    Exponential {
-        n: 0.58116916431436e-1,
-        d: 5,
-        q: 0,
-        c: 1,
-    },
-    Exponential {
-        n: -0.55369137205382e0,
-        d: 5,
-        q: 6,
-        c: 1,
-    },
-    Exponential {
-        n: 0.48946615909422e0,
-        d: 5,
-        q: 8,
-        c: 1,
-    },
-    Exponential {
-        n: -0.24275739843501e-1,
-        d: 6,
-        q: 0,
-        c: 1,
-    },
-    Exponential {
-        n: 0.62494790501678e-1,
-        d: 6,
-        q: 4,
-        c: 1,
-    },
-    Exponential {
-        n: -0.12175860225246e0,
-        d: 6,
-        q: 8,
-        c: 1,
-    },
-    Exponential {
-        n: -0.37055685270086e0,
-        d: 1,
-        q: 12,
-        c: 2,
-    },
-    Exponential {
-        n: -0.16775879700426e-1,
-        d: 1,
-        q: 24,
-        c: 2,
-    },
-    Exponential {
-        n: -0.11960736637987e0,
-        d: 4,
-        q: 12,
-        c: 2,
-    },
-    Exponential {
-        n: -0.45619362508778e-1,
-        d: 4,
-        q: 24,
-        c: 2,
-    },
-    Exponential {
-        n: 0.35612789270346e-1,
-        d: 4,
-        q: 32,
-        c: 2,
-    },
-    Exponential {
-        n: -0.74427727132052e-2,
-        d: 7,
-        q: 24,
-        c: 2,
-    },
-    Exponential {
-        n: -0.17395704902432e-2,
-        d: 8,
-        q: 0,
-        c: 2,
-    },
-    Exponential {
-        n: -0.21810121289527e-1,
-        d: 2,
-        q: 28,
-        c: 3,
-    },
-    Exponential {
-        n: 0.24332166559236e-1,
-        d: 3,
-        q: 48,
-        c: 3,
-    },
-    Exponential {
-        n: -0.37440133423463e-1,
-        d: 3,
-        q: 64,
-        c: 3,
-    },
-    Exponential {
-        n: 0.14338715756878e0,
-        d: 5,
-        q: 88,
-        c: 4,
-    },
-    Exponential {
-        n: -0.13491969083286e0,
-        d: 5,
-        q: 96,
-        c: 4,
-    },
-    Exponential {
-        n: -0.23151225053480e-1,
-        d: 6,
-        q: 64,
-        c: 4,
-    },
-    Exponential {
-        n: 0.12363125492901e-1,
-        d: 7,
-        q: 96,
-        c: 4,
-    },
-    Exponential {
-        n: 0.21058321972940e-2,
-        d: 8,
-        q: 32,
-        c: 4,
-    },
-    Exponential {
-        n: -0.33958519026368e-3,
-        d: 10,
-        q: 8,
-        c: 4,
-    },
-    Exponential {
-        n: 0.55993651771592e-2,
-        d: 4,
-        q: 112,
-        c: 5,
-    },
-    Exponential {
-        n: -0.30335118055646e-3,
-        d: 8,
-        q: 56,
-        c: 6,
-    },
-];
-
-const GAUSSIANS: [Gaussian; 5] = [
-    Gaussian {
-        n: -0.21365488688320e3,
-        d: 2,
-        q: 4,
-        alpha: 25.0,
-        beta: 325.0,
-        gamma: 1.16,
-        epsilon: 1.0,
-    },
-    Gaussian {
-        n: 0.26641569149272e5,
-        d: 2,
-        q: 0,
-        alpha: 25.0,
-        beta: 300.0,
-        gamma: 1.19,
-        epsilon: 1.0,
-    },
-    Gaussian {
-        n: -0.24027212204557e5,
-        d: 2,
-        q: 4,
-        alpha: 25.0,
-        beta: 300.0,
-        gamma: 1.19,
-        epsilon: 1.0,
-    },
-    Gaussian {
-        n: -0.28341603423999e3,
-        d: 3,
-        q: 12,
-        alpha: 15.0,
-        beta: 275.0,
-        gamma: 1.25,
-        epsilon: 1.0,
-    },
-    Gaussian {
-        n: 0.21247284400179e3,
-        d: 3,
-        q: 12,
-        alpha: 20.0,
-        beta: 275.0,
-        gamma: 1.22,
-        epsilon: 1.0,
-    },
-];
-
 const NON_ANALYTICS: [NonAnalytic; 3] = [
     NonAnalytic {
         n: -0.66642276540751e0,
@@ -330,22 +81,96 @@ const NON_ANALYTICS: [NonAnalytic; 3] = [
     },
 ];
 
-pub fn polynomials() -> [Polynomial; 7]
-    ensures { λ r. ⌜ r ≡ polynomials ⌝ }
-{
-    POLYNOMIALS
+impl Polynomial {
+    fn new(n: f64, d: u8, q: u8) -> Self
+        ensures { λ r. ⌜ r ≡ record { n = n; d = d; q = q } ⌝ }
+    {
+        Polynomial { n, d, q }
+    }
 }
 
-pub fn exponentials() -> [Exponential; 27]
-    ensures { λ r. ⌜ r ≡ exponentials ⌝ }
+pub fn polynomial_row(i: usize) -> Polynomial
+    ensures { λ r. ⌜ r ≡ getD polynomials i row7 ⌝ }
 {
-    EXPONENTIALS
+    match i {
+        0 => Polynomial::new(0.38856823203161e0, 1, 0),
+        1 => Polynomial::new(0.29385475942740e1, 1, 3),
+        2 => Polynomial::new(-0.55867188534934e1, 1, 4),
+        3 => Polynomial::new(-0.76753199592477e0, 1, 8),
+        4 => Polynomial::new(0.31729005580416e0, 2, 3),
+        5 => Polynomial::new(0.54803315897767e0, 2, 8),
+        _ => Polynomial::new(0.12279411220335e0, 3, 3),
+    }
 }
 
-pub fn gaussians() -> [Gaussian; 5]
-    ensures { λ r. ⌜ r ≡ gaussians ⌝ }
+impl Exponential {
+    fn new(n: f64, d: u8, q: u8, c: u8) -> Self
+        ensures { λ r. ⌜ r ≡ record { n = n; d = d; q = q; c = c } ⌝ }
+    {
+        Exponential { n, d, q, c }
+    }
+}
+
+pub fn exponential_row(i: usize) -> Exponential
+    ensures { λ r. ⌜ r ≡ getD exponentials i row34 ⌝ }
 {
-    GAUSSIANS
+    match i {
+        0 => Exponential::new(0.21658961543220e1, 1, 6, 1),
+        1 => Exponential::new(0.15841735109724e1, 2, 6, 1),
+        2 => Exponential::new(-0.23132705405503e0, 4, 10, 1),
+        3 => Exponential::new(0.58116916431436e-1, 5, 0, 1),
+        4 => Exponential::new(-0.55369137205382e0, 5, 6, 1),
+        5 => Exponential::new(0.48946615909422e0, 5, 8, 1),
+        6 => Exponential::new(-0.24275739843501e-1, 6, 0, 1),
+        7 => Exponential::new(0.62494790501678e-1, 6, 4, 1),
+        8 => Exponential::new(-0.12175860225246e0, 6, 8, 1),
+        9 => Exponential::new(-0.37055685270086e0, 1, 12, 2),
+        10 => Exponential::new(-0.16775879700426e-1, 1, 24, 2),
+        11 => Exponential::new(-0.11960736637987e0, 4, 12, 2),
+        12 => Exponential::new(-0.45619362508778e-1, 4, 24, 2),
+        13 => Exponential::new(0.35612789270346e-1, 4, 32, 2),
+        14 => Exponential::new(-0.74427727132052e-2, 7, 24, 2),
+        15 => Exponential::new(-0.17395704902432e-2, 8, 0, 2),
+        16 => Exponential::new(-0.21810121289527e-1, 2, 28, 3),
+        17 => Exponential::new(0.24332166559236e-1, 3, 48, 3),
+        18 => Exponential::new(-0.37440133423463e-1, 3, 64, 3),
+        19 => Exponential::new(0.14338715756878e0, 5, 88, 4),
+        20 => Exponential::new(-0.13491969083286e0, 5, 96, 4),
+        21 => Exponential::new(-0.23151225053480e-1, 6, 64, 4),
+        22 => Exponential::new(0.12363125492901e-1, 7, 96, 4),
+        23 => Exponential::new(0.21058321972940e-2, 8, 32, 4),
+        24 => Exponential::new(-0.33958519026368e-3, 10, 8, 4),
+        25 => Exponential::new(0.55993651771592e-2, 4, 112, 5),
+        _ => Exponential::new(-0.30335118055646e-3, 8, 56, 6),
+    }
+}
+
+impl Gaussian {
+    fn new(n: f64, d: u8, q: u8, alpha: f64, beta: f64, gamma: f64, epsilon: f64) -> Self
+        ensures { λ r. ⌜ r ≡ record { n = n; d = d; q = q; alpha = alpha; beta = beta; gamma = gamma; epsilon = epsilon } ⌝ }
+    {
+        Gaussian {
+            n,
+            d,
+            q,
+            alpha,
+            beta,
+            gamma,
+            epsilon,
+        }
+    }
+}
+
+pub fn gaussian_row(i: usize) -> Gaussian
+    ensures { λ r. ⌜ r ≡ getD gaussians i row39 ⌝ }
+{
+    match i {
+        0 => Gaussian::new(-0.21365488688320e3, 2, 4, 25.0, 325.0, 1.16, 1.0),
+        1 => Gaussian::new(0.26641569149272e5, 2, 0, 25.0, 300.0, 1.19, 1.0),
+        2 => Gaussian::new(-0.24027212204557e5, 2, 4, 25.0, 300.0, 1.19, 1.0),
+        3 => Gaussian::new(-0.28341603423999e3, 3, 12, 15.0, 275.0, 1.25, 1.0),
+        _ => Gaussian::new(0.21247284400179e3, 3, 12, 20.0, 275.0, 1.22, 1.0),
+    }
 }
 
 pub fn non_analytics() -> [NonAnalytic; 3]

@@ -12,50 +12,44 @@ use Rattle.roots.specs.Formula.{num, value}
 use Rattle.derivatives.specs.Derivative.{of}
 use Rattle.rows.specs.declared.row.Exponential.{Exponential}
 use Rattle.isotherm.specs.declared.isotherm.Isotherm.{Isotherm}
-use Rattle.rows.specs.Row.{exponentials}
+use Rattle.rows.specs.Row.{exponentials, row34}
 use Rattle.derivatives.proofs.Derivatives.{of-five}
 use Rattle.residual.specs.declared.term.Point.{Point}
 use Rattle.residual.specs.Term.{point, decays, exponentialBracket}
 use Rattle.residual.specs.Sum.{onto, exponentialFigures}
 use Rattle.residual.proofs.Sums.{Dues, dues-more, dues-none}
-use Rattle.residual.proofs.Figures.{no-exponential, Small, exponential-small, exponential-length, exponential-there}
+use Rattle.residual.proofs.Figures.{Small, exponential-small, exponential-length, exponential-there}
 use Rattle.residual.proofs.sum.exponential_sums.Statement.{statement}
 use Rattle.residual.proofs.sum.exponential_sums.Tie as tie
 
 abbrev Inv-loop : tie.InvT-loop
-Inv-loop all rows ds es ys s₀ i₀ s i = (i ≤ 27) × ((iso : Isotherm) (delta : Float) → iso .powers ≡ ys → powers 10 delta ≡ ds → decays delta ≡ es
+Inv-loop all ds es ys s₀ i₀ s i = (i ≤ 27) × ((iso : Isotherm) (delta : Float) → iso .powers ≡ ys → powers 10 delta ≡ ds → decays delta ≡ es
     → Dues all (exponentialFigures iso delta) (λ k. onto (checked (of s₀ k)) (exponentialFigures iso delta k)) i s)
 
 abbrev μ-loop : tie.MeasureT-loop
-μ-loop all rows ds es ys s₀ i₀ s i = 27 - i
+μ-loop all ds es ys s₀ i₀ s i = 27 - i
 
 -- the row that a turn comes to
-low : (c : tie.At-loop Inv-loop μ-loop) → c .loop .i < 27 → Small (getD (c .before .before .before .before .exponentials .result) (c .loop .i) no-exponential)
-low c h = subst (λ (l : List Exponential). Small (getD l (c .loop .i) no-exponential)) (sym (c .before .before .before .before .exponentials .ensures)) (exponential-small (c .loop .i) h)
-
-exponentials-requires : tie.Need-exponentials-requires Inv-loop μ-loop
-exponentials-requires c κs = search needs
+low : (c : tie.After-exponential-row Inv-loop μ-loop) → Small (c .exponential-row .result)
+low c = rw (c .exponential-row .ensures) (exponential-small (c .before .before .loop .i))
 
 loop-holds : tie.Need-loop-holds Inv-loop μ-loop
 loop-holds c = (omega arith, λ iso delta y d e k t. refl)
 
-mul-r : tie.Need-mul-r Inv-loop μ-loop
-mul-r c = omega arith
-
-array-copy-out-r : tie.Need-array-copy-out-r Inv-loop μ-loop
-array-copy-out-r c = omega arith
+exponential-row-requires : tie.Need-exponential-row-requires Inv-loop μ-loop
+exponential-row-requires c κs = search needs
 
 cast-d : tie.Need-cast-d Inv-loop μ-loop
-cast-d c = let l = low (c .before .before .before) (omega arith) in omega arith
+cast-d c = let l = low (c .before) in omega arith
 
 cast-c : tie.Need-cast-c Inv-loop μ-loop
-cast-c c = let l = low (c .before .before .before .before) (omega arith) in omega arith
+cast-c c = let l = low (c .before .before) in omega arith
 
 mul-term : tie.Need-mul-term Inv-loop μ-loop
-mul-term c = let l = low (c .before .before .before .before) (omega arith) in omega arith
+mul-term c = let l = low (c .before .before) in omega arith
 
 array-read-term : tie.Need-array-read-term Inv-loop μ-loop
-array-read-term c = let l = low (c .before .before .before .before) (omega arith) in omega arith
+array-read-term c = let l = low (c .before .before) in omega arith
 
 add-term : tie.Need-add-term Inv-loop μ-loop
 add-term c = omega arith
@@ -67,19 +61,19 @@ array-read-term-2 : tie.Need-array-read-term-2 Inv-loop μ-loop
 array-read-term-2 c = omega arith
 
 sub-term : tie.Need-sub-term Inv-loop μ-loop
-sub-term c = let l = low (c .before .before .before .before .before) (omega arith) in omega arith
+sub-term c = let l = low (c .before .before .before) in omega arith
 
 mul-term-3 : tie.Need-mul-term-3 Inv-loop μ-loop
-mul-term-3 c = let l = low (c .before .before .before .before .before) (omega arith) in omega arith
+mul-term-3 c = let l = low (c .before .before .before) in omega arith
 
 array-read-term-3 : tie.Need-array-read-term-3 Inv-loop μ-loop
-array-read-term-3 c = let l = low (c .before .before .before .before .before) (omega arith) in omega arith
+array-read-term-3 c = let l = low (c .before .before .before) in omega arith
 
 mul-exponential-brackets : tie.Need-mul-exponential-brackets Inv-loop μ-loop
-mul-exponential-brackets c = let l = low (c .before .before .before .before .before) (omega arith) in omega arith
+mul-exponential-brackets c = let l = low (c .before .before .before) in omega arith
 
 array-read-exponential-brackets : tie.Need-array-read-exponential-brackets Inv-loop μ-loop
-array-read-exponential-brackets c = let l = low (c .before .before .before .before .before) (omega arith) in omega arith
+array-read-exponential-brackets c = let l = low (c .before .before .before) in omega arith
 
 exponential-brackets-requires : tie.Need-exponential-brackets-requires Inv-loop μ-loop
 exponential-brackets-requires c κs = search needs
@@ -96,18 +90,18 @@ loop-less c = omega arith
 loop-again : tie.Need-loop-again Inv-loop μ-loop
 loop-again c =
     let b = c .before in
-    let l = b .before .before .before .before .before .before in
-    let t = l .before .before .before .before in
-    let a = t .before .args in
+    let x = b .before .before .before .before in
+    let l = x .before .before in
+    let a = l .before .before .before .before .args in
     let i = l .loop .i in
-    let r = getD (t .exponentials .result) i no-exponential in
+    let r = x .exponential-row .result in
     let term = mul binary64 (mul binary64 (mul binary64 (r .n) (getD (a .p .powers) (r .d) nan)) (getD (a .iso .powers) (7 + i) nan)) (getD (a .p .decays) (r .c - 1) nan) in (
       omega arith,
       λ iso delta y d e.
           dues-more (a .all) (exponentialFigures iso delta) (λ k. onto (checked (of (a .start) k)) (exponentialFigures iso delta k)) i (l .loop .s) (c .grow .result) term (of (b .exponential-brackets .result)) (c .grow .ensures)
           (λ k. (
             rw (exponential-length iso delta k) (omega arith),
-            rw (b .exponential-brackets .ensures, of-five (λ j. value (exponentialBracket (num (getD (a .p .powers) (r .c) nan)) r j)) k, t .exponentials .ensures, ← d, ← e, ← y) (exponential-there iso delta k i (omega arith)),
+            rw (b .exponential-brackets .ensures, of-five (λ j. value (exponentialBracket (num (getD (a .p .powers) (r .c) nan)) r j)) k, x .exponential-row .ensures, ← d, ← e, ← y) (exponential-there iso delta k i (omega arith)),
           ))
           (l .loop .inv .1 iso delta y d e),
     )
@@ -116,7 +110,7 @@ returns : tie.Need-returns Inv-loop μ-loop
 unfolding point
 returns c =
     let l = c .before in
-    let b = l .before .before .before .before .before in
+    let b = l .before .before .before .before in
     let a = b .args in
     let figures = exponentialFigures (a .iso) (a .p .delta) in
     dues-none (a .all) figures (λ k. onto (checked (of (a .start) k)) (figures k)) (l .loop .i) (l .loop .s) (λ k. rw (exponential-length (a .iso) (a .p .delta) k) (omega arith))
@@ -128,10 +122,8 @@ exponential-sums-spec =
     (tie.spec
     Inv-loop
     μ-loop
-    exponentials-requires
     loop-holds
-    mul-r
-    array-copy-out-r
+    exponential-row-requires
     cast-d
     cast-c
     mul-term

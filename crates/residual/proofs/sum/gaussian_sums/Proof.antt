@@ -11,46 +11,40 @@ use Rattle.numeric.specs.Working.{checked}
 use Rattle.roots.specs.Formula.{value}
 use Rattle.derivatives.specs.Derivative.{of}
 use Rattle.rows.specs.declared.row.Gaussian.{Gaussian}
-use Rattle.rows.specs.Row.{gaussians}
+use Rattle.rows.specs.Row.{gaussians, row39}
 use Rattle.derivatives.proofs.Derivatives.{of-five}
 use Rattle.residual.specs.declared.term.Point.{Point}
 use Rattle.residual.specs.Term.{point, bells, gaussianBracket}
 use Rattle.residual.specs.Sum.{onto, gaussianFigures}
 use Rattle.residual.proofs.Sums.{Dues, dues-more, dues-none}
-use Rattle.residual.proofs.Figures.{no-gaussian, gaussian-small, gaussian-length, gaussian-there}
+use Rattle.residual.proofs.Figures.{gaussian-small, gaussian-length, gaussian-there}
 use Rattle.residual.proofs.sum.gaussian_sums.Statement.{statement}
 use Rattle.residual.proofs.sum.gaussian_sums.Tie as tie
 
 abbrev Inv-loop : tie.InvT-loop
-Inv-loop all iso p rows ds bs ys s₀ i₀ s i = (i ≤ 5) × Dues all (gaussianFigures iso (p .delta)) (λ k. onto (checked (of s₀ k)) (gaussianFigures iso (p .delta) k)) i s
+Inv-loop all iso p ds bs ys s₀ i₀ s i = (i ≤ 5) × Dues all (gaussianFigures iso (p .delta)) (λ k. onto (checked (of s₀ k)) (gaussianFigures iso (p .delta) k)) i s
 
 abbrev μ-loop : tie.MeasureT-loop
-μ-loop all iso p rows ds bs ys s₀ i₀ s i = 5 - i
+μ-loop all iso p ds bs ys s₀ i₀ s i = 5 - i
 
 -- the row that a turn comes to
-low : (c : tie.At-loop Inv-loop μ-loop) → c .loop .i < 5 → getD (c .before .before .before .before .gaussians .result) (c .loop .i) no-gaussian .d < 11
-low c h = subst (λ (l : List Gaussian). getD l (c .loop .i) no-gaussian .d < 11) (sym (c .before .before .before .before .gaussians .ensures)) (gaussian-small (c .loop .i) h)
-
-gaussians-requires : tie.Need-gaussians-requires Inv-loop μ-loop
-gaussians-requires c κs = search needs
+low : (c : tie.After-gaussian-row Inv-loop μ-loop) → c .gaussian-row .result .d < 11
+low c = rw (c .gaussian-row .ensures) (gaussian-small (c .before .before .loop .i))
 
 loop-holds : tie.Need-loop-holds Inv-loop μ-loop
 loop-holds c = (omega arith, λ k t. refl)
 
-mul-r : tie.Need-mul-r Inv-loop μ-loop
-mul-r c = omega arith
-
-array-copy-out-r : tie.Need-array-copy-out-r Inv-loop μ-loop
-array-copy-out-r c = omega arith
+gaussian-row-requires : tie.Need-gaussian-row-requires Inv-loop μ-loop
+gaussian-row-requires c κs = search needs
 
 cast-d : tie.Need-cast-d Inv-loop μ-loop
-cast-d c = let l = low (c .before .before .before) (omega arith) in omega arith
+cast-d c = let l = low (c .before) in omega arith
 
 mul-term : tie.Need-mul-term Inv-loop μ-loop
-mul-term c = let l = low (c .before .before .before) (omega arith) in omega arith
+mul-term c = let l = low (c .before) in omega arith
 
 array-read-term : tie.Need-array-read-term Inv-loop μ-loop
-array-read-term c = let l = low (c .before .before .before) (omega arith) in omega arith
+array-read-term c = let l = low (c .before) in omega arith
 
 add-term : tie.Need-add-term Inv-loop μ-loop
 add-term c = omega arith
@@ -83,13 +77,14 @@ loop-again : tie.Need-loop-again Inv-loop μ-loop
 unfolding point
 loop-again c =
     let b = c .before in
-    let l = b .before .before .before .before .before in
+    let x = b .before .before .before in
+    let l = x .before .before in
     let t = l .before .before .before .before in
-    let a = t .before .args in
-    let pre = t .before .pre in
+    let a = t .args in
+    let pre = t .pre in
     let i = l .loop .i in
     let figures = gaussianFigures (a .iso) (a .p .delta) in
-    let r = getD (t .gaussians .result) i no-gaussian in
+    let r = x .gaussian-row .result in
     let term = mul binary64 (mul binary64 (mul binary64 (r .n) (getD (a .p .powers) (r .d) nan)) (getD (a .iso .powers) (34 + i) nan)) (getD (a .p .bells) i nan) in
     let d : a .p .powers ≡ powers 10 (a .p .delta) = ap (λ (q : Point). q .powers) pre in
     let e : a .p .bells ≡ bells (a .iso .spread) (a .p .delta) = ap (λ (q : Point). q .bells) pre in (
@@ -97,7 +92,7 @@ loop-again c =
       dues-more (a .all) figures (λ k. onto (checked (of (a .start) k)) (figures k)) i (l .loop .s) (c .grow .result) term (of (b .gaussian-brackets .result)) (c .grow .ensures)
           (λ k. (
             rw (gaussian-length (a .iso) (a .p .delta) k) (omega arith),
-            rw (b .gaussian-brackets .ensures, of-five (λ j. value (gaussianBracket (a .p .delta) (a .iso .tau) r j)) k, t .gaussians .ensures, d, e) (gaussian-there (a .iso) (a .p .delta) k i (omega arith)),
+            rw (b .gaussian-brackets .ensures, of-five (λ j. value (gaussianBracket (a .p .delta) (a .iso .tau) r j)) k, x .gaussian-row .ensures, d, e) (gaussian-there (a .iso) (a .p .delta) k i (omega arith)),
           ))
           (l .loop .inv .1),
     )
@@ -105,7 +100,7 @@ loop-again c =
 returns : tie.Need-returns Inv-loop μ-loop
 returns c =
     let l = c .before in
-    let a = l .before .before .before .before .before .args in
+    let a = l .before .before .before .before .args in
     let figures = gaussianFigures (a .iso) (a .p .delta) in
     dues-none (a .all) figures (λ k. onto (checked (of (a .start) k)) (figures k)) (l .loop .i) (l .loop .s) (λ k. rw (gaussian-length (a .iso) (a .p .delta) k) (omega arith)) (l .loop .inv .1)
 
@@ -115,10 +110,8 @@ gaussian-sums-spec =
     (tie.spec
     Inv-loop
     μ-loop
-    gaussians-requires
     loop-holds
-    mul-r
-    array-copy-out-r
+    gaussian-row-requires
     cast-d
     mul-term
     array-read-term

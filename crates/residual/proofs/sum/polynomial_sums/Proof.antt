@@ -11,32 +11,29 @@ use Rattle.roots.specs.Formula.{value}
 use Rattle.derivatives.specs.Derivative.{of}
 use Rattle.rows.specs.declared.row.Polynomial.{Polynomial}
 use Rattle.isotherm.specs.declared.isotherm.Isotherm.{Isotherm}
-use Rattle.rows.specs.Row.{polynomials}
+use Rattle.rows.specs.Row.{polynomials, row7}
 use Rattle.derivatives.proofs.Derivatives.{of-five}
 use Rattle.residual.specs.declared.term.Point.{Point}
 use Rattle.residual.specs.Term.{point, polynomialBracket}
 use Rattle.residual.specs.Sum.{total, polynomialFigures}
 use Rattle.residual.proofs.Sums.{Dues, dues-first, dues-more, dues-none}
-use Rattle.residual.proofs.Figures.{no-polynomial, polynomial-small, polynomial-length, polynomial-there}
+use Rattle.residual.proofs.Figures.{polynomial-small, polynomial-length, polynomial-there}
 use Rattle.residual.proofs.sum.polynomial_sums.Statement.{statement}
 use Rattle.residual.proofs.sum.polynomial_sums.Tie as tie
 
 abbrev Inv-loop : tie.InvT-loop
-Inv-loop all rows ds ys s₀ i₀ s i = (i ≤ 7) × ((iso : Isotherm) (delta : Float) → iso .powers ≡ ys → powers 10 delta ≡ ds
+Inv-loop all ds ys s₀ i₀ s i = (i ≤ 7) × ((iso : Isotherm) (delta : Float) → iso .powers ≡ ys → powers 10 delta ≡ ds
     → Dues all (polynomialFigures iso delta) (λ k. total (polynomialFigures iso delta k)) i s)
 
 abbrev μ-loop : tie.MeasureT-loop
-μ-loop all rows ds ys s₀ i₀ s i = 7 - i
+μ-loop all ds ys s₀ i₀ s i = 7 - i
 
 -- the row that a turn comes to
-low : (c : tie.At-loop Inv-loop μ-loop) → c .loop .i < 7 → getD (c .before .before .before .before .before .before .before .polynomials .result) (c .loop .i) no-polynomial .d < 11
-low c h = subst (λ (l : List Polynomial). getD l (c .loop .i) no-polynomial .d < 11) (sym (c .before .before .before .before .before .before .before .polynomials .ensures)) (polynomial-small (c .loop .i) h)
+low : (c : tie.After-polynomial-row2 Inv-loop μ-loop) → c .polynomial-row2 .result .d < 11
+low c = rw (c .polynomial-row2 .ensures) (polynomial-small (c .before .before .loop .i))
 
-polynomials-requires : tie.Need-polynomials-requires Inv-loop μ-loop
-polynomials-requires c κs = search needs
-
-array-copy-out-row : tie.Need-array-copy-out-row Inv-loop μ-loop
-array-copy-out-row c = search needs
+polynomial-row-requires : tie.Need-polynomial-row-requires Inv-loop μ-loop
+polynomial-row-requires c κs = search needs
 
 array-read-first : tie.Need-array-read-first Inv-loop μ-loop
 array-read-first c = search needs
@@ -54,33 +51,30 @@ loop-holds : tie.Need-loop-holds Inv-loop μ-loop
 unfolding polynomials
 loop-holds c =
     let b = c .before in
-    let t = b .before .before .before .before .before in
-    let a = t .before .args in
-    let r = getD (t .polynomials .result) 0 no-polynomial in
+    let x = b .before .before in
+    let a = x .before .before .before .args in
+    let r = x .polynomial-row .result in
     let term = mul binary64 (mul binary64 (r .n) (getD (a .p .powers) 1 nan)) (getD (a .iso .powers) 0 nan) in (
       omega arith,
       λ iso delta y d.
           dues-first (a .all) (polynomialFigures iso delta) (c .first .result) term (of (b .polynomial-brackets .result)) (c .first .ensures)
           (λ k. (
             rw (polynomial-length iso delta k) (omega arith),
-            rw (b .polynomial-brackets .ensures, of-five (λ j. value (polynomialBracket r j)) k, t .polynomials .ensures, ← d, ← y) (polynomial-there iso delta k 0 (omega arith)),
+            rw (b .polynomial-brackets .ensures, of-five (λ j. value (polynomialBracket r j)) k, x .polynomial-row .ensures, ← d, ← y) (polynomial-there iso delta k 0 (omega arith)),
           )),
     )
 
-mul-r : tie.Need-mul-r Inv-loop μ-loop
-mul-r c = omega arith
-
-array-copy-out-r : tie.Need-array-copy-out-r Inv-loop μ-loop
-array-copy-out-r c = omega arith
+polynomial-row-requires-2 : tie.Need-polynomial-row-requires-2 Inv-loop μ-loop
+polynomial-row-requires-2 c κs = search needs
 
 cast-d : tie.Need-cast-d Inv-loop μ-loop
-cast-d c = let l = low (c .before .before .before) (omega arith) in omega arith
+cast-d c = let l = low (c .before) in omega arith
 
 mul-grow : tie.Need-mul-grow Inv-loop μ-loop
-mul-grow c = let l = low (c .before .before .before) (omega arith) in omega arith
+mul-grow c = let l = low (c .before) in omega arith
 
 array-read-grow : tie.Need-array-read-grow Inv-loop μ-loop
-array-read-grow c = let l = low (c .before .before .before) (omega arith) in omega arith
+array-read-grow c = let l = low (c .before) in omega arith
 
 mul-grow-2 : tie.Need-mul-grow-2 Inv-loop μ-loop
 mul-grow-2 c = omega arith
@@ -103,18 +97,18 @@ loop-less c = omega arith
 loop-again : tie.Need-loop-again Inv-loop μ-loop
 loop-again c =
     let b = c .before in
-    let l = b .before .before .before .before .before in
-    let t = l .before .before .before .before .before .before .before in
-    let a = t .before .args in
+    let x = b .before .before .before in
+    let l = x .before .before in
+    let a = l .before .before .before .before .before .before .before .args in
     let i = l .loop .i in
-    let r = getD (t .polynomials .result) i no-polynomial in
+    let r = x .polynomial-row2 .result in
     let term = mul binary64 (mul binary64 (r .n) (getD (a .p .powers) (r .d) nan)) (getD (a .iso .powers) i nan) in (
       omega arith,
       λ iso delta y d.
           dues-more (a .all) (polynomialFigures iso delta) (λ k. total (polynomialFigures iso delta k)) i (l .loop .s) (c .grow .result) term (of (b .polynomial-brackets2 .result)) (c .grow .ensures)
           (λ k. (
             rw (polynomial-length iso delta k) (omega arith),
-            rw (b .polynomial-brackets2 .ensures, of-five (λ j. value (polynomialBracket r j)) k, t .polynomials .ensures, ← d, ← y) (polynomial-there iso delta k i (omega arith)),
+            rw (b .polynomial-brackets2 .ensures, of-five (λ j. value (polynomialBracket r j)) k, x .polynomial-row2 .ensures, ← d, ← y) (polynomial-there iso delta k i (omega arith)),
           ))
           (l .loop .inv .1 iso delta y d),
     )
@@ -123,7 +117,7 @@ returns : tie.Need-returns Inv-loop μ-loop
 unfolding point
 returns c =
     let l = c .before in
-    let b = l .before .before .before .before .before .before .before .before in
+    let b = l .before .before .before .before .before .before .before in
     let a = b .args in
     let figures = polynomialFigures (a .iso) (a .p .delta) in
     dues-none (a .all) figures (λ k. total (figures k)) (l .loop .i) (l .loop .s) (λ k. rw (polynomial-length (a .iso) (a .p .delta) k) (omega arith))
@@ -135,15 +129,13 @@ polynomial-sums-spec =
     (tie.spec
     Inv-loop
     μ-loop
-    polynomials-requires
-    array-copy-out-row
+    polynomial-row-requires
     array-read-first
     array-read-first-2
     polynomial-brackets-requires
     first-requires
     loop-holds
-    mul-r
-    array-copy-out-r
+    polynomial-row-requires-2
     cast-d
     mul-grow
     array-read-grow

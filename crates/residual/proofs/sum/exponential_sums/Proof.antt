@@ -1,24 +1,18 @@
 -- Each turn adds the next row's figures; what is left to add gives the sums that are asked for. Assumes nothing.
-use mathlib.Core.Path.{_≡_, refl, sym, ap, subst}
-use mathlib.Core.List.{List}
-use Prim.Native.Nat.{_+_, _-_, _<_, _≤_}
+use mathlib.Core.Path.{_≡_, refl, sym, ap}
+use Prim.Native.Nat.{_-_, _≤_}
 use native.Mathlib.Omega.{arith}
 use borrow.Author.Needs.{needs}
-use lib.ListN.{getD}
-use lib.Ieee.{Float, nan, binary64, mul}
+use lib.Ieee.{Float}
 use Rattle.powers.specs.Power.{powers}
 use Rattle.numeric.specs.Working.{checked}
-use Rattle.roots.specs.Formula.{num, value}
 use Rattle.derivatives.specs.Derivative.{of}
-use Rattle.rows.specs.declared.row.Exponential.{Exponential}
 use Rattle.isotherm.specs.declared.isotherm.Isotherm.{Isotherm}
-use Rattle.rows.specs.Row.{exponentials, row34}
-use Rattle.derivatives.proofs.Derivatives.{of-five}
 use Rattle.residual.specs.declared.term.Point.{Point}
-use Rattle.residual.specs.Term.{point, decays, exponentialBracket}
+use Rattle.residual.specs.Term.{point, decays}
 use Rattle.residual.specs.Sum.{onto, exponentialFigures}
 use Rattle.residual.proofs.Sums.{Dues, dues-more, dues-none}
-use Rattle.residual.proofs.Figures.{Small, exponential-small, exponential-length, exponential-there}
+use Rattle.residual.proofs.Figures.{Small, exponential-small, exponential-length, exponential-placed}
 use Rattle.residual.proofs.sum.exponential_sums.Statement.{statement}
 use Rattle.residual.proofs.sum.exponential_sums.Tie as tie
 
@@ -92,18 +86,11 @@ loop-again c =
     let b = c .before in
     let x = b .before .before .before .before in
     let l = x .before .before in
-    let a = l .before .before .before .before .args in
-    let i = l .loop .i in
-    let r = x .exponential-row .result in
-    let term = mul binary64 (mul binary64 (mul binary64 (r .n) (getD (a .p .powers) (r .d) nan)) (getD (a .iso .powers) (7 + i) nan)) (getD (a .p .decays) (r .c - 1) nan) in (
+    let a = l .before .before .before .before .args in (
       omega arith,
       λ iso delta y d e.
-          dues-more (a .all) (exponentialFigures iso delta) (λ k. onto (checked (of (a .start) k)) (exponentialFigures iso delta k)) i (l .loop .s) (c .grow .result) term (of (b .exponential-brackets .result)) (c .grow .ensures)
-          (λ k. (
-            rw (exponential-length iso delta k) (omega arith),
-            rw (b .exponential-brackets .ensures, of-five (λ j. value (exponentialBracket (num (getD (a .p .powers) (r .c) nan)) r j)) k, x .exponential-row .ensures, ← d, ← e, ← y) (exponential-there iso delta k i (omega arith)),
-          ))
-          (l .loop .inv .1 iso delta y d e),
+          dues-more (a .all) _ _ _ _ _ _ _ (c .grow .ensures)
+          (exponential-placed iso delta y d _ e (omega arith) (x .exponential-row .ensures) (b .exponential-brackets .ensures)) (l .loop .inv .1 iso delta y d e),
     )
 
 returns : tie.Need-returns Inv-loop μ-loop
@@ -112,9 +99,9 @@ returns c =
     let l = c .before in
     let b = l .before .before .before .before in
     let a = b .args in
-    let figures = exponentialFigures (a .iso) (a .p .delta) in
-    dues-none (a .all) figures (λ k. onto (checked (of (a .start) k)) (figures k)) (l .loop .i) (l .loop .s) (λ k. rw (exponential-length (a .iso) (a .p .delta) k) (omega arith))
+    dues-none (a .all) _ _ (l .loop .i) _
     (l .loop .inv .1 (a .iso) (a .p .delta) refl (sym (ap (λ (q : Point). q .powers) (b .pre))) (sym (ap (λ (q : Point). q .decays) (b .pre))))
+    (exponential-length (a .iso) (a .p .delta)) (omega arith)
 
 pub exponential-sums-spec : {M : Type 1} → statement M
 exponential-sums-spec =

@@ -1,23 +1,16 @@
 -- Each turn adds the next row's figures; what is left to add gives the sums that are asked for. Assumes nothing.
-use mathlib.Core.Path.{_≡_, refl, sym, ap, subst}
-use mathlib.Core.List.{List}
-use Prim.Native.Nat.{_+_, _-_, _<_, _≤_}
+use mathlib.Core.Path.{refl, sym, ap}
+use Prim.Native.Nat.{_-_, _<_, _≤_}
 use native.Mathlib.Omega.{arith}
 use borrow.Author.Needs.{needs}
-use lib.ListN.{getD}
-use lib.Ieee.{nan, binary64, mul}
 use Rattle.powers.specs.Power.{powers}
 use Rattle.numeric.specs.Working.{checked}
-use Rattle.roots.specs.Formula.{value}
 use Rattle.derivatives.specs.Derivative.{of}
-use Rattle.rows.specs.declared.row.Gaussian.{Gaussian}
-use Rattle.rows.specs.Row.{gaussians, row39}
-use Rattle.derivatives.proofs.Derivatives.{of-five}
 use Rattle.residual.specs.declared.term.Point.{Point}
-use Rattle.residual.specs.Term.{point, bells, gaussianBracket}
+use Rattle.residual.specs.Term.{point, bells}
 use Rattle.residual.specs.Sum.{onto, gaussianFigures}
 use Rattle.residual.proofs.Sums.{Dues, dues-more, dues-none}
-use Rattle.residual.proofs.Figures.{gaussian-small, gaussian-length, gaussian-there}
+use Rattle.residual.proofs.Figures.{gaussian-small, gaussian-length, gaussian-placed}
 use Rattle.residual.proofs.sum.gaussian_sums.Statement.{statement}
 use Rattle.residual.proofs.sum.gaussian_sums.Tie as tie
 
@@ -80,20 +73,10 @@ loop-again c =
     let x = b .before .before .before in
     let l = x .before .before in
     let t = l .before .before .before .before in
-    let a = t .args in
-    let pre = t .pre in
-    let i = l .loop .i in
-    let figures = gaussianFigures (a .iso) (a .p .delta) in
-    let r = x .gaussian-row .result in
-    let term = mul binary64 (mul binary64 (mul binary64 (r .n) (getD (a .p .powers) (r .d) nan)) (getD (a .iso .powers) (34 + i) nan)) (getD (a .p .bells) i nan) in
-    let d : a .p .powers ≡ powers 10 (a .p .delta) = ap (λ (q : Point). q .powers) pre in
-    let e : a .p .bells ≡ bells (a .iso .spread) (a .p .delta) = ap (λ (q : Point). q .bells) pre in (
+    let a = t .args in (
       omega arith,
-      dues-more (a .all) figures (λ k. onto (checked (of (a .start) k)) (figures k)) i (l .loop .s) (c .grow .result) term (of (b .gaussian-brackets .result)) (c .grow .ensures)
-          (λ k. (
-            rw (gaussian-length (a .iso) (a .p .delta) k) (omega arith),
-            rw (b .gaussian-brackets .ensures, of-five (λ j. value (gaussianBracket (a .p .delta) (a .iso .tau) r j)) k, x .gaussian-row .ensures, d, e) (gaussian-there (a .iso) (a .p .delta) k i (omega arith)),
-          ))
+      dues-more (a .all) _ _ _ _ _ _ _ (c .grow .ensures)
+          (gaussian-placed (a .iso) (a .p .delta) refl (sym (ap (λ (q : Point). q .powers) (t .pre))) _ (sym (ap (λ (q : Point). q .bells) (t .pre))) (omega arith) (x .gaussian-row .ensures) (b .gaussian-brackets .ensures))
           (l .loop .inv .1),
     )
 
@@ -101,8 +84,7 @@ returns : tie.Need-returns Inv-loop μ-loop
 returns c =
     let l = c .before in
     let a = l .before .before .before .before .args in
-    let figures = gaussianFigures (a .iso) (a .p .delta) in
-    dues-none (a .all) figures (λ k. onto (checked (of (a .start) k)) (figures k)) (l .loop .i) (l .loop .s) (λ k. rw (gaussian-length (a .iso) (a .p .delta) k) (omega arith)) (l .loop .inv .1)
+    dues-none (a .all) _ _ (l .loop .i) _ (l .loop .inv .1) (gaussian-length (a .iso) (a .p .delta)) (omega arith)
 
 pub gaussian-sums-spec : {M : Type 1} → statement M
 gaussian-sums-spec =

@@ -1,23 +1,18 @@
 -- Each turn adds the next row's figures; what is left to add gives the sums that are asked for. Assumes nothing.
-use mathlib.Core.Path.{_≡_, refl, sym, ap, subst}
-use mathlib.Core.List.{List}
+use mathlib.Core.Path.{_≡_, refl, sym, ap}
 use Prim.Native.Nat.{_-_, _<_, _≤_}
 use native.Mathlib.Omega.{arith}
 use borrow.Author.Needs.{needs}
-use lib.ListN.{getD}
-use lib.Ieee.{Float, nan, binary64, mul}
+use lib.Ieee.{Float}
 use Rattle.powers.specs.Power.{powers}
-use Rattle.roots.specs.Formula.{value}
-use Rattle.derivatives.specs.Derivative.{of}
 use Rattle.rows.specs.declared.row.Polynomial.{Polynomial}
 use Rattle.isotherm.specs.declared.isotherm.Isotherm.{Isotherm}
-use Rattle.rows.specs.Row.{polynomials, row7}
-use Rattle.derivatives.proofs.Derivatives.{of-five}
+use Rattle.rows.specs.Row.{polynomials}
 use Rattle.residual.specs.declared.term.Point.{Point}
-use Rattle.residual.specs.Term.{point, polynomialBracket}
+use Rattle.residual.specs.Term.{point}
 use Rattle.residual.specs.Sum.{total, polynomialFigures}
 use Rattle.residual.proofs.Sums.{Dues, dues-first, dues-more, dues-none}
-use Rattle.residual.proofs.Figures.{polynomial-small, polynomial-length, polynomial-there}
+use Rattle.residual.proofs.Figures.{polynomial-small, polynomial-length, polynomial-placed}
 use Rattle.residual.proofs.sum.polynomial_sums.Statement.{statement}
 use Rattle.residual.proofs.sum.polynomial_sums.Tie as tie
 
@@ -53,15 +48,11 @@ loop-holds c =
     let b = c .before in
     let x = b .before .before in
     let a = x .before .before .before .args in
-    let r = x .polynomial-row .result in
-    let term = mul binary64 (mul binary64 (r .n) (getD (a .p .powers) 1 nan)) (getD (a .iso .powers) 0 nan) in (
+    let one : x .polynomial-row .result .d ≡ 1 = ap (λ (r : Polynomial). r .d) (x .polynomial-row .ensures) in (
       omega arith,
       λ iso delta y d.
-          dues-first (a .all) (polynomialFigures iso delta) (c .first .result) term (of (b .polynomial-brackets .result)) (c .first .ensures)
-          (λ k. (
-            rw (polynomial-length iso delta k) (omega arith),
-            rw (b .polynomial-brackets .ensures, of-five (λ j. value (polynomialBracket r j)) k, x .polynomial-row .ensures, ← d, ← y) (polynomial-there iso delta k 0 (omega arith)),
-          )),
+          dues-first (a .all) (polynomialFigures iso delta) (c .first .result) _ _ (c .first .ensures)
+          (rw one at (polynomial-placed iso delta y d 0 (omega arith) (x .polynomial-row .ensures) (b .polynomial-brackets .ensures))),
     )
 
 polynomial-row-requires-2 : tie.Need-polynomial-row-requires-2 Inv-loop μ-loop
@@ -99,18 +90,11 @@ loop-again c =
     let b = c .before in
     let x = b .before .before .before in
     let l = x .before .before in
-    let a = l .before .before .before .before .before .before .before .args in
-    let i = l .loop .i in
-    let r = x .polynomial-row2 .result in
-    let term = mul binary64 (mul binary64 (r .n) (getD (a .p .powers) (r .d) nan)) (getD (a .iso .powers) i nan) in (
+    let a = l .before .before .before .before .before .before .before .args in (
       omega arith,
       λ iso delta y d.
-          dues-more (a .all) (polynomialFigures iso delta) (λ k. total (polynomialFigures iso delta k)) i (l .loop .s) (c .grow .result) term (of (b .polynomial-brackets2 .result)) (c .grow .ensures)
-          (λ k. (
-            rw (polynomial-length iso delta k) (omega arith),
-            rw (b .polynomial-brackets2 .ensures, of-five (λ j. value (polynomialBracket r j)) k, x .polynomial-row2 .ensures, ← d, ← y) (polynomial-there iso delta k i (omega arith)),
-          ))
-          (l .loop .inv .1 iso delta y d),
+          dues-more (a .all) _ _ _ _ _ _ _ (c .grow .ensures)
+          (polynomial-placed iso delta y d _ (omega arith) (x .polynomial-row2 .ensures) (b .polynomial-brackets2 .ensures)) (l .loop .inv .1 iso delta y d),
     )
 
 returns : tie.Need-returns Inv-loop μ-loop
@@ -119,9 +103,8 @@ returns c =
     let l = c .before in
     let b = l .before .before .before .before .before .before .before in
     let a = b .args in
-    let figures = polynomialFigures (a .iso) (a .p .delta) in
-    dues-none (a .all) figures (λ k. total (figures k)) (l .loop .i) (l .loop .s) (λ k. rw (polynomial-length (a .iso) (a .p .delta) k) (omega arith))
-    (l .loop .inv .1 (a .iso) (a .p .delta) refl (sym (ap (λ (q : Point). q .powers) (b .pre))))
+    dues-none (a .all) _ _ (l .loop .i) _ (l .loop .inv .1 (a .iso) (a .p .delta) refl (sym (ap (λ (q : Point). q .powers) (b .pre))))
+    (polynomial-length (a .iso) (a .p .delta)) (omega arith)
 
 pub polynomial-sums-spec : {M : Type 1} → statement M
 polynomial-sums-spec =

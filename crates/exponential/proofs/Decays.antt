@@ -17,7 +17,7 @@ use lib.Ieee.Positive.{num, den, positive, den-pos, le→cross, between}
 use Rattle.numeric.specs.Number.{decimal, fraction, whole}
 use Rattle.numeric.specs.Working.{checked, plain}
 use Rattle.exponential.specs.Exponential.{exponential, falling, series, squared}
-use Rattle.exponential.specs.Decay.{allOrdinary, decay, ordinary}
+use Rattle.exponential.specs.Decay.{decay, every, ordinary}
 use Rattle.exponential.proofs.Exponentials.{falling-is}
 use Rattle.exponential.proofs.Halves.{quotient, no-less}
 
@@ -82,8 +82,8 @@ decay-is x h =
     ∙ falling-is (neg x)
     ∙ ap (λ (z : Float). squared 10 (series (checked (div binary64 z (whole 1024))) 14 (checked (whole 1)))) (neg-neg x))
 
-pub each-ordinary : (l : List Float) (k : ℕ) → T (allOrdinary l) → k < length l → T (ordinary (getD l k nan))
-unfolding allOrdinary
-each-ordinary [] k h n = absurd (omega arith)
-each-ordinary (x ∷ l) zero h n = and-l (ordinary x) (allOrdinary l) h
-each-ordinary (x ∷ l) (suc k) h n = each-ordinary l k (and-r (ordinary x) (allOrdinary l) h) (omega arith)
+pub each-of : (p : Float → Bool) (l : List Float) (k : ℕ) → T (every p l) → k < length l → T (p (getD l k nan))
+unfolding every
+each-of p [] k h n = absurd (omega arith)
+each-of p (x ∷ l) zero h n = and-l (p x) (every p l) h
+each-of p (x ∷ l) (suc k) h n = each-of p l k (and-r (p x) (every p l) h) (omega arith)

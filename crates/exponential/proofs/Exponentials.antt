@@ -10,6 +10,7 @@ use Rattle.numeric.specs.declared.working.Worked.{Worked}
 use Rattle.numeric.specs.Number.{whole}
 use Rattle.numeric.specs.Working.{checked, _-ᵂ_, _*ᵂ_, _/ᵂ_}
 use Rattle.exponential.specs.Exponential.{falling, series, squared}
+use Rattle.exponential.specs.Lockstep.{chain, powers}
 use Rattle.exponential.proofs.Tables.{at}
 use Rattle.numeric.proofs.Workings.{checked-sub, checked-mul, checked-div}
 
@@ -43,15 +44,16 @@ unfolding squared
 squared-end zero s h = refl
 squared-end (suc n) s h = absurd (omega arith)
 
--- ---- the series in plain f64
-unfoldable pub chain : Float → ℕ → Float → Float
-chain y zero s = s
-chain y (suc k) s = chain y k (sub binary64 (whole 1) (mul binary64 (div binary64 y (whole (suc k))) s))
-
+-- ---- the series and the squarings in plain f64
 pub series-chain : (y : Float) (k : ℕ) (s : Float) → k ≤ 14 → series (checked y) k (checked s) ≡ checked (chain y k s)
 unfolding series chain
 series-chain y zero s h = refl
 series-chain y (suc k) s h = ap (series (checked y) k) (sym (turned y (suc k) s h)) ∙ series-chain y k _ (omega arith)
+
+pub squared-powers : (n : ℕ) (s : Float) → squared n (checked s) ≡ checked (powers n s)
+unfolding squared powers
+squared-powers zero s = refl
+squared-powers (suc n) s = ap (squared n) (sym (checked-mul s s)) ∙ squared-powers n (mul binary64 s s)
 
 pub falling-is : (x : Float) → falling x ≡ squared 10 (series (checked (div binary64 (neg x) (whole 1024))) 14 (checked (whole 1)))
 unfolding falling whole ofInt

@@ -19,7 +19,7 @@ use lib.Ieee.Positive.{num, den, positive, den-pos, positive-finite, value→cro
 use Rattle.numeric.specs.Number.{decimal, fraction, whole}
 
 -- ---- a value that fits is written in one way: its bits hang on its size alone
-bits-of-value : (f : Format) (x : Float) (g : ℕ) → HasValue x false g (2 ^ low f) → toBits f x ≡ 0 + (size g - prec f) * hid f + g / 2 ^ (size g - prec f)
+pub bits-of-value : (f : Format) (x : Float) (g : ℕ) → HasValue x false g (2 ^ low f) → toBits f x ≡ 0 + (size g - prec f) * hid f + g / 2 ^ (size g - prec f)
 unfolding toBits
 bits-of-value f nan g h = absurd h
 bits-of-value f (inf s) g h = absurd h
@@ -30,7 +30,7 @@ same-value : (f : Format) (x y : Float) (g : ℕ) → T (fits f x) → T (fits f
 same-value f x y g p q h k = sym (ofBits-toBits f x p) ∙ ap (ofBits f) (bits-of-value f x g h ∙ sym (bits-of-value f y g k)) ∙ ofBits-toBits f y q
 
 -- ---- rounding a rounded fraction changes nothing
-kept-le : (p n c : ℕ) → kept p n c ≤ 2 ^ p
+pub kept-le : (p n c : ℕ) → kept p n c ≤ 2 ^ p
 kept-le p n c =
     let k = drop p n c in
     let u = c * 2 ^ k in
@@ -67,7 +67,7 @@ scaled-back f a q t z Q n p v =
     ∙ rounded-again f a q (lt-of-le-of-lt (le-mul-of-pos-right g (pow-pos t)) (subst (λ (w : ℕ). w < overflow f) scaled under))
 
 -- ---- the quotient of two values above zero, by any fractions that they equal
-div-is : (f : Format) (x y : Float) → T (positive x) → T (positive y) → div f x y ≡ round f false (num x * den y) (num y * den x)
+pub div-is : (f : Format) (x y : Float) → T (positive x) → T (positive y) → div f x y ≡ round f false (num x * den y) (num y * den x)
 unfolding div
 div-is f nan y p q = absurd p
 div-is f (inf s) y p q = absurd p
@@ -92,7 +92,7 @@ quotient y n p N h =
     (rw x (simp (mul-assoc, mul-comm, mul-left-comm)))
 
 -- ---- 2⁻ᵗ
-part-value : (t : ℕ) → t ≤ 4 → HasValue (fraction 1 (2 ^ t)) false 1 (2 ^ t)
+pub part-value : (t : ℕ) → t ≤ 4 → HasValue (fraction 1 (2 ^ t)) false 1 (2 ^ t)
 unfolding fraction
 part-value t h =
     let l = low binary64 in
@@ -109,15 +109,15 @@ shuffle : (b a n u : ℕ) → b * (n * (a * u)) ≡ a * (b * (n * u))
 shuffle b a n u = simp mul-left-comm
 
 module _ (y : Float) (lo : T (le (decimal 1 250) y)) (hi : T (le y (whole 1))) where
-  above-zero : T (positive y)
+  pub above-zero : T (positive y)
   unfolding decimal fraction whole ofInt round
   above-zero = between (decimal 1 250) y (whole 1) tt tt lo hi
 
-  at-least : den y ≤ num y * 2 ^ 900
+  pub at-least : den y ≤ num y * 2 ^ 900
   unfolding decimal fraction round
   at-least = no-less (decimal 1 250) y (2 ^ 900) tt above-zero (lit≤ tt) lo
 
-  at-most : num y ≤ den y
+  pub at-most : num y ≤ den y
   unfolding whole ofInt round
   at-most = omega (arith, le→cross y (whole 1) above-zero tt hi)
 

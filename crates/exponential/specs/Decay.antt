@@ -35,6 +35,6 @@ each f x = record {
 abbrev pub numbers : Twelve → List Float
 numbers x = x .a ∷ x .b ∷ x .c ∷ x .d ∷ x .e ∷ x .f ∷ x .g ∷ x .h ∷ x .i ∷ x .j ∷ x .k ∷ x .l ∷ []
 
-unfoldable pub allOrdinary : List Float → Bool
-allOrdinary [] = true
-allOrdinary (x ∷ l) = ordinary x && allOrdinary l
+unfoldable pub every : (Float → Bool) → List Float → Bool
+every p [] = true
+every p (x ∷ l) = p x && every p l

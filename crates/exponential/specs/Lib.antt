@@ -1,2 +1,4 @@
 pub mod Exponential
 pub mod Decay
+pub mod Quotient
+pub mod Lockstep

@@ -3,12 +3,13 @@
 ghost use mathlib.Core.Path.{_≡_};
 ghost use mathlib.Core.Bool.{_&&_};
 ghost use lib.Dec.{T};
-ghost use Rattle.exponential.specs.Decay.{allOrdinary, decay, each, numbers, ordinary};
-use crate::exponential::eased;
+ghost use lib.Ieee.{binary64, div};
+ghost use Rattle.numeric.specs.Number.{whole};
+ghost use Rattle.exponential.specs.Decay.{decay, each, every, numbers, ordinary};
 use crate::exponential::exponential;
 use crate::exponential::ordinary;
-use crate::exponential::squared;
-use numeric::working::checked;
+use crate::lockstep::chains;
+use crate::lockstep::ten_squarings;
 use numeric::working::plain;
 
 // By fields: of an array each place would have to be proved to lie in it.
@@ -27,14 +28,6 @@ pub struct Twelve {
     pub l: f64,
 }
 
-// With no branch on x, so that a compiler can work twelve of it two by two.
-fn ordinary_decay(x: f64) -> f64
-    requires { ⌜ T (ordinary x) ⌝ }
-    ensures { λ r. ⌜ r ≡ decay x ⌝ }
-{
-    plain(checked(squared(eased(x / 1024.0))))
-}
-
 fn decay(x: f64) -> f64
     ensures { λ r. ⌜ r ≡ decay x ⌝ }
 {
@@ -48,7 +41,7 @@ fn also(x: f64, others: bool) -> bool
 }
 
 fn all_ordinary(x: Twelve) -> bool
-    ensures { λ r. ⌜ r ≡ allOrdinary (numbers x) ⌝ }
+    ensures { λ r. ⌜ r ≡ every ordinary (numbers x) ⌝ }
 {
     let r = also(x.l, true);
     let r = also(x.k, r);
@@ -64,24 +57,31 @@ fn all_ordinary(x: Twelve) -> bool
     also(x.a, r)
 }
 
-fn side_by_side(x: Twelve) -> Twelve
-    requires { ⌜ T (allOrdinary (numbers x)) ⌝ }
-    ensures { λ r. ⌜ r ≡ each decay x ⌝ }
+fn thousandths(x: Twelve) -> Twelve
+    ensures { λ r. ⌜ r ≡ each (λ v. div binary64 v (whole 1024)) x ⌝ }
 {
     Twelve {
-        a: ordinary_decay(x.a),
-        b: ordinary_decay(x.b),
-        c: ordinary_decay(x.c),
-        d: ordinary_decay(x.d),
-        e: ordinary_decay(x.e),
-        f: ordinary_decay(x.f),
-        g: ordinary_decay(x.g),
-        h: ordinary_decay(x.h),
-        i: ordinary_decay(x.i),
-        j: ordinary_decay(x.j),
-        k: ordinary_decay(x.k),
-        l: ordinary_decay(x.l),
+        a: x.a / 1024.0,
+        b: x.b / 1024.0,
+        c: x.c / 1024.0,
+        d: x.d / 1024.0,
+        e: x.e / 1024.0,
+        f: x.f / 1024.0,
+        g: x.g / 1024.0,
+        h: x.h / 1024.0,
+        i: x.i / 1024.0,
+        j: x.j / 1024.0,
+        k: x.k / 1024.0,
+        l: x.l / 1024.0,
     }
+}
+
+// With no branch on an x, and none of the tests for a number that is not finite: from 0 to 1 no step leaves.
+fn side_by_side(x: Twelve) -> Twelve
+    requires { ⌜ T (every ordinary (numbers x)) ⌝ }
+    ensures { λ r. ⌜ r ≡ each decay x ⌝ }
+{
+    ten_squarings(chains(thousandths(x)))
 }
 
 fn one_by_one(x: Twelve) -> Twelve

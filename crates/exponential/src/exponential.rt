@@ -24,7 +24,7 @@ fn series(y: f64) -> f64
 }
 
 // The same with six divisions: for such a y each y/(k·2ᵗ) is in the normal range, and is y/k times 2⁻ᵗ bit for bit (`halved`, proofs/Halves.antt).
-pub(crate) fn eased(y: f64) -> f64
+fn eased(y: f64) -> f64
     requires { ⌜ T (le (decimal 1 250) y) × T (le y (whole 1)) ⌝ }
     ensures { λ r. ⌜ checked r ≡ series (checked y) 14 (checked (whole 1)) ⌝ }
 {
@@ -48,7 +48,7 @@ pub(crate) fn eased(y: f64) -> f64
 }
 
 // "then s = s·s ten times"
-pub(crate) fn squared(s: f64) -> f64
+fn squared(s: f64) -> f64
     ensures { λ r. ⌜ checked r ≡ squared 10 (checked s) ⌝ }
 {
     let mut s = s;

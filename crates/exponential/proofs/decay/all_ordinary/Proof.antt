@@ -1,7 +1,7 @@
 -- One test after the other, as the definition has them. Assumes nothing.
 use mathlib.Core.Path.{refl}
 use borrow.Author.Needs.{needs}
-use Rattle.exponential.specs.Decay.{allOrdinary}
+use Rattle.exponential.specs.Decay.{every}
 use Rattle.exponential.proofs.decay.all_ordinary.Statement.{statement}
 use Rattle.exponential.proofs.decay.all_ordinary.Tie as tie
 
@@ -42,7 +42,7 @@ also-requires-12 : tie.Need-also-requires-12
 also-requires-12 c κs = search needs
 
 returns : tie.Need-returns
-unfolding allOrdinary
+unfolding every
 returns c =
     rw (
       c .also12 .ensures,

@@ -5,7 +5,8 @@ use lib.Dec.{T}
 use lib.Ieee.{Float, binary64, mul, sub, div, le, ofBits, ofInt, round}
 use Rattle.numeric.specs.Number.{decimal, fraction, whole}
 use Rattle.numeric.specs.Working.{checked}
-use Rattle.exponential.proofs.Exponentials.{chain, series-chain}
+use Rattle.exponential.specs.Lockstep.{chain}
+use Rattle.exponential.proofs.Exponentials.{series-chain}
 use Rattle.exponential.proofs.Halves.{halved}
 use Rattle.exponential.proofs.exponential.eased.Statement.{statement}
 use Rattle.exponential.proofs.exponential.eased.Tie as tie

@@ -1,0 +1,14 @@
+-- Each quotient is the definition's. Assumes nothing.
+use mathlib.Core.Path.{refl}
+use lib.Ieee.{ofBits, ofInt, round}
+use Rattle.numeric.specs.Number.{whole}
+use Rattle.exponential.specs.Decay.{each}
+use Rattle.exponential.proofs.decay.thousandths.Statement.{statement}
+use Rattle.exponential.proofs.decay.thousandths.Tie as tie
+
+returns : tie.Need-returns
+unfolding each whole ofBits ofInt round
+returns c = refl
+
+pub thousandths-spec : {M : Type 1} → statement M
+thousandths-spec = tie.close (tie.spec returns)

@@ -1,0 +1,42 @@
+-- The exponential in plain f64, as twelve of it are worked at once. Definitions only.
+use Prim.Native.Nat.{ℕ, zero, suc}
+use mathlib.Core.Bool.{Bool, _&&_}
+use lib.Ieee as Ieee
+use lib.Ieee.{Float, binary64}
+use Rattle.numeric.specs.Number.{decimal, whole}
+use Rattle.exponential.specs.declared.decay.Twelve.{Twelve}
+
+-- a y for which each y/k is in the normal range
+unfoldable pub tame : Float → Bool
+tame y = Ieee.le (decimal 1 250) y && Ieee.le y (whole 1)
+
+-- "s = 1 − (y/k)·s", with q·h for y/k
+unfoldable pub turn : Float → Float → Float → Float
+turn h q s = Ieee.sub binary64 (whole 1) (Ieee.mul binary64 (Ieee.mul binary64 q h) s)
+
+-- "for k = 14 down to 1, s = 1 − (y/k)·s"
+unfoldable pub chain : Float → ℕ → Float → Float
+chain y zero s = s
+chain y (suc k) s = chain y k (Ieee.sub binary64 (whole 1) (Ieee.mul binary64 (Ieee.div binary64 y (whole (suc k))) s))
+
+-- "then s = s·s ten times"
+unfoldable pub powers : ℕ → Float → Float
+powers zero s = s
+powers (suc n) s = powers n (Ieee.mul binary64 s s)
+
+-- twelve pairs at once
+unfoldable pub pairs : (Float → Float → Float) → Twelve → Twelve → Twelve
+pairs f x y = record {
+  a = f (x .a) (y .a);
+  b = f (x .b) (y .b);
+  c = f (x .c) (y .c);
+  d = f (x .d) (y .d);
+  e = f (x .e) (y .e);
+  f = f (x .f) (y .f);
+  g = f (x .g) (y .g);
+  h = f (x .h) (y .h);
+  i = f (x .i) (y .i);
+  j = f (x .j) (y .j);
+  k = f (x .k) (y .k);
+  l = f (x .l) (y .l);
+}

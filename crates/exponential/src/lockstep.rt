@@ -71,7 +71,7 @@ pub(crate) fn chains(y: Twelve) -> Twelve
     let ninth = parts(y, 9.0, 0.11111111111111, 0.111111111111112);
     let eleventh = parts(y, 11.0, 0.09090909090909, 0.090909090909092);
     let thirteenth = parts(y, 13.0, 0.076923076923076, 0.076923076923078);
-    let s = Twelve {
+    let mut s = Twelve {
         a: 1.0,
         b: 1.0,
         c: 1.0,
@@ -85,19 +85,19 @@ pub(crate) fn chains(y: Twelve) -> Twelve
         k: 1.0,
         l: 1.0,
     };
-    let s = step(s, seventh, 0.5);
-    let s = step(s, thirteenth, 1.0);
-    let s = step(s, third, 0.25);
-    let s = step(s, eleventh, 1.0);
-    let s = step(s, fifth, 0.5);
-    let s = step(s, ninth, 1.0);
-    let s = step(s, y, 0.125);
-    let s = step(s, seventh, 1.0);
-    let s = step(s, third, 0.5);
-    let s = step(s, fifth, 1.0);
-    let s = step(s, y, 0.25);
-    let s = step(s, third, 1.0);
-    let s = step(s, y, 0.5);
+    s = step(s, seventh, 0.5);
+    s = step(s, thirteenth, 1.0);
+    s = step(s, third, 0.25);
+    s = step(s, eleventh, 1.0);
+    s = step(s, fifth, 0.5);
+    s = step(s, ninth, 1.0);
+    s = step(s, y, 0.125);
+    s = step(s, seventh, 1.0);
+    s = step(s, third, 0.5);
+    s = step(s, fifth, 1.0);
+    s = step(s, y, 0.25);
+    s = step(s, third, 1.0);
+    s = step(s, y, 0.5);
     step(s, y, 1.0)
 }
 
@@ -124,14 +124,14 @@ fn squares(s: Twelve) -> Twelve
 pub(crate) fn ten_squarings(s: Twelve) -> Twelve
     ensures { λ r. ⌜ r ≡ each (powers 10) s ⌝ }
 {
-    let s = squares(s);
-    let s = squares(s);
-    let s = squares(s);
-    let s = squares(s);
-    let s = squares(s);
-    let s = squares(s);
-    let s = squares(s);
-    let s = squares(s);
-    let s = squares(s);
+    let mut s = squares(s);
+    s = squares(s);
+    s = squares(s);
+    s = squares(s);
+    s = squares(s);
+    s = squares(s);
+    s = squares(s);
+    s = squares(s);
+    s = squares(s);
     squares(s)
 }

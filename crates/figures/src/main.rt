@@ -197,9 +197,9 @@ fn sharp(t: f64, rho: f64) {
     // Ψ of rows 40 and 41, and of row 42
     let psi = plain(exponential(-(10.0 * c.near.x + iso.cold)));
     let other = plain(exponential(-(12.5 * c.near.x + iso.cold)));
-    let r40 = sharpen(true, none, rows[0], c.near, c.first, psi, delta, tau);
-    let r41 = sharpen(true, none, rows[1], c.near, c.second, psi, delta, tau);
-    let r42 = sharpen(true, none, rows[2], c.near, c.third, other, delta, tau);
+    let r40 = sharpen(none, rows[0], c.near, c.first, psi, delta, tau);
+    let r41 = sharpen(none, rows[1], c.near, c.second, psi, delta, tau);
+    let r42 = sharpen(none, rows[2], c.near, c.third, other, delta, tau);
     three(r40.d, r41.d, r42.d);
     three(r40.dd, r41.dd, r42.dd);
     three(r40.t, r41.t, r42.t);

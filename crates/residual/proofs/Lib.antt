@@ -1,3 +1,4 @@
+pub mod Psis
 pub mod Sums
 pub mod Figures
 pub mod Totals

@@ -2,14 +2,17 @@
 // row's term is worked once for all that are asked for, in plain f64, and each sum is tested once, at its end. What hangs
 // on the temperature comes with the isotherm.
 ghost use mathlib.Core.Path.{_≡_};
+ghost use mathlib.Core.Bool.{true};
 ghost use Rattle.numeric.specs.Working.{checked};
 ghost use Rattle.roots.specs.Formula.{num, value};
 ghost use Rattle.derivatives.specs.Derivative.{Delta, of, five};
+ghost use Rattle.critical.specs.Critical.{critical};
 ghost use Rattle.sharp.specs.Sharp.{sharpFigures};
 ghost use Rattle.residual.specs.Term.{point, polynomialBracket, exponentialBracket, gaussianBracket};
 ghost use Rattle.residual.specs.Sum.{onto, total, Meet, polynomialFigures, exponentialFigures, gaussianFigures, residual, together, fiveSums};
 use crate::term::Point;
 use crate::term::at_density;
+use critical::critical::Critical;
 use critical::critical::at_critical;
 use derivatives::derivative::Five;
 use derivatives::derivative::first;
@@ -25,6 +28,7 @@ use rows::row::gaussian_row;
 use rows::row::non_analytics;
 use rows::row::polynomial_row;
 use sharp::sharp::sharpen;
+use sharp::sharp::steepen;
 
 pub enum Sums {
     Summed(Five),
@@ -138,30 +142,55 @@ fn gaussian_sums(all: bool, start: Five, iso: Isotherm, p: Point) -> Five
     s
 }
 
-// Rows 40 to 42.
-fn sharp_sums(all: bool, start: Five, iso: Isotherm, p: Point) -> Five
+// Rows 40 to 42, of all five sums.
+fn sharp_sums(start: Five, iso: Isotherm, p: Point, c: Critical) -> Five
     requires { ⌜ p ≡ point iso (p .delta) ⌝ }
-    ensures { λ v. ⌜ Meet all v (λ k. onto (checked (of start k)) (sharpFigures iso (p .delta) k)) ⌝ }
+    requires { ⌜ c ≡ critical iso (p .delta) ⌝ }
+    ensures { λ v. ⌜ Meet true v (λ k. onto (checked (of start k)) (sharpFigures iso (p .delta) k)) ⌝ }
 {
     let rows = non_analytics();
     let d = p.delta;
     let t = iso.tau;
     let z = p.psis;
-    let c = at_critical(iso, d);
-    let s40 = sharpen(all, start, rows[0], c.near, c.first, z[0], d, t);
-    let s41 = sharpen(all, s40, rows[1], c.near, c.second, z[0], d, t);
-    sharpen(all, s41, rows[2], c.near, c.third, z[1], d, t)
+    let s40 = sharpen(start, rows[0], c.near, c.first, z[0], d, t);
+    let s41 = sharpen(s40, rows[1], c.near, c.second, z[0], d, t);
+    sharpen(s41, rows[2], c.near, c.third, z[1], d, t)
 }
 
-// All 42, in plain f64.
+// Of the first alone.
+fn sharp_slope(start: f64, iso: Isotherm, p: Point, c: Critical) -> f64
+    requires { ⌜ p ≡ point iso (p .delta) ⌝ }
+    requires { ⌜ c ≡ critical iso (p .delta) ⌝ }
+    ensures { λ v. ⌜ checked v ≡ onto (checked start) (sharpFigures iso (p .delta) Delta) ⌝ }
+{
+    let rows = non_analytics();
+    let d = p.delta;
+    let t = iso.tau;
+    let z = p.psis;
+    let s40 = steepen(start, rows[0], c.near, c.first, z[0], d, t);
+    let s41 = steepen(s40, rows[1], c.near, c.second, z[0], d, t);
+    steepen(s41, rows[2], c.near, c.third, z[1], d, t)
+}
+
+// All 42, in plain f64. Rows 40 to 42 wait longest for their roots, so these are begun before the sums.
 fn sums_at(all: bool, iso: Isotherm, delta: f64) -> Five
     ensures { λ v. ⌜ Meet all v (λ k. residual iso delta k) ⌝ }
 {
     let p = at_density(iso, delta);
+    let c = at_critical(iso, delta);
     let s7 = polynomial_sums(all, iso, p);
     let s34 = exponential_sums(all, s7, iso, p);
     let s39 = gaussian_sums(all, s34, iso, p);
-    sharp_sums(all, s39, iso, p)
+    if all {
+        return sharp_sums(s39, iso, p, c);
+    }
+    Five {
+        d: sharp_slope(s39.d, iso, p, c),
+        dd: s39.dd,
+        t: s39.t,
+        tt: s39.tt,
+        dt: s39.dt,
+    }
 }
 
 // δφ_δ, which a pressure needs.

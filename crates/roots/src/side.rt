@@ -1,8 +1,7 @@
 // Roots side by side, for formulas that go on in plain f64. A root is a chain of operations that wait for each other, and
 // several chains fill each other's waits: all are guessed, then all powers about the guesses are worked, then all are told.
 ghost use mathlib.Core.Path.{_≡_};
-ghost use Rattle.numeric.specs.Working.{plain};
-ghost use Rattle.roots.specs.Root.{root};
+ghost use Rattle.roots.specs.Side.{threeRoots, twoRoots};
 use crate::root::about_log;
 use crate::root::about_whole_power;
 use crate::root::guess;
@@ -28,7 +27,7 @@ pub struct ThreeRoots {
 }
 
 fn two_by_one(x: f64, e: Exponent, f: Exponent) -> TwoRoots
-    ensures { λ r. ⌜ (r .first ≡ plain (root e x)) × (r .second ≡ plain (root f x)) ⌝ }
+    ensures { λ r. ⌜ r ≡ twoRoots e f x ⌝ }
 {
     TwoRoots {
         first: plain(root(x, e)),
@@ -37,7 +36,7 @@ fn two_by_one(x: f64, e: Exponent, f: Exponent) -> TwoRoots
 }
 
 pub fn two_roots(x: f64, e: Exponent, f: Exponent) -> TwoRoots
-    ensures { λ r. ⌜ (r .first ≡ plain (root e x)) × (r .second ≡ plain (root f x)) ⌝ }
+    ensures { λ r. ⌜ r ≡ twoRoots e f x ⌝ }
 {
     if usual(x, e) {} else {
         return two_by_one(x, e, f);
@@ -64,7 +63,7 @@ pub fn two_roots(x: f64, e: Exponent, f: Exponent) -> TwoRoots
 }
 
 fn three_by_one(x: f64, e: Exponent, f: Exponent, z: f64) -> ThreeRoots
-    ensures { λ r. ⌜ (r .first ≡ plain (root e x)) × (r .second ≡ plain (root f x)) × (r .other ≡ plain (root e z)) ⌝ }
+    ensures { λ r. ⌜ r ≡ threeRoots e f x z ⌝ }
 {
     ThreeRoots {
         first: plain(root(x, e)),
@@ -75,7 +74,7 @@ fn three_by_one(x: f64, e: Exponent, f: Exponent, z: f64) -> ThreeRoots
 
 // f is the longer one: a power by squares leads to its guess, which so need not wait for t.
 pub fn three_roots(x: f64, e: Exponent, f: Exponent, z: f64) -> ThreeRoots
-    ensures { λ r. ⌜ (r .first ≡ plain (root e x)) × (r .second ≡ plain (root f x)) × (r .other ≡ plain (root e z)) ⌝ }
+    ensures { λ r. ⌜ r ≡ threeRoots e f x z ⌝ }
 {
     if usual(x, e) {} else {
         return three_by_one(x, e, f, z);

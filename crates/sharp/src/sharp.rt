@@ -1,7 +1,8 @@
 // The figures of rows 40 to 42, the term (n·δ)·Ψ times the bracket of each derivative (004, Table 32), added to the sums
 // so far: all five, or the first, which a pressure needs.
 ghost use mathlib.Core.Path.{_≡_};
-ghost use Rattle.roots.specs.Formula.{num, value};
+ghost use mathlib.Core.Bool.{true};
+ghost use Rattle.roots.specs.Formula.{num, _⊕_, _⊗_, value};
 ghost use Rattle.derivatives.specs.Derivative.{five, grown};
 ghost use Rattle.critical.specs.Critical.{heldNear, heldEdge};
 ghost use Rattle.sharp.specs.Sharp.{bend, bracketD, sharpTerm, sharpBracket};
@@ -68,28 +69,20 @@ fn brackets(row: NonAnalytic, n: Near, g: Edge, delta: f64, tau: f64) -> Five
 }
 
 // The sums so far, and a row's figures added. psi is its Ψ.
-pub fn sharpen(
-    all: bool,
-    s: Five,
-    row: NonAnalytic,
-    n: Near,
-    g: Edge,
-    psi: f64,
-    delta: f64,
-    tau: f64,
-) -> Five
-    ensures { λ r. ⌜ r ≡ grown all s (value (sharpTerm row delta (num psi))) (λ k. value (sharpBracket row (heldNear n) (heldEdge g) delta tau k)) ⌝ }
+pub fn sharpen(s: Five, row: NonAnalytic, n: Near, g: Edge, psi: f64, delta: f64, tau: f64) -> Five
+    ensures { λ r. ⌜ r ≡ grown true s (value (sharpTerm row delta (num psi))) (λ k. value (sharpBracket row (heldNear n) (heldEdge g) delta tau k)) ⌝ }
 {
-    let term = row.n * delta * psi;
-    if all {
-        return grow(true, s, term, brackets(row, n, g, delta, tau));
-    }
-    let d = slope_bracket(row, n, g, delta, tau);
-    Five {
-        d: s.d + term * d,
-        dd: s.dd,
-        t: s.t,
-        tt: s.tt,
-        dt: s.dt,
-    }
+    grow(
+        true,
+        s,
+        row.n * delta * psi,
+        brackets(row, n, g, delta, tau),
+    )
+}
+
+// The first sum so far, which a pressure needs, and the row's figure of it.
+pub fn steepen(s: f64, row: NonAnalytic, n: Near, g: Edge, psi: f64, delta: f64, tau: f64) -> f64
+    ensures { λ r. ⌜ r ≡ value (num s ⊕ sharpTerm row delta (num psi) ⊗ bracketD row (heldNear n) (heldEdge g) delta tau) ⌝ }
+{
+    s + row.n * delta * psi * slope_bracket(row, n, g, delta, tau)
 }

@@ -15,7 +15,7 @@ two-roots-requires c κs = search needs
 
 returns : tie.Need-returns
 unfolding value whole ofBits ofInt
-returns c = rw (c .two-roots .ensures .0, c .two-roots .ensures .1, c .before .worked-as .ensures) refl
+returns c = rw (c .two-roots .ensures, c .before .worked-as .ensures) refl
 
 pub near-critical-spec : {M : Type 1} → statement M
 near-critical-spec = tie.close (tie.spec worked-as-requires two-roots-requires returns)

@@ -1,13 +1,17 @@
 -- The four kinds of rows in turn. Assumes nothing.
-use mathlib.Core.Path.{_≡_, sym, ap, _∙_}
+use mathlib.Core.Path.{_≡_, sym, ap, _∙_, subst}
+use mathlib.Core.Bool.{Bool, true, false}
+use lib.Dec.{T}
 use lib.Ieee.{Float}
 use Rattle.numeric.specs.Working.{checked}
-use Rattle.derivatives.specs.Derivative.{of}
+use Rattle.numeric.specs.declared.working.Worked.{Worked}
+use Rattle.derivatives.specs.Derivative.{Derivative, Delta, DeltaDelta, Tau, TauTau, DeltaTau, asked, of}
 use Rattle.isotherm.specs.declared.isotherm.Isotherm.{Isotherm}
+use Rattle.critical.specs.Critical.{critical}
 use Rattle.sharp.specs.Sharp.{sharpFigures}
 use Rattle.residual.specs.declared.term.Point.{Point}
 use Rattle.residual.specs.Term.{point}
-use Rattle.residual.specs.Sum.{onto, total, polynomialFigures, exponentialFigures, gaussianFigures}
+use Rattle.residual.specs.Sum.{onto, total, polynomialFigures, exponentialFigures, gaussianFigures, residual}
 use Rattle.residual.proofs.Totals.{in-turn}
 use borrow.Author.Needs.{needs}
 use Rattle.residual.proofs.sum.sums_at.Statement.{statement}
@@ -18,42 +22,78 @@ own : (iso : Isotherm) (delta : Float) (p : Point) → p ≡ point iso delta →
 unfolding point
 own iso delta p e = let d = ap (λ (q : Point). q .delta) e in (e ∙ ap (point iso) (sym d), d)
 
-at-density-requires : tie.Need-at-density-requires
-at-density-requires c κs = search needs
-
-polynomial-sums-requires : tie.Need-polynomial-sums-requires
-polynomial-sums-requires c κs = let a = c .before .args in own (a .iso) (a .delta) _ (c .at-density .ensures) .0
-
-exponential-sums-requires : tie.Need-exponential-sums-requires
-exponential-sums-requires c κs = let a = c .before .before .args in own (a .iso) (a .delta) _ (c .before .at-density .ensures) .0
-
-gaussian-sums-requires : tie.Need-gaussian-sums-requires
-gaussian-sums-requires c κs = let a = c .before .before .before .args in own (a .iso) (a .delta) _ (c .before .before .at-density .ensures) .0
-
-sharp-sums-requires : tie.Need-sharp-sums-requires
-sharp-sums-requires c κs = let a = c .before .before .before .before .args in own (a .iso) (a .delta) _ (c .before .before .before .at-density .ensures) .0
-
-returns : tie.Need-returns
-returns c =
-    let g = c .before in
+-- rows 1 to 39, and then rows 40 to 42
+rest : (c : tie.After-gaussian-sums) (k : Derivative) → T (asked (c .before .before .before .before .before .args .all) k) → (w : Worked)
+    → w ≡ onto (checked (of (c .gaussian-sums .result) k)) (sharpFigures (c .before .before .before .before .before .args .iso) (c .before .before .before .before .at-density .result .delta) k)
+    → w ≡ residual (c .before .before .before .before .before .args .iso) (c .before .before .before .before .before .args .delta) k
+rest g k h w q =
     let e = g .before in
     let p = e .before in
-    let t = p .before in
+    let t = p .before .before in
     let a = t .before .args in
     let d = own (a .iso) (a .delta) _ (t .at-density .ensures) .1 in
-    λ k h.
     in-turn (a .iso) (a .delta) k _ _ _ _ (p .polynomial-sums .ensures k h ∙ ap (λ (x : Float). total (polynomialFigures (a .iso) x k)) d)
     (e .exponential-sums .ensures k h ∙ ap (λ (x : Float). onto (checked (of (p .polynomial-sums .result) k)) (exponentialFigures (a .iso) x k)) d)
     (g .gaussian-sums .ensures k h ∙ ap (λ (x : Float). onto (checked (of (e .exponential-sums .result) k)) (gaussianFigures (a .iso) x k)) d)
-    (c .sharp-sums .ensures k h ∙ ap (λ (x : Float). onto (checked (of (g .gaussian-sums .result) k)) (sharpFigures (a .iso) x k)) d)
+    (q ∙ ap (λ (x : Float). onto (checked (of (g .gaussian-sums .result) k)) (sharpFigures (a .iso) x k)) d)
+
+-- of the first alone no other is asked for
+first-alone : (all : Bool) (P : Derivative → Type 0) → all ≡ false → P Delta → (k : Derivative) → T (asked all k) → P k
+first-alone all P e p Delta h = p
+first-alone all P e p DeltaDelta h = absurd (subst (λ (b : Bool). T (asked b DeltaDelta)) e h)
+first-alone all P e p Tau h = absurd (subst (λ (b : Bool). T (asked b Tau)) e h)
+first-alone all P e p TauTau h = absurd (subst (λ (b : Bool). T (asked b TauTau)) e h)
+first-alone all P e p DeltaTau h = absurd (subst (λ (b : Bool). T (asked b DeltaTau)) e h)
+
+at-density-requires : tie.Need-at-density-requires
+at-density-requires c κs = search needs
+
+at-critical-requires : tie.Need-at-critical-requires
+at-critical-requires c κs = search needs
+
+polynomial-sums-requires : tie.Need-polynomial-sums-requires
+polynomial-sums-requires c κs = let a = c .before .before .args in own (a .iso) (a .delta) _ (c .before .at-density .ensures) .0
+
+exponential-sums-requires : tie.Need-exponential-sums-requires
+exponential-sums-requires c κs = let a = c .before .before .before .args in own (a .iso) (a .delta) _ (c .before .before .at-density .ensures) .0
+
+gaussian-sums-requires : tie.Need-gaussian-sums-requires
+gaussian-sums-requires c κs = let a = c .before .before .before .before .args in own (a .iso) (a .delta) _ (c .before .before .before .at-density .ensures) .0
+
+sharp-sums-requires : tie.Need-sharp-sums-requires
+sharp-sums-requires c κs =
+    let t = c .before .before .before .before .before in
+    let a = t .before .args in
+    let o = own (a .iso) (a .delta) _ (t .at-density .ensures) in
+    (o .0, c .before .before .before .before .at-critical .ensures ∙ ap (critical (a .iso)) (sym (o .1)))
+
+returns : tie.Need-returns
+returns c = λ k h. rest (c .before .before) k h _ (c .sharp-sums .ensures k tt)
+
+sharp-slope-requires : tie.Need-sharp-slope-requires
+sharp-slope-requires c κs =
+    let t = c .before .before .before .before .before in
+    let a = t .before .args in
+    let o = own (a .iso) (a .delta) _ (t .at-density .ensures) in
+    (o .0, c .before .before .before .before .at-critical .ensures ∙ ap (critical (a .iso)) (sym (o .1)))
+
+returns-2 : tie.Need-returns-2
+returns-2 c =
+    let g = c .before .before in
+    let a = g .before .before .before .before .before .args in
+    first-alone (a .all) (λ k. checked (of (record { d = c .sharp-slope .result; dd = g .gaussian-sums .result .dd; t = g .gaussian-sums .result .t; tt = g .gaussian-sums .result .tt; dt = g .gaussian-sums .result .dt }) k) ≡ residual (a .iso) (a .delta) k)
+    (c .before .if1 .left) (rest g Delta (subst (λ (b : Bool). T (asked b Delta)) (sym (c .before .if1 .left)) tt) _ (c .sharp-slope .ensures))
 
 pub sums-at-spec : {M : Type 1} → statement M
 sums-at-spec =
     tie.close
     (tie.spec
     at-density-requires
+    at-critical-requires
     polynomial-sums-requires
     exponential-sums-requires
     gaussian-sums-requires
     sharp-sums-requires
-    returns)
+    returns
+    sharp-slope-requires
+    returns-2)

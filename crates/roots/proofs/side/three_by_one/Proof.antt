@@ -1,7 +1,6 @@
 -- Each is `plain` of the root. Assumes nothing.
-use mathlib.Core.Path.{ap, _∙_}
+use mathlib.Core.Path.{refl}
 use borrow.Author.Needs.{needs}
-use Rattle.numeric.specs.Working.{plain}
 use Rattle.roots.proofs.side.three_by_one.Statement.{statement}
 use Rattle.roots.proofs.side.three_by_one.Tie as tie
 
@@ -27,7 +26,7 @@ returns : tie.Need-returns
 returns c =
     let d = c .before .before in
     let b = d .before .before in
-    (b .plain .ensures ∙ ap plain (b .before .root .ensures), d .plain2 .ensures ∙ ap plain (d .before .root2 .ensures), c .plain3 .ensures ∙ ap plain (c .before .root3 .ensures))
+    rw (c .plain3 .ensures, c .before .root3 .ensures, d .plain2 .ensures, d .before .root2 .ensures, b .plain .ensures, b .before .root .ensures) refl
 
 pub three-by-one-spec : {M : Type 1} → statement M
 three-by-one-spec =

@@ -1,9 +1,8 @@
 -- Each is told from the powers about its guess where all are usual and guessed, and else is the root. Assumes nothing.
-use mathlib.Core.Path.{sym, ap, _∙_}
+use mathlib.Core.Path.{refl, sym, _∙_}
 use Prim.Native.Nat.{ℕ, _<_}
 use lib.Dec.{T}
 use borrow.Author.Needs.{needs}
-use Rattle.numeric.specs.Working.{plain}
 use Rattle.roots.specs.Side.{usual}
 use Rattle.roots.proofs.Usuals.{unsigned, bounds}
 use Rattle.roots.proofs.side.three_roots.Statement.{statement}
@@ -130,7 +129,14 @@ returns-4 : tie.Need-returns-4
 returns-4 c =
     let d = c .before .before in
     let b = d .before .before in
-    (b .plain .ensures ∙ ap plain (b .before .root-about .ensures), d .plain2 .ensures ∙ ap plain (d .before .root-about2 .ensures), c .plain3 .ensures ∙ ap plain (c .before .root-about3 .ensures))
+    rw (
+      c .plain3 .ensures,
+      c .before .root-about3 .ensures,
+      d .plain2 .ensures,
+      d .before .root-about2 .ensures,
+      b .plain .ensures,
+      b .before .root-about .ensures,
+    ) refl
 
 three-by-one-requires-4 : tie.Need-three-by-one-requires-4
 three-by-one-requires-4 c κs = search needs

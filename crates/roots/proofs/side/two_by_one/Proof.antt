@@ -1,7 +1,6 @@
 -- Each is `plain` of the root. Assumes nothing.
-use mathlib.Core.Path.{ap, _∙_}
+use mathlib.Core.Path.{refl}
 use borrow.Author.Needs.{needs}
-use Rattle.numeric.specs.Working.{plain}
 use Rattle.roots.proofs.side.two_by_one.Statement.{statement}
 use Rattle.roots.proofs.side.two_by_one.Tie as tie
 
@@ -18,7 +17,7 @@ plain-requires-2 : tie.Need-plain-requires-2
 plain-requires-2 c κs = search needs
 
 returns : tie.Need-returns
-returns c = (c .before .before .plain .ensures ∙ ap plain (c .before .before .before .root .ensures), c .plain2 .ensures ∙ ap plain (c .before .root2 .ensures))
+returns c = rw (c .plain2 .ensures, c .before .root2 .ensures, c .before .before .plain .ensures, c .before .before .before .root .ensures) refl
 
 pub two-by-one-spec : {M : Type 1} → statement M
 two-by-one-spec =

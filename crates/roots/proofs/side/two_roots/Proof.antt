@@ -1,8 +1,7 @@
 -- Each is told from the powers about its guess where all are usual and guessed, and else is the root. Assumes nothing.
-use mathlib.Core.Path.{sym, ap, _∙_}
+use mathlib.Core.Path.{refl, sym, _∙_}
 use lib.Dec.{T}
 use borrow.Author.Needs.{needs}
-use Rattle.numeric.specs.Working.{plain}
 use Rattle.roots.specs.Side.{usual}
 use Rattle.roots.proofs.Usuals.{unsigned, bounds}
 use Rattle.roots.proofs.side.two_roots.Statement.{statement}
@@ -77,7 +76,7 @@ plain-requires-2 : tie.Need-plain-requires-2
 plain-requires-2 c κs = search needs
 
 returns-3 : tie.Need-returns-3
-returns-3 c = (c .before .before .plain .ensures ∙ ap plain (c .before .before .before .root-about .ensures), c .plain2 .ensures ∙ ap plain (c .before .root-about2 .ensures))
+returns-3 c = rw (c .plain2 .ensures, c .before .root-about2 .ensures, c .before .before .plain .ensures, c .before .before .before .root-about .ensures) refl
 
 two-by-one-requires-3 : tie.Need-two-by-one-requires-3
 two-by-one-requires-3 c κs = search needs

@@ -1,0 +1,85 @@
+-- The three rows one after the other, of the first sum. Assumes nothing.
+use mathlib.Core.Path.{_≡_, ap, _∙_}
+use mathlib.Core.List.{List}
+use Prim.Native.Nat.{ℕ}
+use lib.ListN.{getD}
+use Rattle.numeric.specs.Working.{_+ᵂ_}
+use Rattle.numeric.specs.declared.working.Worked.{Worked}
+use Rattle.rows.specs.Row.{nonAnalytics}
+use Rattle.rows.specs.declared.row.NonAnalytic.{NonAnalytic}
+use Rattle.critical.specs.Critical.{around, parts, psi, blank, row, critical}
+use Rattle.critical.specs.declared.critical.Critical.{Critical}
+use Rattle.sharp.specs.Sharp.{sharpFigure, sharpFigures}
+use Rattle.sharp.proofs.Sharps.{steepened}
+use Rattle.derivatives.specs.Derivative.{Delta}
+use Rattle.residual.specs.Sum.{onto}
+use Rattle.residual.proofs.Psis.{psi-first, psi-other}
+use borrow.Author.Needs.{needs}
+use Rattle.residual.proofs.sum.sharp_slope.Statement.{statement}
+use Rattle.residual.proofs.sum.sharp_slope.Tie as tie
+
+non-analytics-requires : tie.Need-non-analytics-requires
+non-analytics-requires c κs = search needs
+
+array-copy-out-steepen : tie.Need-array-copy-out-steepen
+array-copy-out-steepen c = search needs
+
+array-read-steepen : tie.Need-array-read-steepen
+array-read-steepen c = search needs
+
+steepen-requires : tie.Need-steepen-requires
+steepen-requires c κs = search needs
+
+array-copy-out-steepen-2 : tie.Need-array-copy-out-steepen-2
+array-copy-out-steepen-2 c = search needs
+
+array-read-steepen-2 : tie.Need-array-read-steepen-2
+array-read-steepen-2 c = search needs
+
+steepen-requires-2 : tie.Need-steepen-requires-2
+steepen-requires-2 c κs = search needs
+
+array-copy-out-steepen-3 : tie.Need-array-copy-out-steepen-3
+array-copy-out-steepen-3 c = search needs
+
+array-read-steepen-3 : tie.Need-array-read-steepen-3
+array-read-steepen-3 c = search needs
+
+steepen-requires-3 : tie.Need-steepen-requires-3
+steepen-requires-3 c κs = search needs
+
+returns : tie.Need-returns
+unfolding onto sharpFigures nonAnalytics critical
+returns c =
+    let c2 = c .before .before in
+    let c1 = c2 .before .before in
+    let t = c1 .before .before .before in
+    let s = t .before in
+    let a = s .args in
+    let d = a .p .delta in
+    let n = around d in
+    let e = s .pre .1 in
+    let first = psi-first (a .iso) (a .p) (s .pre .0) in
+    let its : (i : ℕ) → getD (t .non-analytics .result) i blank ≡ row i = λ i. ap (λ (l : List NonAnalytic). getD l i blank) (t .non-analytics .ensures) in
+    let near = ap (λ (x : Critical). x .near) e in
+    steepened _ (row 2) _ n _ (parts (row 2) n (a .iso .tau)) _ (psi (row 2) n (a .iso .cold)) d (a .iso .tau) (c2 .steepen2 .result) (c .steepen3 .result) (its 2) near (ap (λ (x : Critical). x .third) e) (psi-other (a .iso) (a .p) (s .pre .0)) (c .steepen3 .ensures)
+    ∙ ap (λ (u : Worked). u +ᵂ sharpFigure (a .iso) d Delta (row 2))
+    (steepened _ (row 1) _ n _ (parts (row 1) n (a .iso .tau)) _ (psi (row 1) n (a .iso .cold)) d (a .iso .tau) (c1 .steepen .result) (c2 .steepen2 .result) (its 1) near (ap (λ (x : Critical). x .second) e) first (c2 .steepen2 .ensures)
+    ∙ ap (λ (u : Worked). u +ᵂ sharpFigure (a .iso) d Delta (row 1))
+    (steepened _ (row 0) _ n _ (parts (row 0) n (a .iso .tau)) _ (psi (row 0) n (a .iso .cold)) d (a .iso .tau) (a .start) (c1 .steepen .result) (its 0) near (ap (λ (x : Critical). x .first) e) first (c1 .steepen .ensures)))
+
+pub sharp-slope-spec : {M : Type 1} → statement M
+sharp-slope-spec =
+    tie.close
+    (tie.spec
+    non-analytics-requires
+    array-copy-out-steepen
+    array-read-steepen
+    steepen-requires
+    array-copy-out-steepen-2
+    array-read-steepen-2
+    steepen-requires-2
+    array-copy-out-steepen-3
+    array-read-steepen-3
+    steepen-requires-3
+    returns)

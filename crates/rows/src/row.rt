@@ -1,6 +1,7 @@
 // Table 31 of 004, read as docs/READING.md says: a table for each kind of row, each row equal to the definition's
-// (specs/Row.antt) by computation. Rows 1 to 39 are had by their place in the table of their kind, counted from 0: a
-// table that is taken whole is written to the stack each time. Past the end stands the last row.
+// (specs/Row.antt) by computation. Rows 1 to 39 are had by their place among those of their kind, counted from 0, since a
+// table that is taken whole is written to the stack each time; past the end stands the last. `new` makes a row of what one
+// line of the table prints.
 ghost use mathlib.Core.Path.{_≡_};
 ghost use lib.ListN.{getD};
 ghost use Rattle.rows.specs.Row.{polynomials, row7, exponentials, row34, gaussians, row39, nonAnalytics};
@@ -44,42 +45,6 @@ pub struct NonAnalytic {
     pub kc: f64,
     pub kd: f64,
 }
-
-const NON_ANALYTICS: [NonAnalytic; 3] = [
-    NonAnalytic {
-        n: -0.66642276540751e0,
-        a: 3.5,
-        half: true,
-        b: 0.875,
-        root: Printed::Of0_875,
-        ka: 0.7,
-        kb: 0.3,
-        kc: 10.0,
-        kd: 275.0,
-    },
-    NonAnalytic {
-        n: 0.72608632349897e0,
-        a: 3.5,
-        half: true,
-        b: 0.925,
-        root: Printed::Of0_925,
-        ka: 0.7,
-        kb: 0.3,
-        kc: 10.0,
-        kd: 275.0,
-    },
-    NonAnalytic {
-        n: 0.55068668612842e-1,
-        a: 3.0,
-        half: false,
-        b: 0.875,
-        root: Printed::Of0_875,
-        ka: 0.7,
-        kb: 1.0,
-        kc: 12.5,
-        kd: 275.0,
-    },
-];
 
 impl Polynomial {
     fn new(n: f64, d: u8, q: u8) -> Self
@@ -172,6 +137,42 @@ pub fn gaussian_row(i: usize) -> Gaussian
         _ => Gaussian::new(0.21247284400179e3, 3, 12, 20.0, 275.0, 1.22, 1.0),
     }
 }
+
+const NON_ANALYTICS: [NonAnalytic; 3] = [
+    NonAnalytic {
+        n: -0.66642276540751e0,
+        a: 3.5,
+        half: true,
+        b: 0.875,
+        root: Printed::Of0_875,
+        ka: 0.7,
+        kb: 0.3,
+        kc: 10.0,
+        kd: 275.0,
+    },
+    NonAnalytic {
+        n: 0.72608632349897e0,
+        a: 3.5,
+        half: true,
+        b: 0.925,
+        root: Printed::Of0_925,
+        ka: 0.7,
+        kb: 0.3,
+        kc: 10.0,
+        kd: 275.0,
+    },
+    NonAnalytic {
+        n: 0.55068668612842e-1,
+        a: 3.0,
+        half: false,
+        b: 0.875,
+        root: Printed::Of0_875,
+        ka: 0.7,
+        kb: 1.0,
+        kc: 12.5,
+        kd: 275.0,
+    },
+];
 
 pub fn non_analytics() -> [NonAnalytic; 3]
     ensures { λ r. ⌜ r ≡ nonAnalytics ⌝ }

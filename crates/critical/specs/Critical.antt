@@ -6,7 +6,7 @@ use lib.Ieee.{Float, nan}
 use Rattle.exponents.specs.declared.exponent.Printed.the-variants.{Of0_34, Of10_6}
 use Rattle.exponents.specs.declared.exponent.Exponent.{Exponent}
 use Rattle.exponents.specs.Exponent.{workedAs}
-use Rattle.roots.specs.Formula.{Formula, num, one, _⊕_, _⊖_, _⊗_, _⊘_, _^^_, minus, size, e^, root, value}
+use Rattle.formulas.specs.Formula.{Formula, num, one, _⊕_, _⊖_, _⊗_, _⊘_, _^^_, minus, size, e^, root, value}
 use Rattle.rows.specs.Row.{nonAnalytics}
 use Rattle.rows.specs.declared.row.NonAnalytic.{NonAnalytic}
 use Rattle.isotherm.specs.declared.isotherm.Isotherm.{Isotherm}

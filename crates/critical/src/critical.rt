@@ -1,7 +1,7 @@
 // Rows 40 to 42, the non-analytic ones, which see the neighbourhood of the critical point: what their terms and brackets
 // are made of but for Ψ, in plain f64. A number here that is not finite fails whatever is worked from it.
 ghost use mathlib.Core.Path.{_≡_};
-ghost use Rattle.roots.specs.Formula.{absolute, num, value};
+ghost use Rattle.formulas.specs.Formula.{absolute, num, value};
 ghost use Rattle.critical.specs.Critical.{around, near, raised, lowered, heldNear, parts, side, edge, based, critical};
 use exponents::exponent::Exponent;
 use exponents::exponent::Printed;

@@ -8,7 +8,7 @@ use lib.Ieee.Bits.{ofBits-toBits}
 use Rattle.numeric.specs.Number.{nonneg}
 use Rattle.numeric.proofs.Numbers.{infinity}
 use Rattle.halving.specs.Halving.{NoCrossing}
-use Rattle.roots.proofs.Orders.{bits-mono}
+use Rattle.orders.proofs.Orders.{bits-mono}
 use Rattle.state.specs.declared.state.State as Eight
 use Rattle.state.specs.declared.state.Stated.the-variants.{Known}
 use Rattle.state.proofs.States.{pressure-of-state}

@@ -10,7 +10,7 @@ use Rattle.halving.specs.Halving.{NoCrossing, halve}
 use Rattle.halving.specs.declared.halving.Crossing.{Crossing}
 use Rattle.halving.specs.declared.halving.Crossing.the-variants.{At, Nowhere, Broke}
 use Rattle.halving.proofs.Halvings.{answer, nowhere, nowhere-back, breaks, breaks-back}
-use Rattle.roots.specs.Formula.{num, _⊗_, work}
+use Rattle.formulas.specs.Formula.{num, _⊗_, work}
 use Rattle.state.specs.declared.state.Stated.{Stated}
 use Rattle.state.specs.declared.state.Stated.the-variants.{Known, Unknown}
 use Rattle.answers.specs.Answer.{passed, withPhase, settled, thenAnswer, either}

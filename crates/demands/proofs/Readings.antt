@@ -4,8 +4,8 @@ use mathlib.Core.List.{List, _++_, map}
 use lib.Ieee.{ofInt, round, div, lt}
 use Rattle.numeric.specs.Number.{whole, decimal, fraction}
 use Rattle.numeric.specs.declared.working.Worked.{Worked}
-use Rattle.roots.specs.Readings as numerics
-use Rattle.roots.proofs.Readings as numerics-read
+use Rattle.formulas.specs.Readings as numerics
+use Rattle.formulas.proofs.Readings as numerics-read
 use Rattle.limits.specs.Limits.{document01}
 use Rattle.checks.specs.Check.{checks}
 use Rattle.pressure_door.specs.PressureDoor.{pressureDoor}

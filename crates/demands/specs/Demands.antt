@@ -8,7 +8,7 @@ use lib.Ieee.Scale.{finite}
 use Rattle.numeric.specs.declared.working.Worked.the-variants.{Number, Failed}
 use Rattle.halving.specs.Halving.{Found, NoCrossing, Breaks, halve}
 use Rattle.halving.specs.declared.halving.Crossing.the-variants.{At}
-use Rattle.roots.specs.Formula.{num, _⊗_, work}
+use Rattle.formulas.specs.Formula.{num, _⊗_, work}
 use Rattle.state.specs.declared.state.State as Eight
 use Rattle.state.specs.declared.state.Stated.the-variants.{Known, Unknown}
 use Rattle.answers.specs.Answer.{withPhase}

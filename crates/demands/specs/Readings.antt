@@ -4,7 +4,7 @@ use mathlib.Core.List.{List, [], _∷_, _++_, map}
 use lib.Ieee.{binary64, div}
 use Rattle.numeric.specs.Number.{whole}
 use Rattle.numeric.specs.declared.working.Worked.{Worked}
-use Rattle.roots.specs.Readings as numerics
+use Rattle.formulas.specs.Readings as numerics
 use Rattle.limits.specs.Limits.{document01}
 use Rattle.checks.specs.Check.{checks}
 use Rattle.checks.specs.declared.check.Check.{Check}

@@ -10,8 +10,8 @@ use Rattle.numeric.specs.Number.{whole, nonneg}
 use Rattle.numeric.specs.Working.{pick, then}
 use Rattle.numeric.specs.declared.working.Worked.{Worked}
 use Rattle.numeric.specs.declared.working.Worked.the-variants.{Number, Failed}
-use Rattle.roots.specs.Formula.{Formula, work}
-use Rattle.roots.proofs.Formulas.{sound, work-sound}
+use Rattle.formulas.specs.Formula.{Formula, work}
+use Rattle.formulas.proofs.Formulas.{sound, work-sound}
 use Rattle.saturation.specs.Saturation.{theta}
 use Rattle.densities.specs.Density.{liquidSum, vapourSum, densityOf, aboveZero, liquidDensity, vapourDensity}
 

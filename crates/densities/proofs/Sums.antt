@@ -3,8 +3,8 @@ use mathlib.Core.Path.{_≡_, ap, _∙_}
 use lib.Ieee.{Float}
 use Rattle.numeric.specs.declared.working.Worked.{Worked}
 use Rattle.numeric.specs.Working.{checked, then}
-use Rattle.roots.specs.Formula.{Formula, num, value, work}
-use Rattle.roots.proofs.Formulas.{once}
+use Rattle.formulas.specs.Formula.{Formula, num, value, work}
+use Rattle.formulas.proofs.Formulas.{once}
 use Rattle.densities.specs.Density.{densityOf, aboveZero}
 
 pub dense : (e : Formula) (sum : Float) → sum ≡ value e → aboveZero (checked (value (densityOf (num sum)))) ≡ aboveZero (work (densityOf e))

@@ -7,7 +7,7 @@ use Rattle.numeric.specs.Working.{then, pick}
 use Rattle.numeric.specs.declared.working.Worked.{Worked}
 use Rattle.numeric.specs.declared.working.Worked.the-variants.{Number, Failed}
 use Rattle.exponents.specs.Exponent.{workedAs}
-use Rattle.roots.specs.Formula.{Formula, num, _⊕_, _⊗_, _^^_, e^, root, work}
+use Rattle.formulas.specs.Formula.{Formula, num, _⊕_, _⊗_, _^^_, e^, root, work}
 use Rattle.exponents.specs.declared.exponent.Printed.{Printed}
 use Rattle.exponents.specs.declared.exponent.Printed.the-variants.{Of0_34, Of10_6}
 use Rattle.saturation.specs.Saturation.{theta, to}

@@ -3,7 +3,7 @@
 ghost use mathlib.Core.Path.{_≡_};
 ghost use Rattle.numeric.specs.Working.{checked, plain};
 ghost use Rattle.roots.specs.Root as Root;
-ghost use Rattle.roots.specs.Formula.{num, value};
+ghost use Rattle.formulas.specs.Formula.{num, value};
 ghost use Rattle.densities.specs.Density.{eq-3-14, eq-3-15, liquidSum, vapourSum, densityOf, aboveZero};
 ghost use Rattle.densities.specs.Density.{liquidDensity, vapourDensity};
 use exponential::exponential::exponential;

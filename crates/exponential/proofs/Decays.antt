@@ -19,7 +19,7 @@ use Rattle.numeric.specs.Working.{checked, plain}
 use Rattle.exponential.specs.Exponential.{exponential, falling, series, squared}
 use Rattle.exponential.specs.Decay.{decay, every, ordinary}
 use Rattle.exponential.proofs.Exponentials.{falling-is}
-use Rattle.exponential.proofs.Halves.{quotient, no-less}
+use Rattle.quotients.proofs.Halves.{quotient, no-less}
 
 stretched : (a c u v : ℕ) → c ≤ a * u → 1024 * u ≤ v → 1 * (1024 * c) ≤ a * v
 stretched a c u v h k = le-trans (le-of-eq (one-mul (1024 * c))) (le-trans (mul-le-mul-left 1024 h) (le-trans (le-of-eq (mul-left-comm 1024 a u)) (mul-le-mul-left a k)))

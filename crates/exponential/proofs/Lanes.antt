@@ -17,11 +17,12 @@ use Rattle.numeric.specs.Working.{checked, plain}
 use Rattle.exponential.specs.declared.decay.Twelve.{Twelve}
 use Rattle.exponential.specs.Exponential.{squared}
 use Rattle.exponential.specs.Decay.{decay, each, every, numbers, ordinary}
-use Rattle.exponential.specs.Lockstep.{chain, pairs, powers, tame, turn}
+use Rattle.exponential.specs.Lockstep.{chain, pairs, powers, turn}
+use Rattle.quotients.specs.Quotient.{tame}
 use Rattle.exponential.proofs.Decays.{decay-is, each-of, range}
 use Rattle.exponential.proofs.Exponentials.{series-chain, squared-powers}
-use Rattle.exponential.proofs.Halves.{above-zero, at-most, halved, part-value, quotient}
-use Rattle.exponential.proofs.Units.{count, grid-unit, mul-of, sub-of}
+use Rattle.quotients.proofs.Halves.{above-zero, at-most, halved, part-value, quotient}
+use Rattle.quotients.proofs.Units.{count, grid-unit, mul-of, sub-of}
 
 -- ---- twelve numbers
 pub same-each : (p : Float → Bool) (F G : Float → Float) (x : Twelve) → ((v : Float) → T (p v) → F v ≡ G v) → T (every p (numbers x)) → each F x ≡ each G x

@@ -1,4 +1,3 @@
 pub mod Exponential
 pub mod Decay
-pub mod Quotient
 pub mod Lockstep

@@ -1,14 +1,9 @@
 -- The exponential in plain f64, as twelve of it are worked at once. Definitions only.
 use Prim.Native.Nat.{ℕ, zero, suc}
-use mathlib.Core.Bool.{Bool, _&&_}
 use lib.Ieee as Ieee
 use lib.Ieee.{Float, binary64}
-use Rattle.numeric.specs.Number.{decimal, whole}
+use Rattle.numeric.specs.Number.{whole}
 use Rattle.exponential.specs.declared.decay.Twelve.{Twelve}
-
--- a y for which each y/k is in the normal range
-unfoldable pub tame : Float → Bool
-tame y = Ieee.le (decimal 1 250) y && Ieee.le y (whole 1)
 
 -- "s = 1 − (y/k)·s", with q·h for y/k
 unfoldable pub turn : Float → Float → Float → Float

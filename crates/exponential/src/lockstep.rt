@@ -4,8 +4,8 @@ ghost use mathlib.Core.Path.{_≡_};
 ghost use lib.Dec.{T};
 ghost use lib.Ieee.{binary64, div, mul};
 ghost use Rattle.exponential.specs.Decay.{each, every, numbers};
-ghost use Rattle.exponential.specs.Lockstep.{chain, pairs, powers, tame, turn};
-ghost use Rattle.exponential.specs.Quotient.{beyond, divisor, short};
+ghost use Rattle.exponential.specs.Lockstep.{chain, pairs, powers, turn};
+ghost use Rattle.quotients.specs.Quotient.{beyond, divisor, short, tame};
 ghost use Rattle.numeric.specs.Number.{whole};
 use crate::decay::Twelve;
 

@@ -3,7 +3,7 @@ use mathlib.Core.List.{List, [], _∷_}
 use lib.Ieee as Ieee
 use lib.Ieee.{Float}
 use Rattle.numeric.specs.Number.{decimal, whole}
-use Rattle.roots.specs.Formula.{Formula, num, _⊕_, _⊖_, _⊗_, _⊘_, minus, e^, value, work}
+use Rattle.formulas.specs.Formula.{Formula, num, _⊕_, _⊖_, _⊗_, _⊘_, minus, e^, value, work}
 use Rattle.ideal.specs.declared.ideal.Row.{Row}
 use Rattle.ideal.specs.declared.ideal.Table.{Table}
 use Rattle.ideal.specs.declared.ideal.Sums.{Sums}

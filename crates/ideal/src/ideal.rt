@@ -1,7 +1,7 @@
 // τφ°_τ and τ²φ°_ττ, the ideal part of what Table 3 needs (004, section 6.1, Tables 27 and 28). A working that fails is
 // refusal 7; each of the two is worked on its own, so that one can fail and the other not.
 ghost use mathlib.Core.Path.{_≡_};
-ghost use Rattle.roots.specs.Formula.{num, _⊕_, _⊖_};
+ghost use Rattle.formulas.specs.Formula.{num, _⊕_, _⊖_};
 ghost use Rattle.ideal.specs.Ideal.{table27, head-τ, head-ττ, slope, bend, sums, idealPart};
 use exponential::exponential::exponential;
 use numeric::working::Worked;

@@ -12,7 +12,7 @@ use lib.Ieee.Fits.{and-l, and-r}
 use Rattle.numeric.specs.Number.{decimal}
 use Rattle.powers.specs.Power.{power, powers}
 use Rattle.powers.proofs.Powers.{powers-at}
-use Rattle.roots.specs.Formula.{value}
+use Rattle.formulas.specs.Formula.{value}
 use Rattle.rows.specs.Row.{polynomials, exponentials, gaussians, nonAnalytics}
 use Rattle.rows.specs.declared.row.Gaussian.{Gaussian}
 use Rattle.rows.specs.declared.row.NonAnalytic.{NonAnalytic}

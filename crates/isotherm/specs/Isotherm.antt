@@ -8,7 +8,7 @@ use lib.Ieee.{Float}
 use Rattle.numeric.specs.Constant.{spanWagner}
 use Rattle.numeric.specs.Number.{decimal}
 use Rattle.exponents.specs.declared.exponent.Exponent.{Exponent}
-use Rattle.roots.specs.Formula.{Formula, num, one, _⊖_, _⊗_, _⊘_, _^^_, root, value}
+use Rattle.formulas.specs.Formula.{Formula, num, one, _⊖_, _⊗_, _⊘_, _^^_, root, value}
 use Rattle.rows.specs.Row.{polynomials, exponentials, gaussians}
 use Rattle.rows.specs.declared.row.Polynomial.{Polynomial}
 use Rattle.rows.specs.declared.row.Exponential.{Exponential}

@@ -2,7 +2,7 @@
 ghost use mathlib.Core.Path.{_≡_};
 ghost use Rattle.numeric.specs.Working.{plain};
 ghost use Rattle.roots.specs.Root.{root};
-ghost use Rattle.roots.specs.Formula.{value};
+ghost use Rattle.formulas.specs.Formula.{value};
 ghost use Rattle.isotherm.specs.Isotherm.{half, tauOf, quarters, tauPowers, isotherm};
 use exponents::exponent::Exponent;
 use numeric::constant::span_wagner;

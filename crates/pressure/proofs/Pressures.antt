@@ -10,8 +10,8 @@ use Rattle.numeric.specs.Number.{decimal, fraction, whole}
 use Rattle.numeric.specs.Working.{checked, then}
 use Rattle.numeric.specs.declared.working.Worked.{Worked}
 use Rattle.numeric.specs.declared.working.Worked.the-variants.{Number, Failed}
-use Rattle.roots.specs.Formula.{num, _⊘_, value, work}
-use Rattle.roots.proofs.Formulas.{once, sound, then-sound, work-sound}
+use Rattle.formulas.specs.Formula.{num, _⊘_, value, work}
+use Rattle.formulas.proofs.Formulas.{once, sound, then-sound, work-sound}
 use Rattle.derivatives.specs.Derivative.{Delta}
 use Rattle.isotherm.specs.Isotherm.{quarterOf, isotherm}
 use Rattle.isotherm.specs.declared.isotherm.Isotherm.{Isotherm}

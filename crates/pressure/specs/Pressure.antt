@@ -3,7 +3,7 @@ use lib.Ieee.{Float}
 use Rattle.numeric.specs.Constant.{spanWagner}
 use Rattle.numeric.specs.Working.{then}
 use Rattle.numeric.specs.declared.working.Worked.{Worked}
-use Rattle.roots.specs.Formula.{Formula, num, one, _⊕_, _⊗_, _⊘_, work}
+use Rattle.formulas.specs.Formula.{Formula, num, one, _⊕_, _⊗_, _⊘_, work}
 use Rattle.isotherm.specs.Isotherm.{isotherm}
 use Rattle.isotherm.specs.declared.isotherm.Isotherm.{Isotherm}
 use Rattle.derivatives.specs.Derivative.{Delta}

@@ -8,9 +8,9 @@ use Rattle.numeric.specs.Working.{checked}
 use Rattle.numeric.specs.declared.working.Worked.{Worked}
 use Rattle.numeric.specs.declared.working.Worked.the-variants.{Number}
 use Rattle.numeric.proofs.Workings.{checked-number}
-use Rattle.roots.specs.Formula.{num, _⊗_, value, work}
-use Rattle.roots.proofs.Formulas.{once}
-use Rattle.roots.proofs.Orders.{mul-unsigned, unsigned-finite}
+use Rattle.formulas.specs.Formula.{num, _⊗_, value, work}
+use Rattle.formulas.proofs.Formulas.{once}
+use Rattle.orders.proofs.Orders.{mul-unsigned, unsigned-finite}
 use Rattle.limits.specs.Limits.{document01}
 use Rattle.limits.specs.declared.limits.Limits.{Limits}
 

@@ -1,6 +1,6 @@
 -- The pressure door, from a temperature and a pressure, step by step (document 01), over any equation and any limits. Definitions only.
 use lib.Ieee.{Float, eq, lt, le}
-use Rattle.roots.specs.Formula.{num, _⊗_, work}
+use Rattle.formulas.specs.Formula.{num, _⊗_, work}
 use Rattle.answers.specs.Answer.{passed, thenAnswer, either}
 use Rattle.checks.specs.Check.{checks}
 use Rattle.equation.specs.Equation.{Equation}

@@ -8,8 +8,8 @@ use Rattle.powers.specs.Power.{_^ᵂ_}
 use Rattle.numeric.specs.Working.{checked, _+ᵂ_, _*ᵂ_}
 use Rattle.numeric.specs.declared.working.Worked.{Worked}
 use Rattle.numeric.specs.declared.working.Worked.the-variants.{Number, Failed}
-use Rattle.roots.specs.Formula.{value, work}
-use Rattle.roots.proofs.Formulas.{once}
+use Rattle.formulas.specs.Formula.{value, work}
+use Rattle.formulas.proofs.Formulas.{once}
 use Rattle.derivatives.specs.Derivative.{Derivative}
 use Rattle.rows.specs.Row.{polynomials}
 use Rattle.isotherm.specs.Isotherm.{quarterOf, tauPower, tauPowers, quarters, isotherm}

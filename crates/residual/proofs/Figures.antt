@@ -12,8 +12,8 @@ use Rattle.powers.specs.Power.{powers}
 use Rattle.powers.proofs.Powers.{powers-at}
 use Rattle.numeric.specs.declared.working.Worked.{Worked}
 use Rattle.numeric.specs.declared.working.Worked.the-variants.{Failed}
-use Rattle.roots.specs.Formula.{Formula, num, _⊗_, _^^_, value, work}
-use Rattle.roots.proofs.Formulas.{once}
+use Rattle.formulas.specs.Formula.{Formula, num, _⊗_, _^^_, value, work}
+use Rattle.formulas.proofs.Formulas.{once}
 use Rattle.rows.specs.declared.row.Polynomial.{Polynomial}
 use Rattle.rows.specs.declared.row.Exponential.{Exponential}
 use Rattle.rows.specs.declared.row.Gaussian.{Gaussian}

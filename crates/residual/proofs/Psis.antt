@@ -2,7 +2,7 @@
 use mathlib.Core.Path.{_≡_, ap}
 use lib.ListN.{getD}
 use lib.Ieee.{nan}
-use Rattle.roots.specs.Formula.{value}
+use Rattle.formulas.specs.Formula.{value}
 use Rattle.isotherm.specs.declared.isotherm.Isotherm.{Isotherm}
 use Rattle.critical.specs.Critical.{around, psi, row}
 use Rattle.residual.specs.declared.term.Point.{Point}

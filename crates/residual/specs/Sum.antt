@@ -9,7 +9,7 @@ use lib.Ieee.{Float, nan}
 use Rattle.numeric.specs.Working.{checked, _+ᵂ_}
 use Rattle.numeric.specs.declared.working.Worked.{Worked}
 use Rattle.numeric.specs.declared.working.Worked.the-variants.{Number, Failed}
-use Rattle.roots.specs.Formula.{num, _⊗_, _^^_, work}
+use Rattle.formulas.specs.Formula.{num, _⊗_, _^^_, work}
 use Rattle.rows.specs.Row.{polynomials, exponentials, gaussians}
 use Rattle.residual.specs.Term.{numbered, polynomialTerm, polynomialBracket, exponentialTerm, exponentialBracket, gaussianTerm, gaussianBracket}
 use Rattle.sharp.specs.Sharp.{sharpFigures}

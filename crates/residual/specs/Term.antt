@@ -5,7 +5,7 @@ use lib.ListN.{getD}
 use lib.Ieee.{Float, nan}
 use Rattle.numeric.specs.Number.{whole}
 use Rattle.powers.specs.Power.{powers}
-use Rattle.roots.specs.Formula.{Formula, num, one, two, _⊕_, _⊖_, _⊗_, _⊘_, _^^_, minus, e^, value}
+use Rattle.formulas.specs.Formula.{Formula, num, one, two, _⊕_, _⊖_, _⊗_, _⊘_, _^^_, minus, e^, value}
 use Rattle.rows.specs.declared.row.Polynomial.{Polynomial}
 use Rattle.rows.specs.declared.row.Exponential.{Exponential}
 use Rattle.rows.specs.declared.row.Gaussian.{Gaussian}

@@ -4,7 +4,7 @@
 ghost use mathlib.Core.Path.{_≡_};
 ghost use mathlib.Core.Bool.{true};
 ghost use Rattle.numeric.specs.Working.{checked};
-ghost use Rattle.roots.specs.Formula.{num, value};
+ghost use Rattle.formulas.specs.Formula.{num, value};
 ghost use Rattle.derivatives.specs.Derivative.{Delta, of, five};
 ghost use Rattle.critical.specs.Critical.{critical};
 ghost use Rattle.sharp.specs.Sharp.{sharpFigures};

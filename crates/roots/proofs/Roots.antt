@@ -20,7 +20,7 @@ use Rattle.numeric.proofs.Numbers.{infinity}
 use Rattle.numeric.proofs.Workings.{checked-number}
 use Rattle.powers.proofs.Powers.{power-next, checked-power}
 use Rattle.halving.proofs.Halvings.{Rises, answer, nowhere-back, breaks-back, unique-crossing}
-use Rattle.roots.proofs.Orders.{Ordered, bits-mono, power-mono, never-falls}
+use Rattle.orders.proofs.Orders.{Ordered, bits-mono, power-mono, never-falls}
 
 -- the bits of 2²⁰
 abbrev pub top : ℕ

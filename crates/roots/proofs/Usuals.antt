@@ -17,7 +17,7 @@ use Rattle.roots.specs.Root.{root, searched, rootBits, rootOf}
 use Rattle.roots.specs.Side.{usual, PowersAbout}
 use Rattle.numeric.proofs.Numbers.{above-0}
 use Rattle.powers.proofs.Powers.{checked-power}
-use Rattle.roots.proofs.Orders.{le-not-lt, power-under}
+use Rattle.orders.proofs.Orders.{le-not-lt, power-under}
 use Rattle.roots.proofs.Roots.{top, nonneg-checked, above-at, not-above-at, crossing-is}
 
 -- the five tests, by themselves

@@ -1,4 +1,2 @@
 pub mod Root
-pub mod Formula
-pub mod Readings
 pub mod Side

@@ -1,4 +1,3 @@
-// Powers to a fraction (document 01, "Root"), by themselves and side by side; in specs/ also formulas of numbers, whole powers,
-// exponentials and roots.
+// Powers to a fraction (document 01, "Root"), by themselves and side by side.
 pub mod root;
 pub mod side;

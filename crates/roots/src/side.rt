@@ -97,10 +97,10 @@ pub fn three_roots(x: f64, e: Exponent, f: Exponent, z: f64) -> ThreeRoots
             if 0 < i {
                 let p = powers_about(g, e.k);
                 let r = powers_about(i, e.k);
-                let q = powers_about(h, f.k);
+                let w = powers_about(h, f.k);
                 return ThreeRoots {
                     first: plain(root_about(x, e, t, g, p)),
-                    second: plain(root_about(x, f, u, h, q)),
+                    second: plain(root_about(x, f, u, h, w)),
                     other: plain(root_about(z, e, v, i, r)),
                 };
             }

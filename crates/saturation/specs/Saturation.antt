@@ -6,7 +6,7 @@ use Rattle.numeric.specs.Number.{decimal, whole}
 use Rattle.numeric.specs.Constant.{spanWagner}
 use Rattle.numeric.specs.Working.{then}
 use Rattle.numeric.specs.declared.working.Worked.{Worked}
-use Rattle.roots.specs.Formula.{Formula, num, _⊕_, _⊖_, _⊗_, _⊘_, _^^_, e^, root, work}
+use Rattle.formulas.specs.Formula.{Formula, num, _⊕_, _⊖_, _⊗_, _⊘_, _^^_, e^, root, work}
 use Rattle.saturation.specs.declared.saturation.Four.{Four}
 
 -- ---- coefficients, as printed below the equation

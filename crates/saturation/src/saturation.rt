@@ -1,7 +1,7 @@
 // The vapour pressure at a temperature (004, eq. (3.13); document 01, "How a number is worked", for the roots), and θ,
 // which the saturated densities stand on too. A working that fails is refusal 7.
 ghost use mathlib.Core.Path.{_≡_};
-ghost use Rattle.roots.specs.Formula.{value, work};
+ghost use Rattle.formulas.specs.Formula.{value, work};
 ghost use Rattle.saturation.specs.Saturation.{eq-3-13, theta, tau, pressureSum, vapourPressure};
 use exponential::exponential::exponential;
 use exponents::exponent::Exponent;

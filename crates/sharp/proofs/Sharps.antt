@@ -5,8 +5,8 @@ use lib.Ieee.{Float}
 use Rattle.numeric.specs.Working.{checked, _+ᵂ_}
 use Rattle.numeric.specs.declared.working.Worked.{Worked}
 use Rattle.numeric.proofs.Workings.{checked-add}
-use Rattle.roots.specs.Formula.{Formula, num, _⊕_, _⊗_, value, work}
-use Rattle.roots.proofs.Formulas.{once}
+use Rattle.formulas.specs.Formula.{Formula, num, _⊕_, _⊗_, value, work}
+use Rattle.formulas.proofs.Formulas.{once}
 use Rattle.derivatives.specs.Derivative.{Derivative, Delta, DeltaDelta, Tau, TauTau, DeltaTau, of, grown}
 use Rattle.derivatives.specs.declared.derivative.Five.{Five}
 use Rattle.rows.specs.declared.row.NonAnalytic.{NonAnalytic}

@@ -3,7 +3,7 @@ use mathlib.Core.List.{List, map}
 use lib.Ieee.{Float}
 use Rattle.numeric.specs.Number.{whole, fraction}
 use Rattle.numeric.specs.declared.working.Worked.{Worked}
-use Rattle.roots.specs.Formula.{Formula, num, one, two, _⊕_, _⊖_, _⊗_, _⊘_, _^^_, minus, work}
+use Rattle.formulas.specs.Formula.{Formula, num, one, two, _⊕_, _⊖_, _⊗_, _⊘_, _^^_, minus, work}
 use Rattle.derivatives.specs.Derivative.{Derivative, Delta, DeltaDelta, Tau, TauTau, DeltaTau}
 use Rattle.rows.specs.Row.{nonAnalytics}
 use Rattle.rows.specs.declared.row.NonAnalytic.{NonAnalytic}

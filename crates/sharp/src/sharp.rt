@@ -2,7 +2,7 @@
 // so far: all five, or the first, which a pressure needs.
 ghost use mathlib.Core.Path.{_≡_};
 ghost use mathlib.Core.Bool.{true};
-ghost use Rattle.roots.specs.Formula.{num, _⊕_, _⊗_, value};
+ghost use Rattle.formulas.specs.Formula.{num, _⊕_, _⊗_, value};
 ghost use Rattle.derivatives.specs.Derivative.{five, grown};
 ghost use Rattle.critical.specs.Critical.{heldNear, heldEdge};
 ghost use Rattle.sharp.specs.Sharp.{bend, bracketD, sharpTerm, sharpBracket};

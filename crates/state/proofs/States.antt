@@ -6,7 +6,7 @@ use lib.Ieee.{Float}
 use Rattle.numeric.specs.Working.{then}
 use Rattle.numeric.specs.declared.working.Worked.{Worked}
 use Rattle.numeric.specs.declared.working.Worked.the-variants.{Number, Failed}
-use Rattle.roots.specs.Formula.{work}
+use Rattle.formulas.specs.Formula.{work}
 use Rattle.isotherm.specs.declared.isotherm.Isotherm.{Isotherm}
 use Rattle.derivatives.specs.Derivative.{Delta, DeltaDelta, Tau, TauTau, DeltaTau}
 use Rattle.isotherm.specs.Isotherm.{quarterOf, isotherm}

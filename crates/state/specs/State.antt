@@ -3,7 +3,7 @@ use lib.Ieee.{Float}
 use Rattle.numeric.specs.Constant.{spanWagner}
 use Rattle.numeric.specs.declared.working.Worked.{Worked}
 use Rattle.numeric.specs.declared.working.Worked.the-variants.{Number, Failed}
-use Rattle.roots.specs.Formula.{Formula, num, one, two, _⊕_, _⊖_, _⊗_, _⊘_, minus, root, work}
+use Rattle.formulas.specs.Formula.{Formula, num, one, two, _⊕_, _⊖_, _⊗_, _⊘_, minus, root, work}
 use Rattle.isotherm.specs.Isotherm.{half, isotherm}
 use Rattle.isotherm.specs.declared.isotherm.Isotherm.{Isotherm}
 use Rattle.residual.specs.Sum.{fiveSums}

@@ -1,6 +1,6 @@
 -- Each row is the definition's: row 41 has the numbers of row 40 but for its root, and row 42 has its b. Assumes nothing.
 use mathlib.Core.Path.{refl}
-use Rattle.roots.specs.Formula.{value}
+use Rattle.formulas.specs.Formula.{value}
 use Rattle.rows.specs.Row.{nonAnalytics}
 use Rattle.critical.specs.Critical.{critical}
 use borrow.Author.Needs.{needs}

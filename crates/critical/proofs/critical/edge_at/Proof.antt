@@ -1,6 +1,6 @@
 -- P₁ is P₀ over Δ. Assumes nothing.
 use mathlib.Core.Path.{refl}
-use Rattle.roots.specs.Formula.{value}
+use Rattle.formulas.specs.Formula.{value}
 use borrow.Author.Needs.{needs}
 use Rattle.critical.proofs.critical.edge_at.Statement.{statement}
 use Rattle.critical.proofs.critical.edge_at.Tie as tie

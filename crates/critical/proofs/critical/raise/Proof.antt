@@ -1,7 +1,7 @@
 -- Each arm is its formula. Assumes nothing.
 use mathlib.Core.Path.{refl}
 use Rattle.powers.specs.Power.{power}
-use Rattle.roots.specs.Formula.{value}
+use Rattle.formulas.specs.Formula.{value}
 use borrow.Author.Needs.{needs}
 use Rattle.critical.proofs.critical.raise.Statement.{statement}
 use Rattle.critical.proofs.critical.raise.Tie as tie

@@ -1,7 +1,7 @@
 -- The two arms of the definition. Assumes nothing.
 use lib.Ieee.{ofBits, ofInt}
 use Rattle.numeric.specs.Number.{whole}
-use Rattle.roots.specs.Formula.{absolute}
+use Rattle.formulas.specs.Formula.{absolute}
 use Rattle.critical.proofs.critical.size_of.Statement.{statement}
 use Rattle.critical.proofs.critical.size_of.Tie as tie
 

@@ -3,7 +3,7 @@ use mathlib.Core.Path.{_≡_, sym, ap, _∙_}
 use lib.Ieee.{ofBits, ofInt}
 use Rattle.numeric.specs.Number.{whole}
 use Rattle.numeric.specs.Working.{checked}
-use Rattle.roots.specs.Formula.{num, value}
+use Rattle.formulas.specs.Formula.{num, value}
 use Rattle.densities.specs.Density.{densityOf, aboveZero}
 use borrow.Author.Needs.{needs}
 use Rattle.densities.proofs.density.density_of.Statement.{statement}

@@ -6,7 +6,8 @@ use lib.Ieee.{Float}
 use Rattle.numeric.specs.Number.{whole}
 use Rattle.exponential.specs.declared.decay.Twelve.{Twelve}
 use Rattle.exponential.specs.Decay.{each, every, numbers}
-use Rattle.exponential.specs.Lockstep.{chain, powers, tame}
+use Rattle.exponential.specs.Lockstep.{chain, powers}
+use Rattle.quotients.specs.Quotient.{tame}
 use Rattle.exponential.proofs.Lanes.{all-worked, tame-parts}
 use Rattle.exponential.proofs.decay.side_by_side.Statement.{statement}
 use Rattle.exponential.proofs.decay.side_by_side.Tie as tie

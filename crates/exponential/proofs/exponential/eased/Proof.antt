@@ -7,7 +7,7 @@ use Rattle.numeric.specs.Number.{decimal, fraction, whole}
 use Rattle.numeric.specs.Working.{checked}
 use Rattle.exponential.specs.Lockstep.{chain}
 use Rattle.exponential.proofs.Exponentials.{series-chain}
-use Rattle.exponential.proofs.Halves.{halved}
+use Rattle.quotients.proofs.Halves.{halved}
 use Rattle.exponential.proofs.exponential.eased.Statement.{statement}
 use Rattle.exponential.proofs.exponential.eased.Tie as tie
 

@@ -3,8 +3,7 @@ use mathlib.Core.Path.{refl, _∙_}
 use lib.Ieee.{binary64, div, ofBits, ofInt, round}
 use Rattle.numeric.specs.Number.{fraction, whole}
 use Rattle.exponential.specs.Decay.{each}
-use Rattle.exponential.specs.Lockstep.{tame}
-use Rattle.exponential.specs.Quotient.{beyond, divisor, short}
+use Rattle.quotients.specs.Quotient.{beyond, divisor, short, tame}
 use Rattle.exponential.proofs.Lanes.{Of, itself, same-each, stepped, turned}
 use Rattle.exponential.proofs.lockstep.chains.Statement.{statement}
 use Rattle.exponential.proofs.lockstep.chains.Tie as tie

@@ -2,7 +2,7 @@
 use mathlib.Core.Path.{sym, subst}
 use lib.Dec.{T}
 use borrow.Author.Needs.{needs}
-use Rattle.exponential.proofs.Parts.{Parted, parted}
+use Rattle.quotients.proofs.Parts.{Parted, parted}
 use Rattle.exponential.proofs.lockstep.part.Statement.{statement}
 use Rattle.exponential.proofs.lockstep.part.Tie as tie
 

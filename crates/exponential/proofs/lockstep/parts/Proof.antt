@@ -2,7 +2,7 @@
 use mathlib.Core.Path.{refl}
 use native.Mathlib.Omega.{arith}
 use Rattle.exponential.specs.Decay.{each, numbers}
-use Rattle.exponential.specs.Lockstep.{tame}
+use Rattle.quotients.specs.Quotient.{tame}
 use Rattle.exponential.proofs.Decays.{each-of}
 use Rattle.exponential.proofs.lockstep.parts.Statement.{statement}
 use Rattle.exponential.proofs.lockstep.parts.Tie as tie

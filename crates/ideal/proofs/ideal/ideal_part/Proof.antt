@@ -1,10 +1,10 @@
 -- Row by row the sums are the formulas', and one test at the end of each stands for all. Assumes nothing.
 use mathlib.Core.Path.{_≡_, _∙_}
 use Rattle.numeric.specs.declared.working.Worked.{Worked}
-use Rattle.roots.specs.Formula.{num, _⊗_, value}
+use Rattle.formulas.specs.Formula.{num, _⊗_, value}
 use Rattle.ideal.specs.declared.ideal.Ideal.{Ideal}
 use Rattle.ideal.specs.Ideal.{sums, phi-τ, phi-ττ, idealPart}
-use Rattle.roots.proofs.Formulas.{once}
+use Rattle.formulas.proofs.Formulas.{once}
 use borrow.Author.Needs.{needs}
 use Rattle.ideal.proofs.ideal.ideal_part.Statement.{statement}
 use Rattle.ideal.proofs.ideal.ideal_part.Tie as tie

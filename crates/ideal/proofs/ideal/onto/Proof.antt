@@ -1,7 +1,7 @@
 -- The row's exponential is the same in both formulas, and all else is theirs, operation by operation. Assumes nothing.
 use lib.Ieee.{ofBits, ofInt}
 use Rattle.numeric.specs.Number.{whole}
-use Rattle.roots.specs.Formula.{value}
+use Rattle.formulas.specs.Formula.{value}
 use Rattle.ideal.specs.Ideal.{slope, bend}
 use borrow.Author.Needs.{needs}
 use Rattle.ideal.proofs.ideal.onto.Statement.{statement}

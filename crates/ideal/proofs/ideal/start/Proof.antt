@@ -1,5 +1,5 @@
 -- Both are the formulas', operation by operation. Assumes nothing.
-use Rattle.roots.specs.Formula.{value}
+use Rattle.formulas.specs.Formula.{value}
 use borrow.Author.Needs.{needs}
 use Rattle.ideal.proofs.ideal.start.Statement.{statement}
 use Rattle.ideal.proofs.ideal.start.Tie as tie

@@ -2,7 +2,7 @@
 use mathlib.Core.Path.{refl}
 use lib.Ieee.{ofBits, ofInt, round}
 use Rattle.numeric.specs.Number.{decimal, fraction, whole}
-use Rattle.roots.specs.Formula.{value}
+use Rattle.formulas.specs.Formula.{value}
 use Rattle.rows.specs.Row.{gaussians}
 use Rattle.isotherm.specs.Isotherm.{quarterOf, isotherm, spread, bellRows, cold}
 use borrow.Author.Needs.{needs}

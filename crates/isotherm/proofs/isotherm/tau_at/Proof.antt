@@ -1,6 +1,6 @@
 -- One quotient. Assumes nothing.
 use mathlib.Core.Path.{refl}
-use Rattle.roots.specs.Formula.{value}
+use Rattle.formulas.specs.Formula.{value}
 use Rattle.isotherm.specs.Isotherm.{tauOf}
 use borrow.Author.Needs.{needs}
 use Rattle.isotherm.proofs.isotherm.tau_at.Statement.{statement}

@@ -6,7 +6,7 @@ use native.Mathlib.Omega.{arith}
 use borrow.Author.Needs.{needs}
 use lib.ListN.{length, getD, length-map}
 use lib.Ieee.{Float, nan, binary64, mul}
-use Rattle.roots.specs.Formula.{value}
+use Rattle.formulas.specs.Formula.{value}
 use Rattle.isotherm.specs.Isotherm.{quarters, tauPower, tauPowers}
 use Rattle.isotherm.proofs.Fills.{Filled, fill-more, fill-all}
 use Rattle.isotherm.proofs.Isotherms.{count, small, power-there}

@@ -2,8 +2,8 @@
 use mathlib.Core.Path.{_≡_, sym, _∙_}
 use lib.Ieee.{ofBits, ofInt}
 use Rattle.numeric.specs.Number.{whole}
-use Rattle.roots.specs.Formula.{value, work}
-use Rattle.roots.proofs.Formulas.{once}
+use Rattle.formulas.specs.Formula.{value, work}
+use Rattle.formulas.proofs.Formulas.{once}
 use Rattle.pressure.specs.Pressure.{pressureFormula, pressureOn}
 use borrow.Author.Needs.{needs}
 use Rattle.pressure.proofs.pressure.pressure_on.Statement.{statement}

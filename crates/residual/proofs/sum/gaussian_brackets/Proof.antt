@@ -3,7 +3,7 @@ use mathlib.Core.Path.{refl}
 use lib.Ieee.{ofBits, ofInt}
 use Rattle.numeric.specs.Number.{whole}
 use Rattle.powers.specs.Power.{power}
-use Rattle.roots.specs.Formula.{value}
+use Rattle.formulas.specs.Formula.{value}
 use Rattle.residual.specs.Term.{gaussianBracket}
 use borrow.Author.Needs.{needs}
 use Rattle.residual.proofs.sum.gaussian_brackets.Statement.{statement}

@@ -2,7 +2,7 @@
 use mathlib.Core.Path.{refl}
 use lib.Ieee.{ofBits, ofInt}
 use Rattle.numeric.specs.Number.{whole}
-use Rattle.roots.specs.Formula.{value}
+use Rattle.formulas.specs.Formula.{value}
 use Rattle.residual.specs.Term.{polynomialBracket}
 use borrow.Author.Needs.{needs}
 use Rattle.residual.proofs.sum.polynomial_brackets.Statement.{statement}

@@ -4,7 +4,7 @@ use lib.Ieee.{ofBits, ofInt, round}
 use Rattle.numeric.specs.Number.{decimal, fraction, whole}
 use Rattle.powers.specs.Power.{power, powers}
 use Rattle.exponential.specs.Decay as Decay
-use Rattle.roots.specs.Formula.{value}
+use Rattle.formulas.specs.Formula.{value}
 use Rattle.rows.specs.Row.{gaussians, nonAnalytics}
 use Rattle.residual.specs.Term.{point, decays, decay, bells, bell, psis}
 use borrow.Author.Needs.{needs}

@@ -14,7 +14,7 @@ use Rattle.roots.specs.Root.{searched, rootBits, rootOf}
 use Rattle.numeric.proofs.Numbers.{no-nan}
 use Rattle.powers.proofs.Powers.{checked-power}
 use Rattle.numeric.proofs.Workings.{checked-number}
-use Rattle.roots.proofs.Orders.{power-unsigned}
+use Rattle.orders.proofs.Orders.{power-unsigned}
 use Rattle.roots.proofs.Roots.{crossing-below}
 use Rattle.roots.proofs.root.searched.Statement.{statement}
 use Rattle.roots.proofs.root.searched.Tie as tie

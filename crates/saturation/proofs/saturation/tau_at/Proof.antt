@@ -1,7 +1,7 @@
 -- One test at the end stands for all, of T too. Assumes nothing.
 use mathlib.Core.Path.{_∙_}
-use Rattle.roots.specs.Formula.{value}
-use Rattle.roots.proofs.Formulas.{once}
+use Rattle.formulas.specs.Formula.{value}
+use Rattle.formulas.proofs.Formulas.{once}
 use Rattle.saturation.specs.Saturation.{tau}
 use borrow.Author.Needs.{needs}
 use Rattle.saturation.proofs.saturation.tau_at.Statement.{statement}

@@ -3,8 +3,8 @@ use mathlib.Core.Path.{_∙_}
 use lib.Ieee.{ofBits, ofInt, round}
 use Rattle.numeric.specs.Number.{whole, fraction, decimal}
 use Rattle.numeric.specs.Constant.{spanWagner}
-use Rattle.roots.specs.Formula.{value}
-use Rattle.roots.proofs.Formulas.{once}
+use Rattle.formulas.specs.Formula.{value}
+use Rattle.formulas.proofs.Formulas.{once}
 use Rattle.saturation.specs.Saturation.{theta}
 use borrow.Author.Needs.{needs}
 use Rattle.saturation.proofs.saturation.theta_at.Statement.{statement}

@@ -3,8 +3,8 @@ use mathlib.Core.Path.{_≡_, sym, ap, _∙_}
 use lib.Ieee.{Float}
 use Rattle.numeric.specs.declared.working.Worked.{Worked}
 use Rattle.numeric.specs.Working.{then}
-use Rattle.roots.specs.Formula.{value, work}
-use Rattle.roots.proofs.Formulas.{once}
+use Rattle.formulas.specs.Formula.{value, work}
+use Rattle.formulas.proofs.Formulas.{once}
 use Rattle.saturation.specs.Saturation.{theta, tau, pressureSum, pressureOf, vapourPressure}
 use borrow.Author.Needs.{needs}
 use Rattle.saturation.proofs.saturation.vapour_pressure.Statement.{statement}

@@ -2,7 +2,7 @@
 use mathlib.Core.Path.{refl}
 use lib.Ieee.{ofBits, ofInt, round, div}
 use Rattle.numeric.specs.Number.{fraction, whole}
-use Rattle.roots.specs.Formula.{value}
+use Rattle.formulas.specs.Formula.{value}
 use Rattle.powers.specs.Power.{power}
 use Rattle.sharp.specs.Sharp.{sharpBracket}
 use borrow.Author.Needs.{needs}

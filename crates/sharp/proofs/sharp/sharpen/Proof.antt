@@ -1,6 +1,6 @@
 -- The term, and the brackets that were worked. Assumes nothing.
 use mathlib.Core.Path.{refl}
-use Rattle.roots.specs.Formula.{value}
+use Rattle.formulas.specs.Formula.{value}
 use borrow.Author.Needs.{needs}
 use Rattle.sharp.proofs.sharp.sharpen.Statement.{statement}
 use Rattle.sharp.proofs.sharp.sharpen.Tie as tie

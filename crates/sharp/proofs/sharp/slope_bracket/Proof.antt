@@ -2,7 +2,7 @@
 use mathlib.Core.Path.{refl}
 use lib.Ieee.{ofBits, ofInt, round, div}
 use Rattle.numeric.specs.Number.{fraction, whole}
-use Rattle.roots.specs.Formula.{value}
+use Rattle.formulas.specs.Formula.{value}
 use borrow.Author.Needs.{needs}
 use Rattle.sharp.proofs.sharp.slope_bracket.Statement.{statement}
 use Rattle.sharp.proofs.sharp.slope_bracket.Tie as tie

@@ -1,6 +1,6 @@
 -- The term times the first bracket, onto the sum. Assumes nothing.
 use mathlib.Core.Path.{refl}
-use Rattle.roots.specs.Formula.{value}
+use Rattle.formulas.specs.Formula.{value}
 use borrow.Author.Needs.{needs}
 use Rattle.sharp.proofs.sharp.steepen.Statement.{statement}
 use Rattle.sharp.proofs.sharp.steepen.Tie as tie

@@ -3,8 +3,8 @@ use mathlib.Core.Path.{_≡_, sym, _∙_}
 use lib.Ieee.{ofBits, ofInt}
 use Rattle.numeric.specs.Number.{whole}
 use Rattle.numeric.specs.Working.{checked}
-use Rattle.roots.specs.Formula.{value, work}
-use Rattle.roots.proofs.Formulas.{once}
+use Rattle.formulas.specs.Formula.{value, work}
+use Rattle.formulas.proofs.Formulas.{once}
 use Rattle.pressure.specs.Pressure.{pressureFormula}
 use Rattle.state.specs.State.{energy, enthalpy, stateOf}
 use borrow.Author.Needs.{needs}

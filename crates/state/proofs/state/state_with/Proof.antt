@@ -3,9 +3,9 @@ use mathlib.Core.Path.{_≡_, sym, _∙_}
 use lib.Ieee.{ofBits, ofInt}
 use Rattle.numeric.specs.Number.{whole}
 use Rattle.numeric.specs.Working.{checked}
-use Rattle.roots.specs.Formula.{value, work}
-use Rattle.roots.specs.Formula.{_⊖_, _⊗_, _⊘_}
-use Rattle.roots.proofs.Formulas.{once, once-root}
+use Rattle.formulas.specs.Formula.{value, work}
+use Rattle.formulas.specs.Formula.{_⊖_, _⊗_, _⊘_}
+use Rattle.formulas.proofs.Formulas.{once, once-root}
 use Rattle.isotherm.specs.Isotherm.{half}
 use Rattle.state.specs.State.{thermal, sag, pull, stiffness, heatV, heatP, sound, stateWith}
 use borrow.Author.Needs.{needs}

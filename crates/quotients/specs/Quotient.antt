@@ -2,8 +2,13 @@
 use Prim.Native.Nat.{_+_, _-_, _*_, _%_, _^_}
 use mathlib.Core.Bool.{Bool, _&&_}
 use lib.Dec.{eqb, leb, ltb}
-use lib.Ieee.{Float}
+use lib.Ieee.{Float, le}
 use lib.Ieee.Positive.{num, den, positive}
+use Rattle.numeric.specs.Number.{decimal, whole}
+
+-- a y for which each y/k is in the normal range
+unfoldable pub tame : Float → Bool
+tame y = le (decimal 1 250) y && le y (whole 1)
 
 -- an odd whole number from 3 to 15
 unfoldable pub divisor : Float → Bool

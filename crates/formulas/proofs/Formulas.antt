@@ -11,9 +11,9 @@ use Rattle.numeric.specs.Number.{whole}
 use Rattle.numeric.specs.Working.{checked, over, plain, then, pick, both, _+ᵂ_, _-ᵂ_, _*ᵂ_, _/ᵂ_}
 use Rattle.powers.specs.Power.{_^ᵂ_}
 use Rattle.exponential.specs.Exponential.{exponential, falling, squared, series}
 use Rattle.roots.specs.Root as Root
 use Rattle.roots.specs.Root.{rootBits, rootOf, searched}
-use Rattle.roots.specs.Formula.{Formula, num, _⊕_, _⊖_, _⊗_, _⊘_, _^^_, minus, size, e^, root, absolute, value, work}
+use Rattle.formulas.specs.Formula.{Formula, num, _⊕_, _⊖_, _⊗_, _⊘_, _^^_, minus, size, e^, root, absolute, value, work}
 use Rattle.numeric.specs.declared.working.Worked.{Worked}
 use Rattle.numeric.specs.declared.working.Worked.the-variants.{Number, Failed}
 use Rattle.halving.specs.declared.halving.Crossing.{Crossing}
@@ -21,8 +21,8 @@ use Rattle.halving.specs.declared.halving.Crossing.the-variants.{At, Nowhere, B
 use Rattle.exponents.specs.declared.exponent.Exponent.{Exponent}
 use Rattle.numeric.proofs.Workings.{checked-add, checked-sub, checked-mul, checked-div}
 use Rattle.powers.proofs.Powers.{checked-power}
-use Rattle.roots.proofs.Orders.{bits-finite}
+use Rattle.orders.proofs.Orders.{bits-finite}
 use Rattle.roots.proofs.Roots.{crossing-below}
 
 -- ---- what was worked is finite
 abbrev pub sound : Worked → Bool

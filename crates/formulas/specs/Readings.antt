@@ -4,8 +4,8 @@ use lib.Ieee as Ieee
 use Rattle.numeric.specs.Number.{whole}
 use Rattle.powers.specs.Power.{power}
 use Rattle.exponential.specs.Exponential.{exponential}
 use Rattle.roots.specs.Root.{root}
-use Rattle.roots.specs.Formula.{num, size, work}
+use Rattle.formulas.specs.Formula.{num, size, work}
 use Rattle.numeric.specs.declared.working.Worked.{Worked}
 use Rattle.numeric.specs.declared.working.Worked.the-variants.{Number}
 use Rattle.exponents.specs.declared.exponent.Exponent.{Exponent}

@@ -17,7 +17,7 @@ use lib.Ieee.Nearest.{closest, closest-mono, nearest-ge}
 use lib.Ieee.Order.{kept, drop}
 use lib.Ieee.Scale.{round-same, grid, overflow, normal-of-fraction, round-val}
 use lib.Ieee.Positive.{positive}
-use Rattle.exponential.proofs.Halves.{bits-of-value, kept-le}
+use Rattle.quotients.proofs.Halves.{bits-of-value, kept-le}
 
 -- ---- the operations, by fractions that the operands equal
 shown : (x : Float) (a c : ℕ) → HasValue x false a c → (m : ℕ) × (e : ℤ) × (x ≡ fin false m e) × (m * up e * c ≡ a * down e)

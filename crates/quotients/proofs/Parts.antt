@@ -19,11 +19,10 @@ use lib.Ieee.Nearest.{closest, div-mono}
 use lib.Ieee.Scale.{round-same}
 use lib.Ieee.Positive.{num, den, positive, den-pos, own-value, value→cross, value-pos, first-pos}
 use Rattle.numeric.specs.Number.{decimal, whole}
-use Rattle.exponential.specs.Lockstep.{tame}
-use Rattle.exponential.specs.Quotient.{divisor, short, beyond}
-use Rattle.exponential.proofs.Halves as Halves
-use Rattle.exponential.proofs.Halves.{div-is}
-use Rattle.exponential.proofs.Units.{Digits, Product, pow-lt-back, size-gt, last-digit, minus-times, bits-are, of-bits, counted, digits-of, exact, product, mul-of, add-of, sub-of}
+use Rattle.quotients.specs.Quotient.{tame, divisor, short, beyond}
+use Rattle.quotients.proofs.Halves as Halves
+use Rattle.quotients.proofs.Halves.{div-is}
+use Rattle.quotients.proofs.Units.{Digits, Product, pow-lt-back, size-gt, last-digit, minus-times, bits-are, of-bits, counted, digits-of, exact, product, mul-of, add-of, sub-of}
 
 -- ---- a fraction N/k of an odd k, moved up by less than 1/(2k), is rounded to the same whole number
 less : (a b : ℕ) → a < b → compare a b ≡ Ordering·lt

@@ -7,9 +7,9 @@ use Rattle.numeric.specs.Working.{_-ᵂ_, _*ᵂ_, _/ᵂ_}
 use Rattle.powers.specs.Power.{power, _^ᵂ_}
 use Rattle.exponential.specs.Exponential.{exponential, falling, series, squared}
 use Rattle.halving.specs.Halving.{halve, narrow, middle}
 use Rattle.roots.specs.Root.{root, searched, rootBits, powerAt}
-use Rattle.roots.specs.Formula.{work, absolute}
-use Rattle.roots.specs.Readings.{Starred, readings, sizes}
+use Rattle.formulas.specs.Formula.{work, absolute}
+use Rattle.formulas.specs.Readings.{Starred, readings, sizes}
 
 pub all-read : map (λ (r : Starred). r .worked) readings ≡ map (λ (r : Starred). r .reads) readings
 unfolding readings exponential falling series squared root searched rootBits powerAt halve narrow middle whole _-ᵂ_ _*ᵂ_ _/ᵂ_ _^ᵂ_ power Ieee.ofInt Ieee.eq Ieee.lt Ieee.le Ieee.neg Ieee.sub Ieee.mul Ieee.div Ieee.toBits Ieee.ofBits

@@ -1,0 +1,2 @@
+pub mod Formula
+pub mod Readings

@@ -1,0 +1,1 @@
+// Quotients by small numbers as products, bit for bit: laws, no code.

@@ -37,40 +37,40 @@ third-guess : (c : tie.Then6) → Guessed (c .before .before .before .guess3 .re
 third-guess c = (c .if6 .taken, c .before .before .before .guess3 .ensures)
 
 usual-requires : tie.Need-usual-requires
-usual-requires c κs = search needs
+usual-requires c κs = tt
 
 three-by-one-requires : tie.Need-three-by-one-requires
-three-by-one-requires c κs = search needs
+three-by-one-requires c κs = tt
 
 returns : tie.Need-returns
-returns c = search needs
+returns c = c .three-by-one .ensures
 
 usual-requires-2 : tie.Need-usual-requires-2
-usual-requires-2 c κs = search needs
+usual-requires-2 c κs = tt
 
 three-by-one-requires-2 : tie.Need-three-by-one-requires-2
-three-by-one-requires-2 c κs = search needs
+three-by-one-requires-2 c κs = tt
 
 returns-2 : tie.Need-returns-2
-returns-2 c = search needs
+returns-2 c = c .three-by-one2 .ensures
 
 usual-requires-3 : tie.Need-usual-requires-3
-usual-requires-3 c κs = search needs
+usual-requires-3 c κs = tt
 
 three-by-one-requires-3 : tie.Need-three-by-one-requires-3
-three-by-one-requires-3 c κs = search needs
+three-by-one-requires-3 c κs = tt
 
 returns-3 : tie.Need-returns-3
-returns-3 c = search needs
+returns-3 c = c .three-by-one3 .ensures
 
 whole-power-requires : tie.Need-whole-power-requires
-whole-power-requires c κs = search needs
+whole-power-requires c κs = tt
 
 whole-power-requires-2 : tie.Need-whole-power-requires-2
-whole-power-requires-2 c κs = search needs
+whole-power-requires-2 c κs = tt
 
 whole-power-requires-3 : tie.Need-whole-power-requires-3
-whole-power-requires-3 c κs = search needs
+whole-power-requires-3 c κs = tt
 
 about-log-requires : tie.Need-about-log-requires
 about-log-requires c κs = unsigned _ _ (first-usual (c .before .before .before))
@@ -79,7 +79,7 @@ guess-requires : tie.Need-guess-requires
 guess-requires c κs = let b = bounds _ _ (first-usual (c .before .before .before .before)) in (b .1, b .2)
 
 about-whole-power-requires : tie.Need-about-whole-power-requires
-about-whole-power-requires c κs = search needs
+about-whole-power-requires c κs = tt
 
 guess-requires-2 : tie.Need-guess-requires-2
 guess-requires-2 c κs = let b = bounds _ _ (second-usual (c .before .before .before .before .before .before)) in (b .1, b .2)
@@ -105,7 +105,7 @@ root-about-requires c κs =
     (first-usual (known g), (raised g .before .before .whole-power .ensures, (first-guess g, c .before .before .powers-about .ensures)))
 
 plain-requires : tie.Need-plain-requires
-plain-requires c κs = search needs
+plain-requires c κs = tt
 
 root-about-requires-2 : tie.Need-root-about-requires-2
 root-about-requires-2 c κs =
@@ -114,7 +114,7 @@ root-about-requires-2 c κs =
     (second-usual (known g), (raised g .before .whole-power2 .ensures, (second-guess g, q .powers-about3 .ensures)))
 
 plain-requires-2 : tie.Need-plain-requires-2
-plain-requires-2 c κs = search needs
+plain-requires-2 c κs = tt
 
 root-about-requires-3 : tie.Need-root-about-requires-3
 root-about-requires-3 c κs =
@@ -123,7 +123,7 @@ root-about-requires-3 c κs =
     (third-usual (known g), (raised g .whole-power3 .ensures, (third-guess g, q .before .powers-about2 .ensures)))
 
 plain-requires-3 : tie.Need-plain-requires-3
-plain-requires-3 c κs = search needs
+plain-requires-3 c κs = tt
 
 returns-4 : tie.Need-returns-4
 returns-4 c =
@@ -139,10 +139,10 @@ returns-4 c =
     ) refl
 
 three-by-one-requires-4 : tie.Need-three-by-one-requires-4
-three-by-one-requires-4 c κs = search needs
+three-by-one-requires-4 c κs = tt
 
 returns-5 : tie.Need-returns-5
-returns-5 c = search needs
+returns-5 c = c .three-by-one4 .ensures
 
 pub three-roots-spec : {M : Type 1} → statement M
 three-roots-spec =

@@ -17,28 +17,28 @@ abbrev known : tie.Then4 → tie.Then2
 known c = c .before .before .before .before .before .before .before
 
 usual-requires : tie.Need-usual-requires
-usual-requires c κs = search needs
+usual-requires c κs = tt
 
 two-by-one-requires : tie.Need-two-by-one-requires
-two-by-one-requires c κs = search needs
+two-by-one-requires c κs = tt
 
 returns : tie.Need-returns
-returns c = search needs
+returns c = c .two-by-one .ensures
 
 usual-requires-2 : tie.Need-usual-requires-2
-usual-requires-2 c κs = search needs
+usual-requires-2 c κs = tt
 
 two-by-one-requires-2 : tie.Need-two-by-one-requires-2
-two-by-one-requires-2 c κs = search needs
+two-by-one-requires-2 c κs = tt
 
 returns-2 : tie.Need-returns-2
-returns-2 c = search needs
+returns-2 c = c .two-by-one2 .ensures
 
 whole-power-requires : tie.Need-whole-power-requires
-whole-power-requires c κs = search needs
+whole-power-requires c κs = tt
 
 whole-power-requires-2 : tie.Need-whole-power-requires-2
-whole-power-requires-2 c κs = search needs
+whole-power-requires-2 c κs = tt
 
 about-log-requires : tie.Need-about-log-requires
 about-log-requires c κs = unsigned _ _ (first-usual (c .before .before .before .before))
@@ -63,7 +63,7 @@ root-about-requires c κs =
     (first-usual (k .before .before), (w .before .whole-power .ensures, ((g .before .if3 .taken, g .before .before .before .guess .ensures), c .before .powers-about .ensures)))
 
 plain-requires : tie.Need-plain-requires
-plain-requires c κs = search needs
+plain-requires c κs = tt
 
 root-about-requires-2 : tie.Need-root-about-requires-2
 root-about-requires-2 c κs =
@@ -73,16 +73,16 @@ root-about-requires-2 c κs =
     (second-usual (known g), (w .whole-power2 .ensures, ((g .if4 .taken, g .before .before .guess2 .ensures), q .powers-about2 .ensures)))
 
 plain-requires-2 : tie.Need-plain-requires-2
-plain-requires-2 c κs = search needs
+plain-requires-2 c κs = tt
 
 returns-3 : tie.Need-returns-3
 returns-3 c = rw (c .plain2 .ensures, c .before .root-about2 .ensures, c .before .before .plain .ensures, c .before .before .before .root-about .ensures) refl
 
 two-by-one-requires-3 : tie.Need-two-by-one-requires-3
-two-by-one-requires-3 c κs = search needs
+two-by-one-requires-3 c κs = tt
 
 returns-4 : tie.Need-returns-4
-returns-4 c = search needs
+returns-4 c = c .two-by-one3 .ensures
 
 pub two-roots-spec : {M : Type 1} → statement M
 two-roots-spec =

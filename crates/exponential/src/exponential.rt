@@ -23,7 +23,7 @@ fn series(y: f64) -> f64
     s
 }
 
-// The same with six divisions: for such a y each y/(k·2ᵗ) is in the normal range, and is y/k times 2⁻ᵗ bit for bit (`halved`, proofs/Halves.antt).
+// The same with six divisions: for such a y each y/(k·2ᵗ) is in the normal range, and is y/k times 2⁻ᵗ bit for bit (`halved`, quotients/proofs/Halves.antt).
 fn eased(y: f64) -> f64
     requires { ⌜ T (le (decimal 1 250) y) × T (le y (whole 1)) ⌝ }
     ensures { λ r. ⌜ checked r ≡ series (checked y) 14 (checked (whole 1)) ⌝ }

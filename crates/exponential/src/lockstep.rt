@@ -10,7 +10,7 @@ ghost use Rattle.numeric.specs.Number.{whole};
 use crate::decay::Twelve;
 
 // y/k bit for bit with no division, which would be the slowest of all: c is a little below 1/k and h a little above it. q has 48 bits, so that q·k and
-// y − q·k are exact (`parted`, proofs/Parts.antt).
+// y − q·k are exact (`parted`, quotients/proofs/Parts.antt).
 fn part(y: f64, k: f64, c: f64, h: f64) -> f64
     requires { ⌜ T (tame y) × T (divisor k) × T (short k c) × T (beyond k h) ⌝ }
     ensures { λ r. ⌜ r ≡ div binary64 y k ⌝ }

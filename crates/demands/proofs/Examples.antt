@@ -7,7 +7,7 @@ use Rattle.text.specs.Decimal as Decimal
 use Rattle.text.specs.Parse.{byte}
 use Rattle.text.specs.Field.{digitsAfter, field, fieldTo, fieldAfter}
 use Rattle.lines.specs.Cylinder.{kind, reading, cylinder}
-use Rattle.sheet.specs.Form.{cylinders, written, inForm}
+use Rattle.sheet.specs.Form.{cylinders, bank, inForm}
 use Rattle.limits.specs.Limits.{document01}
 use Rattle.checks.specs.Check.{checks}
 use Rattle.pressure_door.specs.PressureDoor.{pressureDoor}
@@ -19,5 +19,5 @@ use Rattle.score.specs.Score.{total, report}
 use Rattle.demands.specs.Examples.{Example, examples}
 
 pub all-printed : map (λ (e : Example). report (inForm (e .text))) examples ≡ map (λ (e : Example). ascii (e .report)) examples
-unfolding examples report checked total ending linesBytes lineBytes weighedBytes endingBytes Decimal.decimal Decimal.decimalWithin inForm written fieldAfter fieldTo field digitsAfter byte kind reading cylinder cylinders weighed filled pressureDoor document01 checks whole decimal fraction ofInt round div lt
+unfolding examples report checked total ending linesBytes lineBytes weighedBytes endingBytes Decimal.decimal Decimal.decimalWithin inForm bank fieldAfter fieldTo field digitsAfter byte kind reading cylinder cylinders weighed filled pressureDoor document01 checks whole decimal fraction ofInt round div lt
 all-printed = refl

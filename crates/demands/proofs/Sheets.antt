@@ -13,14 +13,14 @@ use lib.Seq.{getD-append-add, getD-drop}
 use borrow.Author.Tests.{eqb-true, eqb-false, ltb-true, ltb-false, leb-true, leb-false, ne-eqb, lt-ltb, le-ltb, le-leb, lt-leb}
 use Rattle.text.specs.declared.field.Field.{Field}
 use Rattle.lines.specs.declared.line.Line.{Line}
-use Rattle.sheet.specs.Form.{Written, inForm}
+use Rattle.sheet.specs.Form.{Bank, inForm}
 use Rattle.weighing.specs.Weighing.{weighed, Under}
 use Rattle.weighing.proofs.Weights.{weighed-under}
 use Rattle.writing.specs.Writing.{over}
 use Rattle.writing.proofs.Writings.{long}
 use Rattle.report.specs.Report.{linesBytes, endingBytes, sentBack, ReportIs}
 use Rattle.report.specs.declared.report.Weighed.{Weighed}
-use Rattle.report.specs.declared.report.Written as outcome
+use Rattle.report.specs.declared.report.Written.{Written}
 use Rattle.verdict.specs.Verdict.{isNeed, when, needed, checked, ending, reached}
 use Rattle.score.specs.Score.{plus, total, mark, finished, report}
 use Rattle.verdict.specs.declared.verdict.Checked.{Checked}
@@ -71,35 +71,35 @@ weighed-total (one-more e a) = rw (e, weighed-total a)
 -- ---- the report
 
 module _ (t : List ℕ) where
-  module _ (w : Written) (need : ℕ) (n : Needs t w need) where
-    of-total : (s : Summed) → Tally (lines w) s → Reported t (linesBytes 1 (map mark (lines w)) ++ endingBytes (ending need s))
+  module _ (b : Bank) (need : ℕ) (n : Needs t b need) where
+    of-total : (s : Summed) → Tally (lines b) s → Reported t (linesBytes 1 (map mark (lines b)) ++ endingBytes (ending need s))
     unfolding ending
     of-total s (refused r) = one-refused n r
     of-total s (summed mgs a) = go (leb need (sum mgs)) refl
       where
-        go : (b : Bool) → leb need (sum mgs) ≡ b → Reported t (linesBytes 1 (map mark (lines w)) ++ endingBytes (reached b (sum mgs)))
+        go : (c : Bool) → leb need (sum mgs) ≡ c → Reported t (linesBytes 1 (map mark (lines b)) ++ endingBytes (reached c (sum mgs)))
         go true e = covered n a (leb-true need (sum mgs) e)
         go false e = short n a (leb-false need (sum mgs) e)
 
-  module _ (w : Written) (l : Lined t w) where
-    of-need : (f : Field) → w .need ≡ f → Reported t (finished (needed f) (map mark (lines w)))
+  module _ (b : Bank) (l : Lined t b) where
+    of-need : (f : Field) → b .need ≡ f → Reported t (finished (needed f) (map mark (lines b)))
     of-need Field.Blank e = no-need l (subst NoNeed (sym e) sheets.blank)
     of-need (Field.Number mg) e = go (isNeed mg) refl
       where
-        go : (b : Bool) → isNeed mg ≡ b → Reported t (finished (when b (Checked.Need mg) (Checked.SentBack 12)) (map mark (lines w)))
-        go true r = of-total w mg (record { lined = l; need = e; in-range = r }) (total (map mark (lines w))) (tally (lines w))
+        go : (c : Bool) → isNeed mg ≡ c → Reported t (finished (when c (Checked.Need mg) (Checked.SentBack 12)) (map mark (lines b)))
+        go true r = of-total b mg (record { lined = l; need = e; in-range = r }) (total (map mark (lines b))) (tally (lines b))
         go false r = no-need l (subst NoNeed (sym e) (out r))
 
-  of-form : (o : Option Written) → inForm t ≡ o → Reported t (report o)
+  of-form : (o : Option Bank) → inForm t ≡ o → Reported t (report o)
   unfolding report checked
   of-form none e = not-in-form e
-  of-form (some w) e = go (eqb (length (w .cylinders)) 0) refl (ltb 32 (length (w .cylinders))) refl
+  of-form (some b) e = go (eqb (length (b .cylinders)) 0) refl (ltb 32 (length (b .cylinders))) refl
     where
-      go : (b : Bool) → eqb (length (w .cylinders)) 0 ≡ b → (c : Bool) → ltb 32 (length (w .cylinders)) ≡ c
-          → Reported t (finished (when b (Checked.SentBack 10) (when c (Checked.SentBack 11) (needed (w .need)))) (map mark (lines w)))
-      go true p c q = no-lines e (eqb-true _ 0 p)
+      go : (c : Bool) → eqb (length (b .cylinders)) 0 ≡ c → (d : Bool) → ltb 32 (length (b .cylinders)) ≡ d
+          → Reported t (finished (when c (Checked.SentBack 10) (when d (Checked.SentBack 11) (needed (b .need)))) (map mark (lines b)))
+      go true p d q = no-lines e (eqb-true _ 0 p)
       go false p true q = many-lines e (ltb-true 32 _ q)
-      go false p false q = let z = eqb-false (length (w .cylinders)) 0 p in of-need w (record { read = e; some-line = above z; at-most = ltb-false 32 _ q }) (w .need) refl
+      go false p false q = let z = eqb-false (length (b .cylinders)) 0 p in of-need b (record { read = e; some-line = above z; at-most = ltb-false 32 _ q }) (b .need) refl
         where
           above : {n : ℕ} → (n ≡ 0 → ⊥) → 1 ≤ n
           above {n} z = omega (arith, z)
@@ -109,26 +109,26 @@ module _ (t : List ℕ) where
 
   -- ---- and no other is
 
-  past-count : (w : Written) (f : Field) → Lined t w → w .need ≡ f → report (inForm t) ≡ finished (needed f) (map mark (lines w))
+  past-count : (b : Bank) (f : Field) → Lined t b → b .need ≡ f → report (inForm t) ≡ finished (needed f) (map mark (lines b))
   unfolding report checked
-  past-count w f l e = rw (l .read, ne-eqb (length (w .cylinders)) 0 (omega (arith, l .some-line)), le-ltb 32 (length (w .cylinders)) (l .at-most), e)
+  past-count b f l e = rw (l .read, ne-eqb (length (b .cylinders)) 0 (omega (arith, l .some-line)), le-ltb 32 (length (b .cylinders)) (l .at-most), e)
 
-  without-need : (w : Written) → Lined t w → (f : Field) → w .need ≡ f → NoNeed f → report (inForm t) ≡ sentBack 12
-  without-need w l f e sheets.blank = past-count w Field.Blank l e
-  without-need w l f e (out {mg} r) = past-count w (Field.Number mg) l e ∙ rw r
+  without-need : (b : Bank) → Lined t b → (f : Field) → b .need ≡ f → NoNeed f → report (inForm t) ≡ sentBack 12
+  without-need b l f e sheets.blank = past-count b Field.Blank l e
+  without-need b l f e (out {mg} r) = past-count b (Field.Number mg) l e ∙ rw r
 
-  needing : {w : Written} {need : ℕ} → Needs t w need → report (inForm t) ≡ linesBytes 1 (map mark (lines w)) ++ endingBytes (ending need (total (map mark (lines w))))
-  needing {w} {need} n = past-count w (Field.Number need) (n .lined) (n .need) ∙ rw (n .in-range)
+  needing : {b : Bank} {need : ℕ} → Needs t b need → report (inForm t) ≡ linesBytes 1 (map mark (lines b)) ++ endingBytes (ending need (total (map mark (lines b))))
+  needing {b} {need} n = past-count b (Field.Number need) (n .lined) (n .need) ∙ rw (n .in-range)
 
   pub only : {bs : List ℕ} → Reported t bs → report (inForm t) ≡ bs
   unfolding report checked ending
   only (not-in-form e) = rw e
   only (no-lines e z) = rw (e, z)
-  only (many-lines {w} e h) = rw (e, ne-eqb (length (w .cylinders)) 0 (omega arith), lt-ltb 32 (length (w .cylinders)) h)
-  only (no-need {w} l n) = without-need w l (w .need) refl n
+  only (many-lines {b} e h) = rw (e, ne-eqb (length (b .cylinders)) 0 (omega arith), lt-ltb 32 (length (b .cylinders)) h)
+  only (no-need {b} l n) = without-need b l (b .need) refl n
   only (one-refused n r) = needing n ∙ rw (refused-total r)
-  only (covered {w} {need} {mgs} n a h) = needing n ∙ rw (weighed-total a, le-leb need (sum mgs) h)
-  only (short {w} {need} {mgs} n a h) = needing n ∙ rw (weighed-total a, lt-leb need (sum mgs) h)
+  only (covered {b} {need} {mgs} n a h) = needing n ∙ rw (weighed-total a, le-leb need (sum mgs) h)
+  only (short {b} {need} {mgs} n a h) = needing n ∙ rw (weighed-total a, lt-leb need (sum mgs) h)
 
 -- THE REPORT of a text is bs exactly where document 01's order says so
 pub reports : (t bs : List ℕ) → Exactly (report (inForm t) ≡ bs) (Reported t bs)
@@ -146,20 +146,20 @@ behind o bs i h =
     let e : length bs + (i - length bs) ≡ i = omega arith in
     ap (λ (k : ℕ). getD (bs ++ drop (length bs) o) k 0) (sym e) ∙ getD-append-add bs (drop (length bs) o) (i - length bs) 0 ∙ getD-drop (length bs) o (i - length bs) 0 ∙ ap (λ (k : ℕ). getD o k 0) e
 
-delivered : (t o xs : List ℕ) (r : outcome.Written) → ReportIs o xs (report (inForm t)) r → Delivered t o xs r
+delivered : (t o xs : List ℕ) (r : Written) → ReportIs o xs (report (inForm t)) r → Delivered t o xs r
 unfolding over
-delivered t o xs (outcome.Written.Bytes k) p =
+delivered t o xs (Written.Bytes k) p =
     let bs = report (inForm t) in
-    subst (λ (n : ℕ). Delivered t o xs (outcome.Written.Bytes n)) (sym (p .0 .count))
+    subst (λ (n : ℕ). Delivered t o xs (Written.Bytes n)) (sym (p .0 .count))
     (fits (reported t) (p .1) (long (p .0) (p .1)) (λ i h. rw (p .0 .bytes) (front bs (drop (length bs) o) i h)) (λ i h. rw (p .0 .bytes) (behind o bs i h)))
-delivered t o xs (outcome.Written.Refused n) p = subst (λ (k : ℕ). Delivered t o xs (outcome.Written.Refused k)) (sym (p .0)) (too-long (reported t) (p .2) (p .1))
+delivered t o xs (Written.Refused n) p = subst (λ (k : ℕ). Delivered t o xs (Written.Refused k)) (sym (p .0)) (too-long (reported t) (p .2) (p .1))
 
 -- DEMANDS 1 AND 2 for a sheet: whatever bytes and whatever output, this is what comes back of `score` and what every byte of the output is
 pub score-delivers : (κs : Lfts 2) → Delivers (score.Post κs)
 score-delivers κs a r x p = delivered _ _ _ r p
 
 -- a refused line means no verdict
-pub no-verdict : (t : List ℕ) {w : Written} {need : ℕ} → Needs t w need → OneRefused (lines w) → report (inForm t) ≡ linesBytes 1 (map mark (lines w)) ++ sentBack 13
+pub no-verdict : (t : List ℕ) {b : Bank} {need : ℕ} → Needs t b need → OneRefused (lines b) → report (inForm t) ≡ linesBytes 1 (map mark (lines b)) ++ sentBack 13
 no-verdict t n r = only t (one-refused n r)
 
 -- the largest total: 32 lines of less than 2⁵³ mg each, which 64 bits hold

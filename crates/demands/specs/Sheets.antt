@@ -9,17 +9,17 @@ use lib.ListN.{length, getD}
 use Rattle.text.specs.declared.field.Field.{Field}
 use Rattle.lines.specs.Line.{lineOf}
 use Rattle.lines.specs.declared.line.Line.{Line}
-use Rattle.sheet.specs.Form.{Written, inForm}
+use Rattle.sheet.specs.Form.{Bank, inForm}
 use Rattle.weighing.specs.Weighing.{weighed}
 use Rattle.report.specs.Report.{linesBytes, endingBytes, sentBack}
 use Rattle.report.specs.declared.report.Weighed.{Weighed}
 use Rattle.report.specs.declared.report.Ending.{Ending}
-use Rattle.report.specs.declared.report.Written as outcome
+use Rattle.report.specs.declared.report.Written.{Written}
 use Rattle.verdict.specs.Verdict.{isNeed}
 use Rattle.score.specs.Score.{mark}
 
-abbrev pub lines : Written → List Line
-lines w = map lineOf (w .cylinders)
+abbrev pub lines : Bank → List Line
+lines b = map lineOf (b .cylinders)
 
 -- some line is refused
 pub data OneRefused : List Line → Type 0 where
@@ -42,36 +42,36 @@ pub data NoNeed : Field → Type 0 where
   out : {mg : ℕ} → isNeed mg ≡ false → NoNeed (Field.Number mg)
 
 -- in the form, with 1 to 32 lines
-pub record Lined (t : List ℕ) (w : Written) : Type 0 where
-  pub read : inForm t ≡ some w
-  pub some-line : 1 ≤ length (w .cylinders)
-  pub at-most : length (w .cylinders) ≤ 32
+pub record Lined (t : List ℕ) (b : Bank) : Type 0 where
+  pub read : inForm t ≡ some b
+  pub some-line : 1 ≤ length (b .cylinders)
+  pub at-most : length (b .cylinders) ≤ 32
 
 -- and with a need
-pub record Needs (t : List ℕ) (w : Written) (mg : ℕ) : Type 0 where
-  pub lined : Lined t w
-  pub need : w .need ≡ Field.Number mg
+pub record Needs (t : List ℕ) (b : Bank) (mg : ℕ) : Type 0 where
+  pub lined : Lined t b
+  pub need : b .need ≡ Field.Number mg
   pub in-range : isNeed mg ≡ true
 
 -- the report of a text
 pub data Reported (t : List ℕ) : List ℕ → Type 0 where
   not-in-form : inForm t ≡ none → Reported t (sentBack 14)
-  no-lines : {w : Written} → inForm t ≡ some w → length (w .cylinders) ≡ 0 → Reported t (sentBack 10)
-  many-lines : {w : Written} → inForm t ≡ some w → 32 < length (w .cylinders) → Reported t (sentBack 11)
-  no-need : {w : Written} → Lined t w → NoNeed (w .need) → Reported t (sentBack 12)
-  one-refused : {w : Written} {need : ℕ} → Needs t w need → OneRefused (lines w) → Reported t (linesBytes 1 (map mark (lines w)) ++ sentBack 13)
-  covered : {w : Written} {need : ℕ} {mgs : List ℕ} → Needs t w need → AllWeighed (lines w) mgs → need ≤ sum mgs
-      → Reported t (linesBytes 1 (map mark (lines w)) ++ endingBytes (Ending.Covered (sum mgs)))
-  short : {w : Written} {need : ℕ} {mgs : List ℕ} → Needs t w need → AllWeighed (lines w) mgs → sum mgs < need
-      → Reported t (linesBytes 1 (map mark (lines w)) ++ endingBytes (Ending.Short (sum mgs)))
+  no-lines : {b : Bank} → inForm t ≡ some b → length (b .cylinders) ≡ 0 → Reported t (sentBack 10)
+  many-lines : {b : Bank} → inForm t ≡ some b → 32 < length (b .cylinders) → Reported t (sentBack 11)
+  no-need : {b : Bank} → Lined t b → NoNeed (b .need) → Reported t (sentBack 12)
+  one-refused : {b : Bank} {need : ℕ} → Needs t b need → OneRefused (lines b) → Reported t (linesBytes 1 (map mark (lines b)) ++ sentBack 13)
+  covered : {b : Bank} {need : ℕ} {mgs : List ℕ} → Needs t b need → AllWeighed (lines b) mgs → need ≤ sum mgs
+      → Reported t (linesBytes 1 (map mark (lines b)) ++ endingBytes (Ending.Covered (sum mgs)))
+  short : {b : Bank} {need : ℕ} {mgs : List ℕ} → Needs t b need → AllWeighed (lines b) mgs → sum mgs < need
+      → Reported t (linesBytes 1 (map mark (lines b)) ++ endingBytes (Ending.Short (sum mgs)))
 
 -- and what the lent output holds then: byte by byte, the report and after it what was there; or, where it doesn't fit, what was there
-pub data Delivered (t old new : List ℕ) : outcome.Written → Type 0 where
+pub data Delivered (t old new : List ℕ) : Written → Type 0 where
   fits : {bs : List ℕ} → Reported t bs → length bs ≤ length old → length new ≡ length old
       → ((i : ℕ) → i < length bs → getD new i 0 ≡ getD bs i 0) → ((i : ℕ) → length bs ≤ i → getD new i 0 ≡ getD old i 0)
-      → Delivered t old new (outcome.Written.Bytes (length bs))
-  too-long : {bs : List ℕ} → Reported t bs → length old < length bs → new ≡ old → Delivered t old new (outcome.Written.Refused 15)
+      → Delivered t old new (Written.Bytes (length bs))
+  too-long : {bs : List ℕ} → Reported t bs → length old < length bs → new ≡ old → Delivered t old new (Written.Refused 15)
 
 -- whatever meets the promise of a function from a text and a lent output (`Post`, its own `ensures`) delivers
-abbrev pub Delivers : {S T U : Type 0} → (RefT (List ℕ) × (RefT (List ℕ) × S) → outcome.Written → T × (RefT (List ℕ) × U) → Type 0) → Type 0
-Delivers {S} {T} {U} Post = (a : RefT (List ℕ) × (RefT (List ℕ) × S)) (r : outcome.Written) (x : T × (RefT (List ℕ) × U)) → Post a r x → Delivered (now (a .0)) (now (a .1 .0)) (now (x .1 .0)) r
+abbrev pub Delivers : {S T U : Type 0} → (RefT (List ℕ) × (RefT (List ℕ) × S) → Written → T × (RefT (List ℕ) × U) → Type 0) → Type 0
+Delivers {S} {T} {U} Post = (a : RefT (List ℕ) × (RefT (List ℕ) × S)) (r : Written) (x : T × (RefT (List ℕ) × U)) → Post a r x → Delivered (now (a .0)) (now (a .1 .0)) (now (x .1 .0)) r

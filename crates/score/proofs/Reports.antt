@@ -13,7 +13,7 @@ use borrow.Author.Tests.{ltb-false}
 use Rattle.text.specs.declared.field.Field.{Field}
 use Rattle.lines.specs.Line.{lineOf, blankLine}
 use Rattle.lines.specs.declared.line.Line.{Line}
-use Rattle.sheet.specs.Form.{Written}
+use Rattle.sheet.specs.Form.{Bank}
 use Rattle.sheet.specs.Padded.{padded}
 use Rattle.sheet.specs.Sheet.{sheetOf, sheetRead}
 use Rattle.sheet.specs.declared.sheet.SheetRead.{SheetRead}
@@ -43,15 +43,15 @@ marked-more ls i d m ms size h em es =
 
 -- ---- the arrays, taken back
 
-module _ (w : Written) (h : length (w .cylinders) ≤ 32) where
-  lines-back : take (length (w .cylinders)) (padded blankLine 32 (map lineOf (w .cylinders))) ≡ map lineOf (w .cylinders)
-  lines-back = rw (← length-map (w .cylinders) lineOf) (taken-back blankLine 32 (map lineOf (w .cylinders)) (omega (arith, length-map (w .cylinders) lineOf)))
+module _ (b : Bank) (h : length (b .cylinders) ≤ 32) where
+  lines-back : take (length (b .cylinders)) (padded blankLine 32 (map lineOf (b .cylinders))) ≡ map lineOf (b .cylinders)
+  lines-back = rw (← length-map (b .cylinders) lineOf) (taken-back blankLine 32 (map lineOf (b .cylinders)) (omega (arith, length-map (b .cylinders) lineOf)))
 
-  pub marks-back : marksOf (marksFor (sheetOf w)) ≡ map mark (map lineOf (w .cylinders))
+  pub marks-back : marksOf (marksFor (sheetOf b)) ≡ map mark (map lineOf (b .cylinders))
   unfolding marksFor sheetOf
   marks-back =
-      let ms = map mark (map lineOf (w .cylinders)) in
-      let e : length ms ≡ length (w .cylinders) = length-map (map lineOf (w .cylinders)) mark ∙ length-map (w .cylinders) lineOf in
+      let ms = map mark (map lineOf (b .cylinders)) in
+      let e : length ms ≡ length (b .cylinders) = length-map (map lineOf (b .cylinders)) mark ∙ length-map (b .cylinders) lineOf in
       rw lines-back (ap (λ (n : ℕ). take n (padded noMark 32 ms)) (sym e) ∙ taken-back noMark 32 ms (omega (arith, e)))
 
 -- ---- what the checks say
@@ -79,33 +79,33 @@ few ok n f mg e = go (not ok) (eqb n 0) (ltb 32 n) refl e
 
 -- ---- the report of what was read
 
-module _ (o : Option Written) where
+module _ (o : Option Bank) where
   abbrev pub checkedRead : Checked
   checkedRead = checked (sheetRead o .ok) (sheetRead o .sheet .count) (sheetRead o .sheet .need)
 
 -- what was checked of a sheet that was read from o
-pub known : (o : Option Written) (r : SheetRead) (c d : Checked) → r ≡ sheetRead o → c ≡ checked (r .ok) (r .sheet .count) (r .sheet .need) → c ≡ d → checkedRead o ≡ d
+pub known : (o : Option Bank) (r : SheetRead) (c d : Checked) → r ≡ sheetRead o → c ≡ checked (r .ok) (r .sheet .count) (r .sheet .need) → c ≡ d → checkedRead o ≡ d
 known o r c d e f g = ap (λ (x : SheetRead). checked (x .ok) (x .sheet .count) (x .sheet .need)) (sym e) ∙ sym f ∙ g
 
 one-line : (number : ℕ) → reportBytes noMarks (Ending.SentBack number) ≡ sentBack number
 unfolding reportBytes linesBytes noMarks
 one-line number = refl
 
-sent-back : (o : Option Written) (number : ℕ) → checkedRead o ≡ Checked.SentBack number → sentBack number ≡ report o
+sent-back : (o : Option Bank) (number : ℕ) → checkedRead o ≡ Checked.SentBack number → sentBack number ≡ report o
 unfolding sheetRead sheetOf checked report
 sent-back none number e = ap sentBack (sym (ap sent-with e))
-sent-back (some w) number e = rw e refl
+sent-back (some b) number e = rw e refl
 
-pub sent : (o : Option Written) (number : ℕ) → checkedRead o ≡ Checked.SentBack number → reportBytes noMarks (Ending.SentBack number) ≡ report o
+pub sent : (o : Option Bank) (number : ℕ) → checkedRead o ≡ Checked.SentBack number → reportBytes noMarks (Ending.SentBack number) ≡ report o
 sent o number e = one-line number ∙ sent-back o number e
 
 module _ (mg : ℕ) where
-  pub worked : (o : Option Written) → checkedRead o ≡ Checked.Need mg → (let m = marksFor (sheetRead o .sheet) in reportBytes m (ending mg (total (marksOf m))) ≡ report o)
+  pub worked : (o : Option Bank) → checkedRead o ≡ Checked.Need mg → (let m = marksFor (sheetRead o .sheet) in reportBytes m (ending mg (total (marksOf m))) ≡ report o)
   unfolding sheetRead sheetOf checked report reportBytes
   worked none e = no-need 14 mg e
-  worked (some w) e = rw (e, marks-back w (few true (length (w .cylinders)) (w .need) mg e)) refl
+  worked (some b) e = rw (e, marks-back b (few true (length (b .cylinders)) (b .need) mg e)) refl
 
-  pub light : (o : Option Written) → checkedRead o ≡ Checked.Need mg → Light (marksOf (marksFor (sheetRead o .sheet)))
+  pub light : (o : Option Bank) → checkedRead o ≡ Checked.Need mg → Light (marksOf (marksFor (sheetRead o .sheet)))
   unfolding sheetRead sheetOf checked
   light none e = no-need 14 mg e
-  light (some w) e = rw (marks-back w (few true (length (w .cylinders)) (w .need) mg e)) (all-light (map lineOf (w .cylinders)))
+  light (some b) e = rw (marks-back b (few true (length (b .cylinders)) (b .need) mg e)) (all-light (map lineOf (b .cylinders)))

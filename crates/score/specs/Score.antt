@@ -6,7 +6,7 @@ use mathlib.Core.Option.{Option, none, some}
 use lib.ListN.{length, take}
 use Rattle.lines.specs.Line.{lineOf}
 use Rattle.lines.specs.declared.line.Line.{Line}
-use Rattle.sheet.specs.Form.{Written}
+use Rattle.sheet.specs.Form.{Bank}
 use Rattle.sheet.specs.Padded.{padded}
 use Rattle.sheet.specs.declared.sheet.Sheet.{Sheet}
 use Rattle.weighing.specs.Weighing.{weighed, Under}
@@ -41,9 +41,9 @@ finished (Checked.SentBack number) ms = sentBack number
 finished (Checked.Need mg) ms = linesBytes 1 ms ++ endingBytes (ending mg (total ms))
 
 -- the report of a text, from what it says
-unfoldable pub report : Option Written → List ℕ
+unfoldable pub report : Option Bank → List ℕ
 report none = sentBack 14
-report (some w) = finished (checked true (length (w .cylinders)) (w .need)) (map mark (map lineOf (w .cylinders)))
+report (some b) = finished (checked true (length (b .cylinders)) (b .need)) (map mark (map lineOf (b .cylinders)))
 
 -- ---- the same in the code's arrays of 32
 

@@ -18,7 +18,7 @@ use Rattle.text.proofs.Printed.{after-back, after-says, after-small}
 use Rattle.lines.specs.Cylinder.{AllSmall, cylinderText, cylinder}
 use Rattle.lines.specs.declared.cylinder.Cylinder.{Cylinder}
 use Rattle.lines.proofs.Printed.{opened, cylinder-back, cylinder-says, cylinder-all}
-use Rattle.sheet.specs.Form.{Written, text, cylindersText, EachSmall, Fair, unlessEnd, cylinders, withNeed, written, inForm}
+use Rattle.sheet.specs.Form.{Bank, text, cylindersText, EachSmall, Fair, unlessEnd, cylinders, withNeed, bank, inForm}
 use Rattle.sheet.proofs.Turns.{cylinders-end, cylinders-more}
 
 -- ---- what is printed is read back
@@ -36,17 +36,17 @@ unfolding cylindersText cylinderText
 a-byte-each [] = omega arith
 a-byte-each (c ∷ cs) = let ih = a-byte-each cs in simp length-append (omega arith)
 
-enough : (w : Written) → length (w .cylinders) ≤ length (text w)
+enough : (b : Bank) → length (b .cylinders) ≤ length (text b)
 unfolding text
-enough w = let ih = a-byte-each (w .cylinders) in simp length-append (omega arith)
+enough b = let ih = a-byte-each (b .cylinders) in simp length-append (omega arith)
 
-written-back : (k : ℕ) (w : Written) → Fair w → length (w .cylinders) ≤ k → written k (text w) ≡ some w
-unfolding written text
-written-back k w f h = rw (after-back 78 10 refl (w .need) (f .need) (cylindersText (w .cylinders)), cylinders-back k (w .cylinders) h (f .cylinders))
+bank-back : (k : ℕ) (b : Bank) → Fair b → length (b .cylinders) ≤ k → bank k (text b) ≡ some b
+unfolding bank text
+bank-back k b f h = rw (after-back 78 10 refl (b .need) (f .need) (cylindersText (b .cylinders)), cylinders-back k (b .cylinders) h (f .cylinders))
 
-pub read-back : (w : Written) → Fair w → length (text w) ≤ 65536 → inForm (text w) ≡ some w
+pub read-back : (b : Bank) → Fair b → length (text b) ≤ 65536 → inForm (text b) ≡ some b
 unfolding inForm
-read-back w f h = rw (le-leb (length (text w)) 65536 h) (written-back (length (text w)) w f (enough w))
+read-back b f h = rw (le-leb (length (text b)) 65536 h) (bank-back (length (text b)) b f (enough b))
 
 -- ---- what is read is what the text has, with 10 digits at most
 
@@ -74,9 +74,9 @@ cylinders-whole zero u = end-whole u none tt
 cylinders-whole (suc k) u = end-whole u _ (line-whole u (cylinder u) (λ r. cylinders k r) (cylinder-says u) (cylinder-all u) (λ r. cylinders-whole k r))
 
 module _ (t : List ℕ) where
-  abbrev Is : Option Written → Type 0
+  abbrev Is : Option Bank → Type 0
   Is none = Unit {0}
-  Is (some w) = (t ≡ text w) × Fair w × (length t ≤ 65536)
+  Is (some b) = (t ≡ text b) × Fair b × (length t ≤ 65536)
 
   module _ (h : length t ≤ 65536) where
     with-need : (need : Field) (r : List ℕ) → t ≡ 78 ∷ 32 ∷ fieldText need ++ (10 ∷ r) → Small need → (o : Option (List Cylinder)) → Whole r o → Is (withNeed need o)
@@ -88,31 +88,31 @@ module _ (t : List ℕ) where
     after-need k none e a = tt
     after-need k (some p) e a = with-need (p .0) (p .1) (e ∙ ap (λ (l : List ℕ). 78 ∷ 32 ∷ l) (append-assoc (fieldText (p .0)) (10 ∷ []) (p .1))) a (cylinders k (p .1)) (cylinders-whole k (p .1))
 
-    written-is : (k : ℕ) → Is (written k t)
-    unfolding written
-    written-is k = after-need k (fieldAfter 78 10 t) (after-says 78 10 t) (after-small 78 10 t)
+    bank-is : (k : ℕ) → Is (bank k t)
+    unfolding bank
+    bank-is k = after-need k (fieldAfter 78 10 t) (after-says 78 10 t) (after-small 78 10 t)
 
   in-form-is : Is (inForm t)
   unfolding inForm
   in-form-is = go (leb (length t) 65536) refl
     where
-      go : (b : Bool) → leb (length t) 65536 ≡ b → Is (cond b (written (length t) t) none)
-      go true e = written-is (leb-true (length t) 65536 e) (length t)
+      go : (b : Bool) → leb (length t) 65536 ≡ b → Is (cond b (bank (length t) t) none)
+      go true e = bank-is (leb-true (length t) 65536 e) (length t)
       go false e = tt
 
--- THE FORM: a text is read as the sheet w exactly where it is the printing of w, the numbers of w have 10 digits at most, and it has 65,536 bytes at most
-pub the-form : (t : List ℕ) (w : Written) → (inForm t ≡ some w) ↔ ((t ≡ text w) × Fair w × (length t ≤ 65536))
-the-form t w = (there, back)
+-- THE FORM: a text is read as the bank b exactly where it is the printing of b, the numbers of b have 10 digits at most, and it has 65,536 bytes at most
+pub the-form : (t : List ℕ) (b : Bank) → (inForm t ≡ some b) ↔ ((t ≡ text b) × Fair b × (length t ≤ 65536))
+the-form t b = (there, back)
   where
-    there : inForm t ≡ some w → (t ≡ text w) × Fair w × (length t ≤ 65536)
+    there : inForm t ≡ some b → (t ≡ text b) × Fair b × (length t ≤ 65536)
     there e = subst (Is t) e (in-form-is t)
 
-    back : (t ≡ text w) × Fair w × (length t ≤ 65536) → inForm t ≡ some w
-    back h = rw (h .0) (read-back w (h .1) (subst (λ (l : List ℕ). length l ≤ 65536) (h .0) (h .2)))
+    back : (t ≡ text b) × Fair b × (length t ≤ 65536) → inForm t ≡ some b
+    back h = rw (h .0) (read-back b (h .1) (subst (λ (l : List ℕ). length l ≤ 65536) (h .0) (h .2)))
 
 -- and no two sheets have one printing
-pub one-sheet : (w v : Written) → Fair w → Fair v → text w ≡ text v → w ≡ v
-one-sheet w v f g e =
-    let short : length (v .cylinders) ≤ length (text w) = rw e (enough v) in
-    let same : some w ≡ some v = sym (written-back (length (text w)) w f (enough w)) ∙ ap (written (length (text w))) e ∙ written-back (length (text w)) v g short in
+pub one-sheet : (b c : Bank) → Fair b → Fair c → text b ≡ text c → b ≡ c
+one-sheet b c f g e =
+    let short : length (c .cylinders) ≤ length (text b) = rw e (enough c) in
+    let same : some b ≡ some c = sym (bank-back (length (text b)) b f (enough b)) ∙ ap (bank (length (text b))) e ∙ bank-back (length (text b)) c g short in
     cc

@@ -11,8 +11,8 @@ use Rattle.text.specs.declared.field.Field.{Field}
 use Rattle.lines.specs.Cylinder.{AllSmall, cylinderText, cylinder}
 use Rattle.lines.specs.declared.cylinder.Cylinder.{Cylinder}
 
--- a sheet as it is written
-pub record Written : Type 0 where
+-- a bank of cylinders as its sheet has it, with the agent that it needs
+pub record Bank : Type 0 where
   pub need : Field
   pub cylinders : List Cylinder
 
@@ -23,17 +23,17 @@ cylindersText [] = []
 cylindersText (c ∷ cs) = cylinderText c ++ cylindersText cs
 
 -- "First `N` and needed mg. Then `C`, cylinder number, .."
-unfoldable pub text : Written → List ℕ
-text w = 78 ∷ 32 ∷ fieldText (w .need) ++ (10 ∷ cylindersText (w .cylinders))
+unfoldable pub text : Bank → List ℕ
+text b = 78 ∷ 32 ∷ fieldText (b .need) ++ (10 ∷ cylindersText (b .cylinders))
 
 abbrev pub EachSmall : List Cylinder → Type 0
 EachSmall [] = Unit {0}
 EachSmall (c ∷ cs) = AllSmall c × EachSmall cs
 
 -- "Whole numbers are 1 to 10 digits"
-pub record Fair (w : Written) : Type 0 where
-  pub need : Small (w .need)
-  pub cylinders : EachSmall (w .cylinders)
+pub record Fair (b : Bank) : Type 0 where
+  pub need : Small (b .need)
+  pub cylinders : EachSmall (b .cylinders)
 
 -- ---- from text
 
@@ -48,13 +48,13 @@ cylinders zero s = unlessEnd s none
 cylinders (suc k) s = unlessEnd s (andThen (cylinder s) (λ c rest. Option·map (λ cs. c ∷ cs) (cylinders k rest)))
 
 -- with the need that stands before them
-abbrev pub withNeed : Field → Option (List Cylinder) → Option Written
+abbrev pub withNeed : Field → Option (List Cylinder) → Option Bank
 withNeed need = Option·map (λ cs. record { need = need; cylinders = cs })
 
 -- the need, and then the cylinders
-unfoldable pub written : ℕ → List ℕ → Option Written
-written k t = andThen (fieldAfter 78 10 t) (λ need rest. withNeed need (cylinders k rest))
+unfoldable pub bank : ℕ → List ℕ → Option Bank
+bank k t = andThen (fieldAfter 78 10 t) (λ need rest. withNeed need (cylinders k rest))
 
 -- "A text over 65,536 bytes is not in the form."
-unfoldable pub inForm : List ℕ → Option Written
-inForm t = cond (leb (length t) 65536) (written (length t) t) none
+unfoldable pub inForm : List ℕ → Option Bank
+inForm t = cond (leb (length t) 65536) (bank (length t) t) none

@@ -5,16 +5,16 @@ use mathlib.Core.Option.{Option, none, some}
 use lib.ListN.{length}
 use Rattle.text.specs.declared.field.Field.the-variants.{Blank}
 use Rattle.lines.specs.Line.{lineOf, blankLine}
-use Rattle.sheet.specs.Form.{Written}
+use Rattle.sheet.specs.Form.{Bank}
 use Rattle.sheet.specs.Padded.{padded}
 use Rattle.sheet.specs.declared.sheet.Sheet.{Sheet}
 use Rattle.sheet.specs.declared.sheet.SheetRead.{SheetRead}
 
 -- the count is of all lines, so that more than 32 can be told
-unfoldable pub sheetOf : Written → Sheet
-sheetOf w = record { need = w .need; lines = padded blankLine 32 (map lineOf (w .cylinders)); count = length (w .cylinders) }
+unfoldable pub sheetOf : Bank → Sheet
+sheetOf b = record { need = b .need; lines = padded blankLine 32 (map lineOf (b .cylinders)); count = length (b .cylinders) }
 
 -- a text that is not in the form has a blank sheet
-unfoldable pub sheetRead : Option Written → SheetRead
+unfoldable pub sheetRead : Option Bank → SheetRead
 sheetRead none = record { ok = false; sheet = sheetOf (record { need = Blank; cylinders = [] }) }
-sheetRead (some w) = record { ok = true; sheet = sheetOf w }
+sheetRead (some b) = record { ok = true; sheet = sheetOf b }

@@ -2,7 +2,7 @@
 use mathlib.Core.Path.{subst, _∙_}
 use borrow.Author.Tests.{lt-leb, le-leb}
 use Rattle.text.specs.Place.{FieldIs}
-use Rattle.sheet.specs.Form.{written, inForm}
+use Rattle.sheet.specs.Form.{bank, inForm}
 use borrow.Author.Needs.{needs}
 use Rattle.sheet.proofs.sheet.read_sheet.Statement.{statement}
 use Rattle.sheet.proofs.sheet.read_sheet.Tie as tie
@@ -27,7 +27,7 @@ not-in-form-requires-2 : tie.Need-not-in-form-requires-2
 not-in-form-requires-2 c κs = search needs
 
 returns-2 : tie.Need-returns-2
-unfolding inForm written
+unfolding inForm bank
 returns-2 c =
     let e = subst (FieldIs _ _ _) (c .before .enum-told .given .1) (c .before .before .before .read-field-after .ensures) in
     c .not-in-form2 .ensures ∙ rw (le-leb _ 65536 (c .before .before .before .before .if1 .left), e)
@@ -36,7 +36,7 @@ read-lines-requires : tie.Need-read-lines-requires
 read-lines-requires c κs = subst (FieldIs _ _ _) (c .before .need .given .1) (c .before .before .before .read-field-after .ensures) .2
 
 returns-3 : tie.Need-returns-3
-unfolding inForm written
+unfolding inForm bank
 returns-3 c =
     let e = subst (FieldIs _ _ _) (c .before .before .need .given .1) (c .before .before .before .before .read-field-after .ensures) in
     c .read-lines .ensures ∙ rw (le-leb _ 65536 (c .before .before .before .before .before .if1 .left), e .0)

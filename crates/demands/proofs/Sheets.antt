@@ -16,7 +16,7 @@ use Rattle.lines.specs.declared.line.Line.{Line}
 use Rattle.sheet.specs.Form.{Bank, inForm}
 use Rattle.weighing.specs.Weighing.{weighed, Under}
 use Rattle.weighing.proofs.Weights.{weighed-under}
-use Rattle.writing.specs.Writing.{over}
+use Rattle.writing.specs.Writing.{overlaid}
 use Rattle.writing.proofs.Writings.{long}
 use Rattle.report.specs.Report.{linesBytes, endingBytes, sentBack, ReportIs}
 use Rattle.report.specs.declared.report.Weighed.{Weighed}
@@ -147,7 +147,7 @@ behind o bs i h =
     ap (λ (k : ℕ). getD (bs ++ drop (length bs) o) k 0) (sym e) ∙ getD-append-add bs (drop (length bs) o) (i - length bs) 0 ∙ getD-drop (length bs) o (i - length bs) 0 ∙ ap (λ (k : ℕ). getD o k 0) e
 
 delivered : (t o xs : List ℕ) (r : Written) → ReportIs o xs (report (inForm t)) r → Delivered t o xs r
-unfolding over
+unfolding overlaid
 delivered t o xs (Written.Bytes k) p =
     let bs = report (inForm t) in
     subst (λ (n : ℕ). Delivered t o xs (Written.Bytes n)) (sym (p .0 .count))

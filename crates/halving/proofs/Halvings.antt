@@ -10,7 +10,7 @@ use borrow.Author.Tests.{eqb-true, eqb-false, eq-eqb, ne-eqb, leb-true, leb-fals
 use lib.Ieee.{Float, lt, ofInt}
 use lib.Ieee.Scale.{finite}
 use Rattle.numeric.specs.Number.{whole}
-use Rattle.halving.specs.Halving.{Figure, Side, under, over, broken, side, ifC, ends, middle, narrow, halve, NotAbove, Above, Worthy, worthy, Unworthy, failed, unbounded, Found, NoCrossing, met, first-above, second-not-above, Halves, ended, upper, lower, broke, Breaks, at-first, at-second, at-middle}
+use Rattle.halving.specs.Halving.{Figure, Side, low, high, broken, side, ifC, ends, middle, narrow, halve, NotAbove, Above, Worthy, worthy, Unworthy, failed, unbounded, Found, NoCrossing, met, first-above, second-not-above, Halves, ended, upper, lower, broke, Breaks, at-first, at-second, at-middle}
 use Rattle.numeric.specs.declared.working.Worked.{Worked}
 use Rattle.numeric.specs.declared.working.Worked.the-variants.{Number, Failed}
 use Rattle.halving.specs.declared.halving.Crossing.{Crossing}
@@ -35,65 +35,65 @@ lower-width lo hi n w = let e : 2 ^ suc n ≡ 2 * 2 ^ n = pow-succ' 2 n in omega
 
 -- ---- a side, as a fact about the figure, and back
 data Stands (f : Figure) (t : Float) (k : ℕ) : Side → Type 0 where
-  is-under : NotAbove f t k → Stands f t k under
-  is-over : Above f t k → Stands f t k over
+  is-low : NotAbove f t k → Stands f t k low
+  is-high : Above f t k → Stands f t k high
   is-broken : Unworthy f k → Stands f t k broken
 
 stands : (f : Figure) (t : Float) (k : ℕ) → Stands f t k (side t (f k))
 stands f t k = go (f k) refl
   where
-    num : (x : Float) (b c : Bool) → f k ≡ Number x → finite x ≡ b → lt t x ≡ c → Stands f t k (cond b (cond c over under) broken)
-    num x true true e h l = is-over (record { number = x; worked = e; bounded = h; stands = l })
-    num x true false e h l = is-under (record { number = x; worked = e; bounded = h; stands = l })
+    num : (x : Float) (b c : Bool) → f k ≡ Number x → finite x ≡ b → lt t x ≡ c → Stands f t k (cond b (cond c high low) broken)
+    num x true true e h l = is-high (record { number = x; worked = e; bounded = h; stands = l })
+    num x true false e h l = is-low (record { number = x; worked = e; bounded = h; stands = l })
     num x false c e h l = is-broken (unbounded x e h)
 
     go : (w : Worked) → f k ≡ w → Stands f t k (side t w)
     go (Number x) e = num x (finite x) (lt t x) e refl refl
     go Failed e = is-broken (failed e)
 
-not-above-of : (f : Figure) (t : Float) (k : ℕ) (s : Side) → Stands f t k s → s ≡ under → NotAbove f t k
-not-above-of f t k under (is-under a) e = a
-not-above-of f t k over (is-over a) e = let z : _≡_ {A = ℕ} 0 1 = cc in absurd (omega arith)
+not-above-of : (f : Figure) (t : Float) (k : ℕ) (s : Side) → Stands f t k s → s ≡ low → NotAbove f t k
+not-above-of f t k low (is-low a) e = a
+not-above-of f t k high (is-high a) e = let z : _≡_ {A = ℕ} 0 1 = cc in absurd (omega arith)
 not-above-of f t k broken (is-broken a) e = let z : _≡_ {A = ℕ} 0 1 = cc in absurd (omega arith)
 
-is-above-of : (f : Figure) (t : Float) (k : ℕ) (s : Side) → Stands f t k s → s ≡ over → Above f t k
-is-above-of f t k under (is-under a) e = let z : _≡_ {A = ℕ} 0 1 = cc in absurd (omega arith)
-is-above-of f t k over (is-over a) e = a
+is-above-of : (f : Figure) (t : Float) (k : ℕ) (s : Side) → Stands f t k s → s ≡ high → Above f t k
+is-above-of f t k low (is-low a) e = let z : _≡_ {A = ℕ} 0 1 = cc in absurd (omega arith)
+is-above-of f t k high (is-high a) e = a
 is-above-of f t k broken (is-broken a) e = let z : _≡_ {A = ℕ} 0 1 = cc in absurd (omega arith)
 
 is-unworthy-of : (f : Figure) (t : Float) (k : ℕ) (s : Side) → Stands f t k s → s ≡ broken → Unworthy f k
-is-unworthy-of f t k under (is-under a) e = let z : _≡_ {A = ℕ} 0 1 = cc in absurd (omega arith)
-is-unworthy-of f t k over (is-over a) e = let z : _≡_ {A = ℕ} 0 1 = cc in absurd (omega arith)
+is-unworthy-of f t k low (is-low a) e = let z : _≡_ {A = ℕ} 0 1 = cc in absurd (omega arith)
+is-unworthy-of f t k high (is-high a) e = let z : _≡_ {A = ℕ} 0 1 = cc in absurd (omega arith)
 is-unworthy-of f t k broken (is-broken a) e = a
 
-not-above : (f : Figure) (t : Float) (k : ℕ) → side t (f k) ≡ under → NotAbove f t k
+not-above : (f : Figure) (t : Float) (k : ℕ) → side t (f k) ≡ low → NotAbove f t k
 not-above f t k e = not-above-of f t k (side t (f k)) (stands f t k) e
 
-is-above : (f : Figure) (t : Float) (k : ℕ) → side t (f k) ≡ over → Above f t k
+is-above : (f : Figure) (t : Float) (k : ℕ) → side t (f k) ≡ high → Above f t k
 is-above f t k e = is-above-of f t k (side t (f k)) (stands f t k) e
 
 is-unworthy : (f : Figure) (t : Float) (k : ℕ) → side t (f k) ≡ broken → Unworthy f k
 is-unworthy f t k e = is-unworthy-of f t k (side t (f k)) (stands f t k) e
 
-side-under : (f : Figure) (t : Float) (k : ℕ) → NotAbove f t k → side t (f k) ≡ under
-side-under f t k a = rw (a .worked, a .bounded, a .stands) refl
+side-low : (f : Figure) (t : Float) (k : ℕ) → NotAbove f t k → side t (f k) ≡ low
+side-low f t k a = rw (a .worked, a .bounded, a .stands) refl
 
-side-over : (f : Figure) (t : Float) (k : ℕ) → Above f t k → side t (f k) ≡ over
-side-over f t k a = rw (a .worked, a .bounded, a .stands) refl
+side-high : (f : Figure) (t : Float) (k : ℕ) → Above f t k → side t (f k) ≡ high
+side-high f t k a = rw (a .worked, a .bounded, a .stands) refl
 
 side-broken : (f : Figure) (t : Float) (k : ℕ) → Unworthy f k → side t (f k) ≡ broken
 side-broken f t k (failed e) = rw e refl
 side-broken f t k (unbounded x e h) = rw (e, h) refl
 
 -- a finite figure is on one side or the other
-side-worthy : (f : Figure) (t : Float) (k : ℕ) → Worthy f k → (b : Bool) × (side t (f k) ≡ cond b over under)
+side-worthy : (f : Figure) (t : Float) (k : ℕ) → Worthy f k → (b : Bool) × (side t (f k) ≡ cond b high low)
 side-worthy f t k (worthy x e h) = (lt t x, rw (e, h) refl)
 
-worthy-under : (f : Figure) (t : Float) (k : ℕ) → NotAbove f t k → Worthy f k
-worthy-under f t k a = worthy (a .number) (a .worked) (a .bounded)
+worthy-low : (f : Figure) (t : Float) (k : ℕ) → NotAbove f t k → Worthy f k
+worthy-low f t k a = worthy (a .number) (a .worked) (a .bounded)
 
-worthy-over : (f : Figure) (t : Float) (k : ℕ) → Above f t k → Worthy f k
-worthy-over f t k a = worthy (a .number) (a .worked) (a .bounded)
+worthy-high : (f : Figure) (t : Float) (k : ℕ) → Above f t k → Worthy f k
+worthy-high f t k a = worthy (a .number) (a .worked) (a .bounded)
 
 -- ---- one halving
 module _ (f : Figure) (t : Float) where
@@ -104,11 +104,11 @@ module _ (f : Figure) (t : Float) where
 
   narrow-upper : (n lo hi : ℕ) → (hi ≡ lo + 1 → ⊥) → NotAbove f t (middle lo hi) → narrow f t (suc n) lo hi ≡ narrow f t n (middle lo hi) hi
   unfolding narrow
-  narrow-upper n lo hi ne a = rw (ne-eqb hi (lo + 1) ne, side-under f t (middle lo hi) a) refl
+  narrow-upper n lo hi ne a = rw (ne-eqb hi (lo + 1) ne, side-low f t (middle lo hi) a) refl
 
   narrow-lower : (n lo hi : ℕ) → (hi ≡ lo + 1 → ⊥) → Above f t (middle lo hi) → narrow f t (suc n) lo hi ≡ narrow f t n lo (middle lo hi)
   unfolding narrow
-  narrow-lower n lo hi ne a = rw (ne-eqb hi (lo + 1) ne, side-over f t (middle lo hi) a) refl
+  narrow-lower n lo hi ne a = rw (ne-eqb hi (lo + 1) ne, side-high f t (middle lo hi) a) refl
 
   narrow-broke : (n lo hi : ℕ) → (hi ≡ lo + 1 → ⊥) → Unworthy f (middle lo hi) → narrow f t (suc n) lo hi ≡ Broke
   unfolding narrow
@@ -123,11 +123,11 @@ module _ (f : Figure) (t : Float) where
   halved-step n ih lo hi h w = go (eqb hi (lo + 1)) refl
     where
       by : (hi ≡ lo + 1 → ⊥) → (s : Side) → side t (f (middle lo hi)) ≡ s → (m : ℕ) × (m ≤ suc n) × Halves f t lo hi m (narrow f t (suc n) lo hi)
-      by ne under q =
+      by ne low q =
           let a = not-above f t (middle lo hi) q in
           let r = ih (middle lo hi) hi (between lo hi h ne .below) (upper-width lo hi n h w) in
           (suc (r .0), omega arith, rw (narrow-upper n lo hi ne a) (upper ne a (r .2)))
-      by ne over q =
+      by ne high q =
           let a = is-above f t (middle lo hi) q in
           let r = ih lo (middle lo hi) (between lo hi h ne .above) (lower-width lo hi n w) in
           (suc (r .0), omega arith, rw (narrow-lower n lo hi ne a) (lower ne a (r .2)))
@@ -190,13 +190,13 @@ module _ (f : Figure) (t : Float) where
   somewhere (lower ne x g) q = somewhere g q
   somewhere (broke ne e) q = let z : _≡_ {A = ℕ} 0 1 = cc in omega arith
 
-over-any : (b : Bool) (c : Crossing) → ends over (cond b over under) c ≡ Nowhere
-over-any true c = refl
-over-any false c = refl
+high-any : (b : Bool) (c : Crossing) → ends high (cond b high low) c ≡ Nowhere
+high-any true c = refl
+high-any false c = refl
 
-any-under : (b : Bool) (c : Crossing) → ends (cond b over under) under c ≡ Nowhere
-any-under true c = refl
-any-under false c = refl
+any-low : (b : Bool) (c : Crossing) → ends (cond b high low) low c ≡ Nowhere
+any-low true c = refl
+any-low false c = refl
 
 either-nowhere : (b : Bool) → ifC b Nowhere Nowhere ≡ Nowhere
 either-nowhere true = refl
@@ -210,12 +210,12 @@ module _ (f : Figure) (t : Float) where
   answer lo hi r w e = go (leb hi lo) refl e
     where
       by : lo < hi → (a b : Side) → side t (f lo) ≡ a → side t (f hi) ≡ b → ends a b (narrow f t 63 lo hi) ≡ At r → Found f t lo hi r
-      by h under under p q k = let z : _≡_ {A = ℕ} 0 1 = cc in absurd (omega arith)
-      by h under over p q k = found f t (at-most-63 f t lo hi h w .2) r h (not-above f t lo p) (is-above f t hi q) k
-      by h under broken p q k = let z : _≡_ {A = ℕ} 0 1 = cc in absurd (omega arith)
-      by h over under p q k = let z : _≡_ {A = ℕ} 0 1 = cc in absurd (omega arith)
-      by h over over p q k = let z : _≡_ {A = ℕ} 0 1 = cc in absurd (omega arith)
-      by h over broken p q k = let z : _≡_ {A = ℕ} 0 1 = cc in absurd (omega arith)
+      by h low low p q k = let z : _≡_ {A = ℕ} 0 1 = cc in absurd (omega arith)
+      by h low high p q k = found f t (at-most-63 f t lo hi h w .2) r h (not-above f t lo p) (is-above f t hi q) k
+      by h low broken p q k = let z : _≡_ {A = ℕ} 0 1 = cc in absurd (omega arith)
+      by h high low p q k = let z : _≡_ {A = ℕ} 0 1 = cc in absurd (omega arith)
+      by h high high p q k = let z : _≡_ {A = ℕ} 0 1 = cc in absurd (omega arith)
+      by h high broken p q k = let z : _≡_ {A = ℕ} 0 1 = cc in absurd (omega arith)
       by h broken b p q k = let z : _≡_ {A = ℕ} 0 1 = cc in absurd (omega arith)
 
       go : (x : Bool) → leb hi lo ≡ x → ifC x Nowhere (ends (side t (f lo)) (side t (f hi)) (narrow f t 63 lo hi)) ≡ At r → Found f t lo hi r
@@ -228,12 +228,12 @@ module _ (f : Figure) (t : Float) where
   nowhere lo hi w e = go (leb hi lo) refl e
     where
       by : lo < hi → (a b : Side) → side t (f lo) ≡ a → side t (f hi) ≡ b → ends a b (narrow f t 63 lo hi) ≡ Nowhere → NoCrossing f t lo hi
-      by h under under p q k = second-not-above (worthy-under f t lo (not-above f t lo p)) (not-above f t hi q)
-      by h under over p q k = absurd (somewhere f t (at-most-63 f t lo hi h w .2) k)
-      by h under broken p q k = let z : _≡_ {A = ℕ} 0 1 = cc in absurd (omega arith)
-      by h over under p q k = second-not-above (worthy-over f t lo (is-above f t lo p)) (not-above f t hi q)
-      by h over over p q k = first-above (is-above f t lo p) (worthy-over f t hi (is-above f t hi q))
-      by h over broken p q k = let z : _≡_ {A = ℕ} 0 1 = cc in absurd (omega arith)
+      by h low low p q k = second-not-above (worthy-low f t lo (not-above f t lo p)) (not-above f t hi q)
+      by h low high p q k = absurd (somewhere f t (at-most-63 f t lo hi h w .2) k)
+      by h low broken p q k = let z : _≡_ {A = ℕ} 0 1 = cc in absurd (omega arith)
+      by h high low p q k = second-not-above (worthy-high f t lo (is-above f t lo p)) (not-above f t hi q)
+      by h high high p q k = first-above (is-above f t lo p) (worthy-high f t hi (is-above f t hi q))
+      by h high broken p q k = let z : _≡_ {A = ℕ} 0 1 = cc in absurd (omega arith)
       by h broken b p q k = let z : _≡_ {A = ℕ} 0 1 = cc in absurd (omega arith)
 
       go : (x : Bool) → leb hi lo ≡ x → ifC x Nowhere (ends (side t (f lo)) (side t (f hi)) (narrow f t 63 lo hi)) ≡ Nowhere → NoCrossing f t lo hi
@@ -243,13 +243,13 @@ module _ (f : Figure) (t : Float) where
   pub nowhere-back : (lo hi : ℕ) → NoCrossing f t lo hi → halve f t lo hi ≡ Nowhere
   unfolding halve
   nowhere-back lo hi (met h) = rw (le-leb hi lo h) refl
-  nowhere-back lo hi (first-above a w) = let s = side-worthy f t hi w in rw (side-over f t lo a, s .1, over-any (s .0) _) (either-nowhere (leb hi lo))
-  nowhere-back lo hi (second-not-above w b) = let s = side-worthy f t lo w in rw (side-under f t hi b, s .1, any-under (s .0) _) (either-nowhere (leb hi lo))
+  nowhere-back lo hi (first-above a w) = let s = side-worthy f t hi w in rw (side-high f t lo a, s .1, high-any (s .0) _) (either-nowhere (leb hi lo))
+  nowhere-back lo hi (second-not-above w b) = let s = side-worthy f t lo w in rw (side-low f t hi b, s .1, any-low (s .0) _) (either-nowhere (leb hi lo))
 
   -- where the ends bracket the target, what is left is to narrow them
   pub bracketed : (lo hi : ℕ) → lo < hi → NotAbove f t lo → Above f t hi → halve f t lo hi ≡ narrow f t 63 lo hi
   unfolding halve
-  bracketed lo hi h a b = rw (lt-leb hi lo h, side-under f t lo a, side-over f t hi b) refl
+  bracketed lo hi h a b = rw (lt-leb hi lo h, side-low f t lo a, side-high f t hi b) refl
 
   -- failure exactly where an end, or a middle that the halving comes to, can't be worked
   pub breaks : (lo hi : ℕ) → hi ≤ 2 ^ 63 → halve f t lo hi ≡ Broke → (lo < hi) × Breaks f t lo hi
@@ -257,12 +257,12 @@ module _ (f : Figure) (t : Float) where
   breaks lo hi w e = go (leb hi lo) refl e
     where
       by : lo < hi → (a b : Side) → side t (f lo) ≡ a → side t (f hi) ≡ b → ends a b (narrow f t 63 lo hi) ≡ Broke → Breaks f t lo hi
-      by h under under p q k = let z : _≡_ {A = ℕ} 0 1 = cc in absurd (omega arith)
-      by h under over p q k = let r = at-most-63 f t lo hi h w in at-middle (r .0) (not-above f t lo p) (is-above f t hi q) (rw k at (r .2))
-      by h under broken p q k = at-second (is-unworthy f t hi q)
-      by h over under p q k = let z : _≡_ {A = ℕ} 0 1 = cc in absurd (omega arith)
-      by h over over p q k = let z : _≡_ {A = ℕ} 0 1 = cc in absurd (omega arith)
-      by h over broken p q k = at-second (is-unworthy f t hi q)
+      by h low low p q k = let z : _≡_ {A = ℕ} 0 1 = cc in absurd (omega arith)
+      by h low high p q k = let r = at-most-63 f t lo hi h w in at-middle (r .0) (not-above f t lo p) (is-above f t hi q) (rw k at (r .2))
+      by h low broken p q k = at-second (is-unworthy f t hi q)
+      by h high low p q k = let z : _≡_ {A = ℕ} 0 1 = cc in absurd (omega arith)
+      by h high high p q k = let z : _≡_ {A = ℕ} 0 1 = cc in absurd (omega arith)
+      by h high broken p q k = at-second (is-unworthy f t hi q)
       by h broken b p q k = at-first (is-unworthy f t lo p)
 
       go : (x : Bool) → leb hi lo ≡ x → ifC x Nowhere (ends (side t (f lo)) (side t (f hi)) (narrow f t 63 lo hi)) ≡ Broke → (lo < hi) × Breaks f t lo hi
@@ -275,8 +275,8 @@ module _ (f : Figure) (t : Float) where
   breaks-back lo hi h w (at-second e) = rw (lt-leb hi lo h, side-broken f t hi e) (go (side t (f lo)))
     where
       go : (x : Side) → ends x broken (narrow f t 63 lo hi) ≡ Broke
-      go under = refl
-      go over = refl
+      go low = refl
+      go high = refl
       go broken = refl
   breaks-back lo hi h w (at-middle m a b r) = bracketed lo hi h a b ∙ same-halving f t r 63 h (omega arith)
 

@@ -16,10 +16,10 @@ Figure = ℕ → Worked
 
 -- where a figure stands: not above the target, above it, or "not finite", whether its working failed or what it worked is not finite
 pub data Side : Type 0 where
-  under over broken : Side
+  low high broken : Side
 
 abbrev pub side : Float → Worked → Side
-side t (Number x) = cond (finite x) (cond (lt t x) over under) broken
+side t (Number x) = cond (finite x) (cond (lt t x) high low) broken
 side t Failed = broken
 
 abbrev pub ifC : Bool → Crossing → Crossing → Crossing
@@ -28,18 +28,18 @@ ifC false a b = b
 
 -- "the figure is worked at lo, then at hi (not finite: 7); no crossing if the first is above the target or the second is not above it"
 abbrev pub ends : Side → Side → Crossing → Crossing
-ends under under c = Nowhere
-ends under over c = c
-ends under broken c = Broke
-ends over under c = Nowhere
-ends over over c = Nowhere
-ends over broken c = Broke
+ends low low c = Nowhere
+ends low high c = c
+ends low broken c = Broke
+ends high low c = Nowhere
+ends high high c = Nowhere
+ends high broken c = Broke
 ends broken b c = Broke
 
 -- "not above the target: lo = mid; above: hi = mid; not finite: 7"
 abbrev pub half : Side → Crossing → Crossing → Crossing
-half under upper lower = upper
-half over upper lower = lower
+half low upper lower = upper
+half high upper lower = lower
 half broken upper lower = Broke
 
 -- "mid = lo + (hi − lo) div 2"

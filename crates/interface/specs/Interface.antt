@@ -9,7 +9,7 @@ use lib.Ieee.{Float}
 use Rattle.answers.specs.declared.answer.Phase.{Phase}
 use Rattle.answers.specs.declared.answer.State.{State}
 use Rattle.answers.specs.declared.answer.Answer.{Answer}
-use Rattle.writing.specs.Writing.{over}
+use Rattle.writing.specs.Writing.{overlaid}
 
 -- vapour, liquid, supercritical: above every refusal number
 abbrev pub phaseNumber : Phase → ℕ
@@ -47,4 +47,4 @@ pub record Handed (old new : List Float) (a : Answer) (r : ℕ) : Type 0 where
 -- ---- the report bs: its length, and its bytes over the front of the output; or 0 where it doesn't fit, and the output stays
 pub record ReportedIn (old new bs : List ℕ) (r : ℕ) : Type 0 where
   pub number : r ≡ choose (ltb (length old) (length bs)) 0 (length bs)
-  pub bytes : new ≡ choose (ltb (length old) (length bs)) old (over old bs)
+  pub bytes : new ≡ choose (ltb (length old) (length bs)) old (overlaid old bs)

@@ -17,19 +17,19 @@ use Rattle.lines.specs.declared.line.Line.{Line}
 use Rattle.lines.specs.declared.line.LineAt.{LineAt}
 
 -- "one division each"
-abbrev pub over : ℕ → ℕ → Float
-over n d = div binary64 (whole n) (whole d)
+abbrev pub divided : ℕ → ℕ → Float
+divided n d = div binary64 (whole n) (whole d)
 
 -- "Temperature is the number over 10000"
 abbrev pub temperatureOf : Field → Temperature
 temperatureOf Field.Blank = Temperature.Blank
-temperatureOf (Field.Number n) = Temperature.Kelvin (over n 10000)
+temperatureOf (Field.Number n) = Temperature.Kelvin (divided n 10000)
 
 -- "A reading is blank, a pressure, or a density, and keeps its figure with its kind"; "density the number over 1000"
 abbrev pub readingOf : Kind → Field → Reading
 readingOf k Field.Blank = Reading.Blank
 readingOf Kind.Pressure (Field.Number n) = Reading.Pressure (whole n)
-readingOf Kind.Density (Field.Number n) = Reading.Density (over n 1000)
+readingOf Kind.Density (Field.Number n) = Reading.Density (divided n 1000)
 
 abbrev pub lineOf : Cylinder → Line
 lineOf c = record { number = c .number; temperature = temperatureOf (c .temperature); reading = readingOf (c .kind) (c .value); volume = c .volume }

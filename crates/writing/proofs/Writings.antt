@@ -8,25 +8,25 @@ use lib.ListN.{length, take, drop, set, getD, length-append, length-drop}
 use lib.Seq.{drop-cons, set-append-seam, take-append-seam, drop-append-seam, drop-drop, drop-length, take-suc, take-all}
 use Rattle.text.specs.Decimal.{decimal}
 use Rattle.text.proofs.Decimals.{decimal-small, decimal-large}
-use Rattle.writing.specs.Writing.{over, Wrote}
+use Rattle.writing.specs.Writing.{overlaid, Wrote}
 
 module _ (o bs : List ℕ) where
-  over-length : length bs ≤ length o → length (over o bs) ≡ length o
-  unfolding over
-  over-length h = simp (length-append, length-drop) (omega arith)
+  overlaid-length : length bs ≤ length o → length (overlaid o bs) ≡ length o
+  unfolding overlaid
+  overlaid-length h = simp (length-append, length-drop) (omega arith)
 
-  over-set : (v : ℕ) → length bs < length o → set (over o bs) (length bs) v ≡ over o (bs ++ (v ∷ []))
-  unfolding over
-  over-set v h = rw (drop-cons o (length bs) 0 h, set-append-seam, length-append, add-one, append-assoc)
+  overlaid-set : (v : ℕ) → length bs < length o → set (overlaid o bs) (length bs) v ≡ overlaid o (bs ++ (v ∷ []))
+  unfolding overlaid
+  overlaid-set v h = rw (drop-cons o (length bs) 0 h, set-append-seam, length-append, add-one, append-assoc)
 
 -- ---- a byte after the other
 
 pub nothing : (o : List ℕ) → Wrote o o 0 []
-unfolding over
+unfolding overlaid
 nothing o = record { count = refl; bytes = refl }
 
 pub more : {o out : List ℕ} {k : ℕ} {bs : List ℕ} (v : ℕ) → Wrote o out k bs → k < length o → Wrote o (set out k v) (k + 1) (bs ++ (v ∷ []))
-more {o} {out} {k} {bs} v w h = record { count = simp length-append (omega (arith, w .count)); bytes = rw (w .count, w .bytes) (over-set o bs v (omega (arith, w .count))) }
+more {o} {out} {k} {bs} v w h = record { count = simp length-append (omega (arith, w .count)); bytes = rw (w .count, w .bytes) (overlaid-set o bs v (omega (arith, w .count))) }
 
 pub next-byte : {o out : List ℕ} {i : ℕ} (text : List ℕ) → Wrote o out i (take i text) → i < length text → i < length o → Wrote o (set out i (getD text i 0)) (i + 1) (take (i + 1) text)
 next-byte {o} {out} {i} text w h g = let e : take (i + 1) text ≡ take i text ++ (getD text i 0 ∷ []) = rw (add-one, take-suc text i 0 h) in rw e (more (getD text i 0) w g)
@@ -49,13 +49,13 @@ back r xs ys = take r xs ++ (ys ++ drop (length xs - r) (drop r xs))
 
 module _ {o xs : List ℕ} {r : ℕ} {bs : List ℕ} (s : Wrote o xs r bs) (h : length bs ≤ length o) where
   pub long : length xs ≡ length o
-  long = ap length (s .bytes) ∙ over-length o bs h
+  long = ap length (s .bytes) ∙ overlaid-length o bs h
 
   pub inside : r ≤ length xs
   inside = omega (arith, long, s .count)
 
   after : drop r xs ≡ drop (length bs) o
-  unfolding over
+  unfolding overlaid
   after = rw (s .count, s .bytes) (drop-append-seam bs (drop (length bs) o))
 
   size : length (drop (length bs) o) ≡ length xs - r
@@ -68,7 +68,7 @@ module _ {o xs : List ℕ} {r : ℕ} {bs : List ℕ} (s : Wrote o xs r bs) (h : 
   room = rw (part, length-drop)
 
   pub then : {ys : List ℕ} {k : ℕ} {cs : List ℕ} → Wrote (from r xs) ys k cs → Wrote o (back r xs ys) (r + k) (bs ++ cs)
-  unfolding over
+  unfolding overlaid
   then {ys} {k} {cs} t =
       let e₁ : take r xs ≡ bs = rw (s .count, s .bytes) (take-append-seam bs (drop (length bs) o)) in
       let e₂ : drop (length xs - r) (drop r xs) ≡ [] = rw (after, ← size) (drop-length (drop (length bs) o)) in

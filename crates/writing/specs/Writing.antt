@@ -12,10 +12,10 @@ ascii string.[] = []
 ascii (string._∷_ c rest) = code c ∷ ascii rest
 
 -- bs laid over the front of o: "bytes after the report's length are unchanged"
-unfoldable pub over : List ℕ → List ℕ → List ℕ
-over o bs = bs ++ drop (length bs) o
+unfoldable pub overlaid : List ℕ → List ℕ → List ℕ
+overlaid o bs = bs ++ drop (length bs) o
 
 -- what a function ensures that writes bs to the front of o: it answers r, how many bytes these are, and o has become xs
 pub record Wrote (o xs : List ℕ) (r : ℕ) (bs : List ℕ) : Type 0 where
   pub count : r ≡ length bs
-  pub bytes : xs ≡ over o bs
+  pub bytes : xs ≡ overlaid o bs

@@ -1,3 +1,4 @@
+pub mod Ranges
 pub mod Checks
 pub mod PressureDoors
 pub mod DensityDoors

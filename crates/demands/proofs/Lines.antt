@@ -1,11 +1,8 @@
 -- A line: each refusal exactly under its condition, and what its milligrams are. Assumes nothing.
 use Prim.Native.Nat.{ℕ}
 use mathlib.Core.Path.{_≡_, refl, sym, ap, subst, _∙_}
-use mathlib.Core.Bool.{Bool, true, false, _&&_, true≢false}
-use native.Mathlib.Omega.{arith}
-use lib.Dec.{leb}
+use mathlib.Core.Bool.{Bool, true, false, true≢false}
 use lib.Ieee.{Float, binary64, div}
-use borrow.Author.Tests.{le-leb, lt-leb, leb-true, leb-false}
 use Rattle.numeric.specs.Number.{whole}
 use Rattle.text.specs.declared.field.Field.{Field}
 use Rattle.lines.specs.Line.{temperatureOf, readingOf, lineOf}
@@ -23,33 +20,25 @@ use Rattle.whole.specs.declared.whole.Below.{Below}
 use Rattle.weighing.specs.Weighing.{ifNumber, ifKelvin, isBlank, isVolume, asked, mass, milligrams, answered, when, filled, weighed}
 use Rattle.report.specs.declared.report.Weighed.{Weighed}
 use Rattle.demands.specs.Demands.{Exactly}
+use Rattle.demands.proofs.Ranges.{Outside, below-one, above-top, inside, outside, is-inside, is-outside}
 use Rattle.demands.specs.Lines as lines
 use Rattle.demands.specs.Lines.{Dashed, in-number, in-temperature, in-value, in-volume, Asked, by-pressure, by-density, Figures, Volume, NoVolume, none, too-large, product, RefusesLine, no-volume, by-door, no-product, Weighs}
 
 -- ---- the volume
 
 in-volume-range : (v : ℕ) → isVolume v ≡ true → Volume v
-in-volume-range v e = go (leb 1 v) (leb v 1_000_000) refl refl e
-  where
-    go : (a b : Bool) → leb 1 v ≡ a → leb v 1_000_000 ≡ b → (a && b) ≡ true → Volume v
-    go true true p q e = record { at-least = leb-true 1 v p; at-most = leb-true v 1_000_000 q }
-    go true false p q e = absurd (true≢false (sym e))
-    go false b p q e = absurd (true≢false (sym e))
+in-volume-range v e = let r = inside 1_000_000 v e in record { at-least = r .0; at-most = r .1 }
 
-out-of-volume-range : (v : ℕ) → isVolume v ≡ false → NoVolume v
-out-of-volume-range v e = go (leb 1 v) (leb v 1_000_000) refl refl e
-  where
-    go : (a b : Bool) → leb 1 v ≡ a → leb v 1_000_000 ≡ b → (a && b) ≡ false → NoVolume v
-    go true true p q e = absurd (true≢false e)
-    go true false p q e = too-large (leb-false v 1_000_000 q)
-    go false b p q e = none (omega (arith, leb-false 1 v p))
+out-of-volume-range : {v : ℕ} → Outside 1_000_000 v → NoVolume v
+out-of-volume-range (below-one e) = none e
+out-of-volume-range (above-top h) = too-large h
 
 is-volume : {v : ℕ} → Volume v → isVolume v ≡ true
-is-volume {v} r = rw (le-leb 1 v (r .at-least), le-leb v 1_000_000 (r .at-most))
+is-volume {v} r = is-inside 1_000_000 v (r .at-least) (r .at-most)
 
 is-no-volume : {v : ℕ} → NoVolume v → isVolume v ≡ false
-is-no-volume (none e) = rw e
-is-no-volume {v} (too-large h) = rw (le-leb 1 v (omega arith), lt-leb v 1_000_000 h)
+is-no-volume {v} (none e) = is-outside 1_000_000 v (below-one e)
+is-no-volume {v} (too-large h) = is-outside 1_000_000 v (above-top h)
 
 -- ---- what a line comes to, by its parts
 
@@ -72,7 +61,7 @@ module _ (c : Cylinder) where
     where
       go : (b : Bool) → isVolume v ≡ b → Comes c (when b (answered a v) (Weighed.Refused 2))
       go true r = of-answer a f (in-volume-range v r)
-      go false r = refused (no-volume f (out-of-volume-range v r))
+      go false r = refused (no-volume f (out-of-volume-range (outside 1_000_000 v r)))
 
   of-parts : (n : Field) → c .number ≡ n → (k : Field) → c .temperature ≡ k → (g : Field) → c .volume ≡ g → (d : Kind) → c .kind ≡ d → (x : Field) → c .value ≡ x
       → Comes c (ifNumber n (λ _. ifKelvin (temperatureOf k) (λ t. ifNumber g (λ v. when (isBlank (readingOf d x)) (Weighed.Refused 1) (filled t (readingOf d x) v)))))

@@ -27,8 +27,9 @@ use Rattle.verdict.specs.declared.verdict.Checked.{Checked}
 use Rattle.verdict.specs.declared.verdict.Summed.{Summed}
 use Rattle.score.proofs.score.score.Reads as score
 use Rattle.demands.specs.Demands.{Exactly}
+use Rattle.demands.proofs.Ranges.{Outside, below-one, above-top, inside, outside, is-inside, is-outside}
 use Rattle.demands.specs.Sheets as sheets
-use Rattle.demands.specs.Sheets.{lines, OneRefused, here, there, AllWeighed, none-left, one-more, sum, NoNeed, out, Lined, Needs, Reported, not-in-form, no-lines, many-lines, no-need, one-refused, covered, short, Delivered, fits, too-long, Delivers}
+use Rattle.demands.specs.Sheets.{lines, OneRefused, here, there, AllWeighed, none-left, one-more, sum, NoNeed, no-agent, too-much, Lined, Needs, Reported, not-in-form, no-lines, many-lines, no-need, one-refused, covered, short, Delivered, fits, too-long, Delivers}
 
 -- ---- the total: refused where one line is, and else the sum of all lines' milligrams
 
@@ -68,6 +69,12 @@ unfolding total
 weighed-total none-left = refl
 weighed-total (one-more e a) = rw (e, weighed-total a)
 
+-- ---- the need
+
+out-of-need : {mg : ℕ} → Outside 9_999_999_999 mg → NoNeed (Field.Number mg)
+out-of-need (below-one e) = rw e no-agent
+out-of-need (above-top h) = too-much h
+
 -- ---- the report
 
 module _ (t : List ℕ) where
@@ -87,8 +94,8 @@ module _ (t : List ℕ) where
     of-need (Field.Number mg) e = go (isNeed mg) refl
       where
         go : (c : Bool) → isNeed mg ≡ c → Reported t (finished (when c (Checked.Need mg) (Checked.SentBack 12)) (map mark (lines b)))
-        go true r = of-total b mg (record { lined = l; need = e; in-range = r }) (total (map mark (lines b))) (tally (lines b))
-        go false r = no-need l (subst NoNeed (sym e) (out r))
+        go true r = let i = inside 9_999_999_999 mg r in of-total b mg (record { lined = l; need = e; at-least = i .0; at-most = i .1 }) (total (map mark (lines b))) (tally (lines b))
+        go false r = no-need l (subst NoNeed (sym e) (out-of-need (outside 9_999_999_999 mg r)))
 
   of-form : (o : Option Bank) → inForm t ≡ o → Reported t (report o)
   unfolding report checked
@@ -115,10 +122,11 @@ module _ (t : List ℕ) where
 
   without-need : (b : Bank) → Lined t b → (f : Field) → b .need ≡ f → NoNeed f → report (inForm t) ≡ sentBack 12
   without-need b l f e sheets.blank = past-count b Field.Blank l e
-  without-need b l f e (out {mg} r) = past-count b (Field.Number mg) l e ∙ rw r
+  without-need b l f e no-agent = past-count b (Field.Number 0) l e
+  without-need b l f e (too-much {mg} h) = past-count b (Field.Number mg) l e ∙ rw (is-outside 9_999_999_999 mg (above-top h))
 
   needing : {b : Bank} {need : ℕ} → Needs t b need → report (inForm t) ≡ linesBytes 1 (map mark (lines b)) ++ endingBytes (ending need (total (map mark (lines b))))
-  needing {b} {need} n = past-count b (Field.Number need) (n .lined) (n .need) ∙ rw (n .in-range)
+  needing {b} {need} n = past-count b (Field.Number need) (n .lined) (n .need) ∙ rw (is-inside 9_999_999_999 need (n .at-least) (n .at-most))
 
   pub only : {bs : List ℕ} → Reported t bs → report (inForm t) ≡ bs
   unfolding report checked ending

@@ -1,7 +1,6 @@
 -- What is demanded of a sheet: its report, for every byte string. "Order for a sheet: 14, 10, 11, 12, 13, and 15 last". Definitions only.
 use Prim.Native.Nat.{ℕ, _+_, _≤_, _<_}
 use mathlib.Core.Path.{_≡_}
-use mathlib.Core.Bool.{true, false}
 use mathlib.Core.List.{List, [], _∷_, _++_, map}
 use mathlib.Core.Option.{none, some}
 use denote.Ref.{RefT, now}
@@ -15,7 +14,6 @@ use Rattle.report.specs.Report.{linesBytes, endingBytes, sentBack}
 use Rattle.report.specs.declared.report.Weighed.{Weighed}
 use Rattle.report.specs.declared.report.Ending.{Ending}
 use Rattle.report.specs.declared.report.Written.{Written}
-use Rattle.verdict.specs.Verdict.{isNeed}
 use Rattle.score.specs.Score.{mark}
 
 abbrev pub lines : Bank → List Line
@@ -36,10 +34,11 @@ abbrev pub sum : List ℕ → ℕ
 sum [] = 0
 sum (mg ∷ mgs) = mg + sum mgs
 
--- "needed agent blank or out of range"
+-- "needed agent blank or out of range": not "1 to 9,999,999,999 mg"
 pub data NoNeed : Field → Type 0 where
   blank : NoNeed Field.Blank
-  out : {mg : ℕ} → isNeed mg ≡ false → NoNeed (Field.Number mg)
+  no-agent : NoNeed (Field.Number 0)
+  too-much : {mg : ℕ} → 9_999_999_999 < mg → NoNeed (Field.Number mg)
 
 -- in the form, with 1 to 32 lines
 pub record Lined (t : List ℕ) (b : Bank) : Type 0 where
@@ -51,7 +50,8 @@ pub record Lined (t : List ℕ) (b : Bank) : Type 0 where
 pub record Needs (t : List ℕ) (b : Bank) (mg : ℕ) : Type 0 where
   pub lined : Lined t b
   pub need : b .need ≡ Field.Number mg
-  pub in-range : isNeed mg ≡ true
+  pub at-least : 1 ≤ mg
+  pub at-most : mg ≤ 9_999_999_999
 
 -- the report of a text
 pub data Reported (t : List ℕ) : List ℕ → Type 0 where

@@ -16,6 +16,7 @@ use Rattle.densities.proofs.Densities.{vapour-nonneg, liquid-nonneg}
 use Rattle.limits.specs.Limits.{document01}
 use Rattle.equation.specs.Equation.{Equation, of1996}
 use Rattle.pressure_door.specs.Search.{figure}
+use Rattle.pressure_door.specs.PressureDoor.{pressureDoor}
 use Rattle.density_door.specs.DensityDoor.{densityDoor}
 use Rattle.demands.specs.Demands as demands
 use Rattle.demands.specs.Demands.{Whatever, Exactly, Barred, no-number, no-temperature, no-value, in-box, PastP, Ranged, supercritical, RefusesP, barred, line-fails, on-line, vapour-fails, vapour-end-fails, liquid-fails, liquid-end-fails, no-crossing, probe-fails, state-fails, Answered, RefusesD, stopped, no-vapour, no-liquid, between, no-pressure, pressure-outside, no-state, AnsweredD, Sane, Settled, given, not-given, eightOf, SameEight, LiesInRange}
@@ -102,11 +103,17 @@ settled : (r : Answer) → ((n : ℕ) → r ≡ answer.Refused n → (3 ≤ n) �
 settled (answer.State x) h = given x refl
 settled (answer.Refused n) h = not-given n refl (h n refl .0) (h n refl .1)
 
+pub pressure-settles : (t p : Float) → Settled (pressureDoor of1996 document01 t p)
+pressure-settles t p = settled _ (λ n e. of-pressure (pressure-refusals of1996 document01 sane t p n .0 e))
+
+pub density-settles : (t rho : Float) → Settled (densityDoor of1996 document01 t rho)
+density-settles t rho = settled _ (λ n e. of-density (density-refusals of1996 document01 t rho n .0 e))
+
 pub from-pressure-settles : Whatever (from-pressure.Post tt) (λ a r. Settled r)
-from-pressure-settles a r s h = settled r (λ n e. of-pressure (from-pressure-refuses a r s h n .0 e))
+from-pressure-settles a r s h = rw h (pressure-settles (a .0) (a .1 .0))
 
 pub from-density-settles : Whatever (from-density.Post tt) (λ a r. Settled r)
-from-density-settles a r s h = settled r (λ n e. of-density (from-density-refuses a r s h n .0 e))
+from-density-settles a r s h = rw h (density-settles (a .0) (a .1 .0))
 
 -- ---- DEMAND 3: the density and the next float lie in the range, and the pressure passes the one asked for between them; 9 exactly where there is no crossing
 pub from-pressure-answers : Whatever (from-pressure.Post tt) (λ a r. (x : State) → r ≡ answer.State x → Answered of1996 document01 (a .0) (a .1 .0) x)

@@ -5,5 +5,6 @@ pub mod DensityDoors
 pub mod Demands
 pub mod Lines
 pub mod Sheets
+pub mod Lengths
 pub mod Readings
 pub mod Examples

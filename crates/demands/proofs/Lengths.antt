@@ -1,0 +1,113 @@
+-- How long a report is, whatever the text: at most 32 lines of 46 bytes and an ending of 40, since each number has 20 digits at most. Assumes nothing.
+use Prim.Native.Nat.{ℕ, _+_, _*_, _^_, _≤_, _<_}
+use mathlib.Core.Path.{_≡_}
+use mathlib.Core.List.{List, [], _∷_, _++_, map}
+use native.Mathlib.Omega.{arith}
+use lib.ListN.{length, length-append, length-map}
+use lib.Ieee.{Float, binary64, div}
+use Rattle.numeric.specs.Number.{whole}
+use Rattle.text.specs.Decimal.{decimal}
+use Rattle.text.specs.declared.field.Field.{Field}
+use Rattle.text.proofs.Decimals.{digits-most}
+use Rattle.lines.specs.Line.{lineOf}
+use Rattle.lines.specs.declared.cylinder.Kind.{Kind}
+use Rattle.lines.specs.declared.cylinder.Cylinder.{Cylinder}
+use Rattle.sheet.specs.Form.{Bank, inForm}
+use Rattle.answers.specs.declared.answer.Answer.{Answer}
+use Rattle.weighing.specs.Weighing.{weighed, Under}
+use Rattle.weighing.proofs.Weights.{weighed-under}
+use Rattle.writing.specs.Writing.{ascii}
+use Rattle.report.specs.Report.{weighedBytes, lineBytes, linesBytes, endingBytes}
+use Rattle.report.specs.declared.report.Weighed.{Weighed}
+use Rattle.report.specs.declared.report.Ending.{Ending}
+use Rattle.report.proofs.Reports.{between-length, line-length}
+use Rattle.score.specs.Score.{mark, report}
+use Rattle.demands.specs.Demands.{Settled, given, not-given}
+use Rattle.demands.specs.Lines as lines
+use Rattle.demands.specs.Lines.{Asked, by-pressure, by-density, RefusesLine, no-volume, by-door, no-product}
+use Rattle.demands.specs.Sheets as sheets
+use Rattle.demands.specs.Sheets.{sum, AllWeighed, Lined, Reported, not-in-form, no-lines, many-lines, no-need, one-refused, covered, short}
+use Rattle.demands.proofs.Demands.{pressure-settles, density-settles}
+use Rattle.demands.proofs.Lines.{Comes, refused, comes}
+use Rattle.demands.proofs.Sheets.{reported, largest-total}
+
+-- ---- a line's refusal number
+
+asked-settles : {t : Float} {k : Kind} {f : Field} {a : Answer} → Asked t k f a → Settled a
+asked-settles {t} (by-pressure n) = pressure-settles t (whole n)
+asked-settles {t} (by-density n) = density-settles t (div binary64 (whole n) (whole 1000))
+
+door-number : {n : ℕ} → Settled (Answer.Refused n) → (1 ≤ n) × (n ≤ 9)
+door-number {n} (given x e) = let z : _≡_ {A = ℕ} 0 1 = cc in absurd (omega arith)
+door-number {n} (not-given m e h k) = let z : n ≡ m = cc in (omega arith, omega arith)
+
+-- a line is refused by a number from 1 to 9
+pub line-number : {c : Cylinder} {n : ℕ} → RefusesLine c n → (1 ≤ n) × (n ≤ 9)
+line-number (lines.blank d) = (omega arith, omega arith)
+line-number (no-volume f r) = (omega arith, omega arith)
+line-number (by-door f r) = door-number (asked-settles (f .asked))
+line-number (no-product f r e) = (omega arith, omega arith)
+
+-- ---- the parts
+
+between-most : (front : List ℕ) (n : ℕ) (back : List ℕ) → n < 10 ^ 20 → length (front ++ decimal n ++ back) ≤ length front + 20 + length back
+between-most front n back h = let d = digits-most 19 n h in omega (arith, between-length front n back)
+
+module _ (c : Cylinder) where
+  weighed-most : (w : Weighed) → Comes c w → Under w → length (weighedBytes w) ≤ 23
+  unfolding weighedBytes
+  weighed-most (Weighed.Mass mg) r u = between-most (ascii "M ") mg (ascii "\n") (omega arith)
+  weighed-most (Weighed.Refused n) (refused r) u = let h = line-number r in between-most (ascii "R ") n (ascii "\n") (omega arith)
+
+  line-most : (i : ℕ) → i < 10 ^ 20 → length (lineBytes i (weighed (lineOf c))) ≤ 46
+  line-most i h =
+      let w = weighed-most (weighed (lineOf c)) (comes c) (weighed-under (lineOf c)) in
+      omega (arith, line-length i (weighed (lineOf c)), between-most (ascii "L ") i (ascii " ") h)
+
+lines-most : (i : ℕ) (cs : List Cylinder) → i + length cs < 10 ^ 20 → length (linesBytes i (map mark (map lineOf cs))) ≤ length cs * 46
+unfolding linesBytes
+lines-most i [] h = omega arith
+lines-most i (c ∷ cs) h = let ih = lines-most (i + 1) cs (omega arith) in let l = line-most c i (omega arith) in simp length-append (omega arith)
+
+-- what an ending writes
+abbrev number-in : Ending → ℕ
+number-in (Ending.Covered mg) = mg
+number-in (Ending.Short mg) = mg
+number-in (Ending.SentBack n) = n
+
+ending-most : (e : Ending) → number-in e < 10 ^ 20 → (1 ≤ length (endingBytes e)) × (length (endingBytes e) ≤ 40)
+unfolding endingBytes
+ending-most (Ending.Covered mg) h = (omega arith, omega (arith, between-most (ascii "TOTAL ") mg (ascii " COVERED\n") h))
+ending-most (Ending.Short mg) h = (omega arith, omega (arith, between-most (ascii "TOTAL ") mg (ascii " SHORT\n") h))
+ending-most (Ending.SentBack n) h = (omega arith, omega (arith, between-most (ascii "SENT BACK ") n (ascii "\n") h))
+
+-- ---- the report
+
+abbrev Sized : List ℕ → Type 0
+Sized bs = (1 ≤ length bs) × (length bs ≤ 1512)
+
+module _ (t : List ℕ) where
+  alone : (n : ℕ) → n < 10 ^ 20 → Sized (endingBytes (Ending.SentBack n))
+  alone n h = let r = ending-most (Ending.SentBack n) h in (r .0, omega (arith, r .1))
+
+  after-lines : {b : Bank} → Lined t b → (e : Ending) → number-in e < 10 ^ 20 → Sized (linesBytes 1 (map mark (sheets.lines b)) ++ endingBytes e)
+  after-lines {b} l e h =
+      let m = lines-most 1 (b .cylinders) (omega (arith, l .at-most)) in
+      let r = ending-most e h in
+      (simp length-append (omega (arith, r .0)), simp length-append (omega (arith, r .1, m, l .at-most)))
+
+  total-most : {b : Bank} {mgs : List ℕ} → Lined t b → AllWeighed (sheets.lines b) mgs → sum mgs < 10 ^ 20
+  total-most {b} l a = omega (arith, largest-total a (omega (arith, length-map (b .cylinders) lineOf, l .at-most)))
+
+  report-length : {bs : List ℕ} → Reported t bs → Sized bs
+  report-length (not-in-form e) = alone 14 (omega arith)
+  report-length (no-lines e z) = alone 10 (omega arith)
+  report-length (many-lines e h) = alone 11 (omega arith)
+  report-length (no-need l n) = alone 12 (omega arith)
+  report-length (one-refused n r) = after-lines (n .lined) (Ending.SentBack 13) (omega arith)
+  report-length (covered {b} {need} {mgs} n a h) = after-lines (n .lined) (Ending.Covered (sum mgs)) (total-most (n .lined) a)
+  report-length (short {b} {need} {mgs} n a h) = after-lines (n .lined) (Ending.Short (sum mgs)) (total-most (n .lined) a)
+
+-- EVERY REPORT has at least one byte and at most 1,512
+pub length-of-report : (t : List ℕ) → (1 ≤ length (report (inForm t))) × (length (report (inForm t)) ≤ 1512)
+length-of-report t = report-length t (reported t)

@@ -1,12 +1,8 @@
 -- The checks, and the steps after them. Assumes nothing.
-use mathlib.Core.Path.{sym, ap, _∙_}
-use Rattle.answers.specs.Answer.{passed, refusal}
+use mathlib.Core.Path.{_≡_, sym, _∙_}
 use Rattle.checks.specs.Check.{checks}
 use Rattle.limits.specs.Limits.{document01}
-use Rattle.checks.specs.declared.check.Check.{Check}
-use Rattle.limits.specs.declared.limits.Limits.{Limits}
-use Rattle.equation.specs.Equation.{of1996}
-use Rattle.density_door.specs.DensityDoor.{within, densityDoor}
+use Rattle.density_door.specs.DensityDoor.{densityDoor}
 use borrow.Author.Needs.{needs}
 use Rattle.density_door.proofs.density_door.from_density.Statement.{statement}
 use Rattle.density_door.proofs.density_door.from_density.Tie as tie
@@ -26,24 +22,20 @@ enum-told-2 c = search needs
 refusal-requires : tie.Need-refusal-requires
 refusal-requires c κs = search needs
 
+-- what was checked
+known : (c : tie.After-check-inputs) → (let a = c .before .before .args in checks document01 (document01 .asked .density) (document01 .critical .density) (a .t) (a .rho) ≡ c .check-inputs .result)
+known c = rw (← c .before .document-01 .ensures) (sym (c .check-inputs .ensures))
+
 returns : tie.Need-returns
 unfolding densityDoor
-returns c =
-    let a = c .before .before .before .before .before .args in
-    let k = c .before .before .before in
-    let e = sym (k .check-inputs .ensures ∙ ap (λ (l : Limits). checks l (l .asked .density) (l .critical .density) (a .t) (a .rho)) (k .before .document-01 .ensures)) ∙ c .before .enum-told2 .given .1 in
-    c .refusal .ensures ∙ ap refusal (c .before .enum-told2 .given .1) ∙ sym (ap (λ (w : Check). passed w (within of1996 document01 (a .t) (a .rho))) e)
+returns c = let e = c .before .enum-told2 .given .1 in c .refusal .ensures ∙ rw (known (c .before .before .before) ∙ e, e)
 
 enter-requires : tie.Need-enter-requires
 enter-requires c κs = search needs
 
 returns-2 : tie.Need-returns-2
 unfolding densityDoor
-returns-2 c =
-    let a = c .before .before .before .before .before .args in
-    let k = c .before .before .before in
-    let e = sym (k .check-inputs .ensures ∙ ap (λ (l : Limits). checks l (l .asked .density) (l .critical .density) (a .t) (a .rho)) (k .before .document-01 .ensures)) ∙ c .before .enum-told .given .1 in
-    c .enter .ensures ∙ sym (ap (λ (w : Check). passed w (within of1996 document01 (a .t) (a .rho))) e)
+returns-2 c = c .enter .ensures ∙ rw (known (c .before .before .before) ∙ c .before .enum-told .given .1)
 
 pub from-density-spec : {M : Type 1} → statement M
 from-density-spec =

@@ -1,10 +1,10 @@
 -- Each step is the definition's. Assumes nothing.
-use mathlib.Core.Path.{refl, sym, ap, subst, _∙_}
-use lib.Ieee.{binary64, mul}
-use Rattle.numeric.specs.Working.{checked}
+use mathlib.Core.Path.{_≡_, sym, subst, _∙_}
+use Rattle.numeric.specs.declared.working.Worked.the-variants.{Number}
+use Rattle.formulas.specs.Formula.{num, _⊗_, work}
+use Rattle.densities.specs.Density.{liquidDensity}
 use Rattle.densities.proofs.Densities.{liquid-nonneg}
 use Rattle.limits.specs.Limits.{document01}
-use Rattle.limits.specs.declared.limits.Limits.{Limits}
 use Rattle.equation.specs.Equation.{of1996}
 use Rattle.pressure_door.specs.PressureDoor.{liquid}
 use Rattle.pressure_door.proofs.Doors.{Searchable, searchable, product, product-nonneg}
@@ -26,7 +26,7 @@ enum-told c = search needs
 
 returns : tie.Need-returns
 unfolding liquid of1996
-returns c = rw (sym (c .before .before .liquid-density .ensures) ∙ c .enum-told .given .1) refl
+returns c = rw (sym (c .before .before .liquid-density .ensures) ∙ c .enum-told .given .1)
 
 checked-requires : tie.Need-checked-requires
 checked-requires c κs = search needs
@@ -37,33 +37,24 @@ enum-known-from c = search needs
 enum-told-2 : tie.Need-enum-told-2
 enum-told-2 c = search needs
 
+-- past the product: the density, and what the end was worked to
+known : (c : tie.After-checked) → (let d = c .before .before .before .d .given .0 .0 in (liquidDensity (c .before .before .before .before .before .before .before .args .t) ≡ Number d) × (work (num (document01 .liquid) ⊗ num d) ≡ c .checked .result))
+known c = let k = c .before .before .before in (sym (k .before .before .liquid-density .ensures) ∙ k .d .given .1, product (document01 .liquid) (k .d .given .0 .0) _ (rw (k .before .before .before .document-01 .ensures) at (c .checked .ensures)))
+
 returns-2 : tie.Need-returns-2
 unfolding liquid of1996
-returns-2 c =
-    let doc = c .before .before .before .before .before .before .before .before .document-01 .ensures in
-    let d = c .before .before .before .before .before .d .given .0 .0 in
-    let e = sym (c .before .before .before .before .before .before .before .liquid-density .ensures) ∙ c .before .before .before .before .before .d .given .1 in
-    let f = product (document01 .liquid) d _ (c .before .before .checked .ensures ∙ ap (λ (l : Limits). checked (mul binary64 (l .liquid) d)) doc) ∙ c .enum-told2 .given .1 in
-    rw (e, f) refl
+returns-2 c = let k = known (c .before .before) in rw (k .0, k .1 ∙ c .enum-told2 .given .1)
 
 search-at-requires : tie.Need-search-at-requires
 search-at-requires c κs =
-    let doc = c .before .before .before .before .before .before .before .before .before .document-01 .ensures in
-    let d = c .before .before .before .before .before .before .d .given .0 .0 in
-    let e = sym (c .before .before .before .before .before .before .before .before .liquid-density .ensures) ∙ c .before .before .before .before .before .before .d .given .1 in
-    let f = product (document01 .liquid) d _ (c .before .before .before .checked .ensures ∙ ap (λ (l : Limits). checked (mul binary64 (l .liquid) d)) doc) ∙ c .before .from .given .1 in
-    let s = subst Searchable (sym doc) searchable in
-    let x = product-nonneg (document01 .liquid) d _ (searchable .liquid) (liquid-nonneg _ d e) f in
+    let k = known (c .before .before .before) in
+    let x = product-nonneg (document01 .liquid) _ _ (searchable .liquid) (liquid-nonneg _ _ (k .0)) (k .1 ∙ c .before .from .given .1) in
+    let s = subst Searchable (sym (c .before .before .before .before .before .before .before .before .before .document-01 .ensures)) searchable in
     (x .0, (s .to, s .held))
 
 returns-3 : tie.Need-returns-3
 unfolding liquid of1996
-returns-3 c =
-    let doc = c .before .before .before .before .before .before .before .before .before .before .document-01 .ensures in
-    let d = c .before .before .before .before .before .before .before .d .given .0 .0 in
-    let e = sym (c .before .before .before .before .before .before .before .before .before .liquid-density .ensures) ∙ c .before .before .before .before .before .before .before .d .given .1 in
-    let f = product (document01 .liquid) d _ (c .before .before .before .before .checked .ensures ∙ ap (λ (l : Limits). checked (mul binary64 (l .liquid) d)) doc) ∙ c .before .before .from .given .1 in
-    c .search-at .ensures ∙ rw (doc, e, f) refl
+returns-3 c = let k = known (c .before .before .before .before) in c .search-at .ensures ∙ rw (c .before .before .before .before .before .before .before .before .before .before .document-01 .ensures, k .0, k .1 ∙ c .before .before .from .given .1)
 
 pub as-liquid-spec : {M : Type 1} → statement M
 as-liquid-spec =

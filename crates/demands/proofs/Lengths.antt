@@ -17,10 +17,10 @@ use Rattle.answers.specs.declared.answer.Answer.{Answer}
 use Rattle.weighing.specs.Weighing.{weighed, Under}
 use Rattle.weighing.proofs.Weights.{weighed-under}
 use Rattle.writing.specs.Writing.{ascii}
-use Rattle.report.specs.Report.{weighedBytes, lineBytes, linesBytes, endingBytes}
+use Rattle.report.specs.Report.{lineBytes, linesBytes, endingBytes}
 use Rattle.report.specs.declared.report.Weighed.{Weighed}
 use Rattle.report.specs.declared.report.Ending.{Ending}
-use Rattle.report.proofs.Reports.{between-length, line-length}
+use Rattle.report.proofs.Reports.{between-length, number-of, line-size}
 use Rattle.score.specs.Score.{mark, report}
 use Rattle.demands.specs.Demands.{Settled, given, not-given}
 use Rattle.demands.specs.Lines as lines
@@ -28,7 +28,7 @@ use Rattle.demands.specs.Lines.{Asked, by-pressure, by-density, RefusesL
 use Rattle.demands.specs.Sheets as sheets
 use Rattle.demands.specs.Sheets.{sum, AllWeighed, Lined, Reported, not-in-form, no-lines, many-lines, no-need, one-refused, covered, short}
 use Rattle.demands.proofs.Demands.{pressure-settles, density-settles}
-use Rattle.demands.proofs.Lines.{Comes, refused, comes}
+use Rattle.demands.proofs.Lines.{Comes, refused, weighs, comes}
 use Rattle.demands.proofs.Sheets.{reported, largest-total}
 
 -- ---- a line's refusal number
@@ -53,16 +53,15 @@ line-number (no-product f r e) = (omega arith, omega arith)
 between-most : (front : List ℕ) (n : ℕ) (back : List ℕ) → n < 10 ^ 20 → length (front ++ decimal n ++ back) ≤ length front + 20 + length back
 between-most front n back h = let d = digits-most 19 n h in omega (arith, between-length front n back)
 
-module _ (c : Cylinder) where
-  weighed-most : (w : Weighed) → Comes c w → Under w → length (weighedBytes w) ≤ 23
-  unfolding weighedBytes
-  weighed-most (Weighed.Mass mg) r u = between-most (ascii "M ") mg (ascii "\n") (omega arith)
-  weighed-most (Weighed.Refused n) (refused r) u = let h = line-number r in between-most (ascii "R ") n (ascii "\n") (omega arith)
+-- a line's number: its milligrams, or from 1 to 9
+number-most : {c : Cylinder} {w : Weighed} → Comes c w → Under w → number-of w < 10 ^ 20
+number-most (refused r) u = omega (arith, line-number r .1)
+number-most (weighs r) u = omega arith
 
-  line-most : (i : ℕ) → i < 10 ^ 20 → length (lineBytes i (weighed (lineOf c))) ≤ 46
-  line-most i h =
-      let w = weighed-most (weighed (lineOf c)) (comes c) (weighed-under (lineOf c)) in
-      omega (arith, line-length i (weighed (lineOf c)), between-most (ascii "L ") i (ascii " ") h)
+line-most : (c : Cylinder) (i : ℕ) → i < 10 ^ 20 → length (lineBytes i (weighed (lineOf c))) ≤ 46
+line-most c i h =
+    let w = weighed (lineOf c) in
+    omega (arith, line-size i w, digits-most 19 i h, digits-most 19 (number-of w) (number-most (comes c) (weighed-under (lineOf c))))
 
 lines-most : (i : ℕ) (cs : List Cylinder) → i + length cs < 10 ^ 20 → length (linesBytes i (map mark (map lineOf cs))) ≤ length cs * 46
 unfolding linesBytes

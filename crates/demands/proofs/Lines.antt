@@ -19,6 +19,7 @@ use Rattle.whole.specs.Whole.{wholeBelow}
 use Rattle.whole.specs.declared.whole.Below.{Below}
 use Rattle.weighing.specs.Weighing.{ifNumber, ifKelvin, isBlank, isVolume, asked, mass, milligrams, answered, when, filled, weighed}
 use Rattle.report.specs.declared.report.Weighed.{Weighed}
+use Rattle.report.proofs.Reports.{number-of}
 use Rattle.demands.specs.Demands.{Exactly}
 use Rattle.demands.proofs.Ranges.{Outside, below-one, above-top, inside, outside, is-inside, is-outside}
 use Rattle.demands.specs.Lines as lines
@@ -134,10 +135,6 @@ module _ (c : Cylinder) where
 abbrev is-mass : Weighed → Bool
 is-mass (Weighed.Mass mg) = true
 is-mass (Weighed.Refused n) = false
-
-abbrev number-of : Weighed → ℕ
-number-of (Weighed.Mass mg) = mg
-number-of (Weighed.Refused n) = n
 
 refuses : (c : Cylinder) (w : Weighed) (n : ℕ) → Comes c w → w ≡ Weighed.Refused n → RefusesLine c n
 refuses c w n (refused r) e = subst (RefusesLine c) (ap number-of e) r

@@ -21,6 +21,16 @@ pub line-length : (i : ℕ) (w : Weighed) → length (lineBytes i w) ≡ length 
 unfolding lineBytes
 line-length i w = length-append (ascii "L " ++ decimal i ++ ascii " ") (weighedBytes w)
 
+-- the milligrams, or the number of the refusal
+abbrev pub number-of : Weighed → ℕ
+number-of (Weighed.Mass mg) = mg
+number-of (Weighed.Refused number) = number
+
+pub line-size : (i : ℕ) (w : Weighed) → length (lineBytes i w) ≡ length (decimal i) + length (decimal (number-of w)) + 6
+unfolding weighedBytes
+line-size i (Weighed.Mass mg) = omega (arith, line-length i (Weighed.Mass mg), between-length (ascii "L ") i (ascii " "), between-length (ascii "M ") mg (ascii "\n"))
+line-size i (Weighed.Refused n) = omega (arith, line-length i (Weighed.Refused n), between-length (ascii "L ") i (ascii " "), between-length (ascii "R ") n (ascii "\n"))
+
 -- ---- the marks of a sheet's lines
 
 -- of an array of structs the length of its elements' values is known

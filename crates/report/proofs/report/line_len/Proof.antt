@@ -1,9 +1,6 @@
 -- A line is six bytes and two numbers. Assumes nothing.
 use native.Mathlib.Omega.{arith}
-use Rattle.writing.specs.Writing.{ascii}
-use Rattle.report.specs.Report.{weighedBytes}
-use Rattle.report.specs.declared.report.Weighed.{Weighed}
-use Rattle.report.proofs.Reports.{between-length, line-length}
+use Rattle.report.proofs.Reports.{line-size}
 use borrow.Author.Needs.{needs}
 use Rattle.report.proofs.report.line_len.Statement.{statement}
 use Rattle.report.proofs.report.line_len.Tie as tie
@@ -39,20 +36,10 @@ add-result-4 : tie.Need-add-result-4
 add-result-4 c = search needs
 
 returns : tie.Need-returns
-unfolding weighedBytes
-returns c =
-    let arm = c .before .before in
-    let i = arm .before .before .before .args .i in
-    let mg = arm .w .given .0 .0 in
-    rw (arm .w .given .1) (omega (arith, line-length i (Weighed.Mass mg), between-length (ascii "L ") i (ascii " "), between-length (ascii "M ") mg (ascii "\n")))
+returns c = rw (c .before .before .w .given .1, line-size) (omega arith)
 
 returns-2 : tie.Need-returns-2
-unfolding weighedBytes
-returns-2 c =
-    let arm = c .before .before in
-    let i = arm .before .before .before .args .i in
-    let number = arm .w2 .given .0 .0 in
-    rw (arm .w2 .given .1) (omega (arith, line-length i (Weighed.Refused number), between-length (ascii "L ") i (ascii " "), between-length (ascii "R ") number (ascii "\n")))
+returns-2 c = rw (c .before .before .w2 .given .1, line-size) (omega arith)
 
 pub line-len-spec : {M : Type 1} → statement M
 line-len-spec =

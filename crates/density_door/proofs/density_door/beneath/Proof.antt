@@ -1,5 +1,7 @@
 -- Each step is the definition's. Assumes nothing.
-use mathlib.Core.Path.{refl, sym, _∙_}
+use mathlib.Core.Path.{_≡_, sym, _∙_}
+use Rattle.numeric.specs.declared.working.Worked.the-variants.{Number}
+use Rattle.densities.specs.Density.{vapourDensity, liquidDensity}
 use Rattle.equation.specs.Equation.{of1996}
 use Rattle.density_door.specs.DensityDoor.{below}
 use borrow.Author.Needs.{needs}
@@ -17,7 +19,7 @@ enum-told c = search needs
 
 returns : tie.Need-returns
 unfolding below of1996
-returns c = rw (sym (c .before .before .vapour-density .ensures) ∙ c .enum-told .given .1) refl
+returns c = rw (sym (c .before .before .vapour-density .ensures) ∙ c .enum-told .given .1)
 
 liquid-density-requires : tie.Need-liquid-density-requires
 liquid-density-requires c κs = search needs
@@ -30,25 +32,29 @@ enum-told-2 c = search needs
 
 returns-2 : tie.Need-returns-2
 unfolding below of1996
-returns-2 c = rw (sym (c .before .before .before .before .before .before .vapour-density .ensures) ∙ c .before .before .before .before .v .given .1, sym (c .before .before .liquid-density .ensures) ∙ c .enum-told2 .given .1) refl
+returns-2 c = rw (sym (c .before .before .before .before .before .before .vapour-density .ensures) ∙ c .before .before .before .before .v .given .1, sym (c .before .before .liquid-density .ensures) ∙ c .enum-told2 .given .1)
+
+-- past both densities
+known : (c : tie.After-l) → (let t = c .before .before .before .before .before .before .before .args .t in (vapourDensity t ≡ Number (c .before .before .before .before .v .given .0 .0)) × (liquidDensity t ≡ Number (c .l .given .0 .0)))
+known c = (sym (c .before .before .before .before .before .before .vapour-density .ensures) ∙ c .before .before .before .before .v .given .1, sym (c .before .before .liquid-density .ensures) ∙ c .l .given .1)
 
 returns-3 : tie.Need-returns-3
 unfolding below of1996
-returns-3 c = rw (sym (c .before .before .before .before .before .before .before .before .before .vapour-density .ensures) ∙ c .before .before .before .before .before .before .before .v .given .1, sym (c .before .before .before .before .before .liquid-density .ensures) ∙ c .before .before .before .l .given .1, c .before .if1 .taken, c .if2 .taken) refl
+returns-3 c = let k = known (c .before .before .before) in rw (k .0, k .1, c .before .if1 .taken, c .if2 .taken)
 
 in-phase-requires : tie.Need-in-phase-requires
 in-phase-requires c κs = search needs
 
 returns-4 : tie.Need-returns-4
 unfolding below of1996
-returns-4 c = c .in-phase .ensures ∙ rw (sym (c .before .before .before .before .before .before .before .before .before .before .vapour-density .ensures) ∙ c .before .before .before .before .before .before .before .before .v .given .1, sym (c .before .before .before .before .before .before .liquid-density .ensures) ∙ c .before .before .before .before .l .given .1, c .before .before .if1 .taken, c .before .if2 .left) refl
+returns-4 c = let k = known (c .before .before .before .before) in c .in-phase .ensures ∙ rw (k .0, k .1, c .before .before .if1 .taken, c .before .if2 .left)
 
 in-phase-requires-2 : tie.Need-in-phase-requires-2
 in-phase-requires-2 c κs = search needs
 
 returns-5 : tie.Need-returns-5
 unfolding below of1996
-returns-5 c = c .in-phase2 .ensures ∙ rw (sym (c .before .before .before .before .before .before .before .before .before .vapour-density .ensures) ∙ c .before .before .before .before .before .before .before .v .given .1, sym (c .before .before .before .before .before .liquid-density .ensures) ∙ c .before .before .before .l .given .1, c .before .if1 .left) refl
+returns-5 c = let k = known (c .before .before .before) in c .in-phase2 .ensures ∙ rw (k .0, k .1, c .before .if1 .left)
 
 pub beneath-spec : {M : Type 1} → statement M
 beneath-spec =

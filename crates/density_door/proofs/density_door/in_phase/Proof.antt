@@ -1,11 +1,8 @@
 -- Each step is the definition's. Assumes nothing.
-use mathlib.Core.Path.{refl, sym, ap, _∙_}
-use Rattle.isotherm.specs.declared.isotherm.Isotherm.{Isotherm}
-use Rattle.pressure.specs.Pressure.{pressureOn, pressure}
-use Rattle.state.specs.State.{stateOn, state}
-use Rattle.answers.specs.Answer.{settled}
-use Rattle.limits.specs.Limits.{outside}
-use Rattle.limits.specs.declared.limits.Limits.{Limits}
+use mathlib.Core.Path.{_≡_, sym, _∙_}
+use Rattle.pressure.specs.Pressure.{pressure}
+use Rattle.state.specs.State.{state}
+use Rattle.limits.specs.Limits.{document01, outside}
 use Rattle.equation.specs.Equation.{of1996}
 use Rattle.density_door.specs.DensityDoor.{inPhase}
 use borrow.Author.Needs.{needs}
@@ -27,20 +24,25 @@ enum-known-p c = search needs
 enum-told : tie.Need-enum-told
 enum-told c = search needs
 
+-- the pressure that was worked
+worked : (c : tie.After-pressure-on) → (let a = c .before .before .before .args in pressure (a .t) (a .rho) ≡ c .pressure-on .result)
+unfolding pressure
+worked c = rw (← c .before .at-temperature .ensures) (sym (c .pressure-on .ensures))
+
 returns : tie.Need-returns
-unfolding inPhase of1996 pressure
-returns c = rw (sym (c .before .before .pressure-on .ensures ∙ ap (λ (i : Isotherm). pressureOn i (c .before .before .before .before .before .args .rho)) (c .before .before .before .at-temperature .ensures)) ∙ c .enum-told .given .1) refl
+unfolding inPhase of1996
+returns c = rw (worked (c .before .before) ∙ c .enum-told .given .1)
 
 is-outside-requires : tie.Need-is-outside-requires
 is-outside-requires c κs = search needs
 
+-- whether it is out of range
+tested : (c : tie.After-is-outside) → outside (document01 .asked .pressure) (c .before .before .p .given .0 .0) ≡ c .is-outside .result
+tested c = rw (← c .before .before .before .before .before .before .document-01 .ensures) (sym (c .is-outside .ensures))
+
 returns-2 : tie.Need-returns-2
-unfolding inPhase of1996 pressure
-returns-2 c =
-    rw (
-      sym (c .before .before .before .before .before .pressure-on .ensures ∙ ap (λ (i : Isotherm). pressureOn i (c .before .before .before .before .before .before .before .before .args .rho)) (c .before .before .before .before .before .before .at-temperature .ensures)) ∙ c .before .before .before .p .given .1,
-      sym (c .before .is-outside .ensures ∙ ap (λ (l : Limits). outside (l .asked .pressure) (c .before .before .before .p .given .0 .0)) (c .before .before .before .before .before .before .before .document-01 .ensures)) ∙ c .if1 .taken,
-    ) refl
+unfolding inPhase of1996
+returns-2 c = rw (worked (c .before .before .before .before .before) ∙ c .before .before .before .p .given .1, tested (c .before) ∙ c .if1 .taken)
 
 state-on-requires : tie.Need-state-on-requires
 state-on-requires c κs = search needs
@@ -49,14 +51,10 @@ settle-requires : tie.Need-settle-requires
 settle-requires c κs = search needs
 
 returns-3 : tie.Need-returns-3
-unfolding inPhase of1996 pressure state
+unfolding inPhase of1996 state
 returns-3 c =
-    let a = c .before .before .before .before .before .before .before .before .before .before .args in
-    c .settle .ensures ∙ ap (settled (a .phase)) (c .before .state-on .ensures ∙ ap (λ (i : Isotherm). stateOn i (a .rho)) (c .before .before .before .before .before .before .before .before .at-temperature .ensures))
-    ∙ rw (
-      sym (c .before .before .before .before .before .before .before .pressure-on .ensures ∙ ap (λ (i : Isotherm). pressureOn i (c .before .before .before .before .before .before .before .before .before .before .args .rho)) (c .before .before .before .before .before .before .before .before .at-temperature .ensures)) ∙ c .before .before .before .before .before .p .given .1,
-      sym (c .before .before .before .is-outside .ensures ∙ ap (λ (l : Limits). outside (l .asked .pressure) (c .before .before .before .before .before .p .given .0 .0)) (c .before .before .before .before .before .before .before .before .before .document-01 .ensures)) ∙ c .before .before .if1 .left,
-    ) refl
+    c .settle .ensures
+    ∙ rw (c .before .state-on .ensures, c .before .before .before .before .before .before .before .before .at-temperature .ensures, worked (c .before .before .before .before .before .before .before) ∙ c .before .before .before .before .before .p .given .1, tested (c .before .before .before) ∙ c .before .before .if1 .left)
 
 pub in-phase-spec : {M : Type 1} → statement M
 in-phase-spec =

@@ -1,6 +1,7 @@
--- The ends are looked at as the definition has it.  Assumes nothing.
-use mathlib.Core.Path.{sym, _∙_}
+-- The ends are looked at as the definition has it. Assumes nothing.
+use mathlib.Core.Path.{_≡_, sym, _∙_}
 use native.Mathlib.Omega.{arith}
+use Rattle.numeric.specs.declared.working.Worked.the-variants.{Number}
 use Rattle.halving.specs.Halving.{met, first-above, second-not-above, at-first, at-second, failed}
 use Rattle.numeric.proofs.Numbers.{no-nan}
 use Rattle.halving.proofs.Halvings.{nowhere-back, breaks-back}
@@ -51,38 +52,30 @@ returns-3 c =
     let a = n .before .before .before .before .args in
     sym (breaks-back (figure (pressureOn (a .iso))) (a .p) (a .from) (a .to) (omega arith) (omega arith) (at-second (failed (sym (k .pressure-on2 .ensures) ∙ c .enum-told2 .given .1))))
 
+-- past both ends: the pressures there
+known : (c : tie.After-high) → (let a = c .before .before .before .before .before .before .before .before .args in let f = figure (pressureOn (a .iso)) in (f (a .from) ≡ Number (c .before .before .before .before .low .given .0 .0)) × (f (a .to) ≡ Number (c .high .given .0 .0)))
+known c = (sym (c .before .before .before .before .before .before .pressure-on .ensures) ∙ c .before .before .before .before .low .given .1, sym (c .before .before .pressure-on2 .ensures) ∙ c .high .given .1)
+
 returns-4 : tie.Need-returns-4
 returns-4 c =
-    let h = c .before .before in
-    let k = h .before .before in
-    let n = k .before .before in
-    let a = n .before .before .before .before .args in
-    let low = sym (n .before .before .pressure-on .ensures) ∙ n .low .given .1 in
-    let high = sym (k .pressure-on2 .ensures) ∙ h .high .given .1 in
-    sym (nowhere-back (figure (pressureOn (a .iso))) (a .p) (a .from) (a .to) (first-above (is-above (a .iso) (a .p) (a .from) _ low (c .if2 .taken)) (is-worthy (a .iso) (a .to) _ high)))
+    let k = known (c .before .before) in
+    let a = c .before .before .before .before .before .before .before .before .before .before .args in
+    sym (nowhere-back (figure (pressureOn (a .iso))) (a .p) (a .from) (a .to) (first-above (is-above (a .iso) (a .p) (a .from) _ (k .0) (c .if2 .taken)) (is-worthy (a .iso) (a .to) _ (k .1))))
 
 narrow-requires : tie.Need-narrow-requires
 narrow-requires c κs =
-    let h = c .before .before .before in
-    let k = h .before .before in
-    let n = k .before .before in
-    let a = n .before .before .before .before .args in
-    let low = sym (n .before .before .pressure-on .ensures) ∙ n .low .given .1 in
-    let high = sym (k .pressure-on2 .ensures) ∙ h .high .given .1 in
-    (omega arith, (omega arith, (is-not-above (a .iso) (a .p) (a .from) _ low (c .before .if2 .left), is-above (a .iso) (a .p) (a .to) _ high (c .if3 .taken))))
+    let k = known (c .before .before .before) in
+    let a = c .before .before .before .before .before .before .before .before .before .before .before .args in
+    (omega arith, (omega arith, (is-not-above (a .iso) (a .p) (a .from) _ (k .0) (c .before .if2 .left), is-above (a .iso) (a .p) (a .to) _ (k .1) (c .if3 .taken))))
 
 returns-5 : tie.Need-returns-5
 returns-5 c = search needs
 
 returns-6 : tie.Need-returns-6
 returns-6 c =
-    let h = c .before .before .before in
-    let k = h .before .before in
-    let n = k .before .before in
-    let a = n .before .before .before .before .args in
-    let low = sym (n .before .before .pressure-on .ensures) ∙ n .low .given .1 in
-    let high = sym (k .pressure-on2 .ensures) ∙ h .high .given .1 in
-    sym (nowhere-back (figure (pressureOn (a .iso))) (a .p) (a .from) (a .to) (second-not-above (is-worthy (a .iso) (a .from) _ low) (is-not-above (a .iso) (a .p) (a .to) _ high (c .if3 .left))))
+    let k = known (c .before .before .before) in
+    let a = c .before .before .before .before .before .before .before .before .before .before .before .args in
+    sym (nowhere-back (figure (pressureOn (a .iso))) (a .p) (a .from) (a .to) (second-not-above (is-worthy (a .iso) (a .from) _ (k .0)) (is-not-above (a .iso) (a .p) (a .to) _ (k .1) (c .if3 .left))))
 
 pub crossing-spec : {M : Type 1} → statement M
 crossing-spec =

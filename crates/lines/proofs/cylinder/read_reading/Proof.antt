@@ -1,8 +1,12 @@
 -- Each step is the definition's. Assumes nothing.
 use mathlib.Core.Path.{subst}
 use native.Mathlib.Omega.{arith}
-use Rattle.text.specs.Place.{FieldIs, PlaceIs}
-use Rattle.lines.specs.Cylinder.{reading, KindIs}
+use denote.Ref.{now}
+use lib.ListN.{drop}
+use Rattle.text.specs.Parse.{byte}
+use Rattle.text.specs.Field.{fieldTo}
+use Rattle.text.specs.Place.{Leaves, FieldIs, PlaceIs}
+use Rattle.lines.specs.Cylinder.{kind, reading, KindIs}
 use borrow.Author.Needs.{needs}
 use Rattle.lines.proofs.cylinder.read_reading.Statement.{statement}
 use Rattle.lines.proofs.cylinder.read_reading.Tie as tie
@@ -29,12 +33,13 @@ enum-known-value-at c = search needs
 enum-told-2 : tie.Need-enum-told-2
 enum-told-2 c = search needs
 
+-- past the kind; below, past the space and past the value
+kind-is : (c : tie.After-kind) → (let a = c .before .before .before .before .args in let k = c .kind .given .0 in Leaves (now (a .s)) (a .at) (kind (drop (a .at) (now (a .s)))) (k .0) (k .1 .0))
+kind-is c = subst (KindIs _ _ _) (c .kind .given .1) (c .before .before .read-kind .ensures)
+
 returns-2 : tie.Need-returns-2
 unfolding reading
-returns-2 c =
-    let at-kind = c .before .before .before .before in
-    let k = subst (KindIs _ _ _) (at-kind .kind .given .1) (at-kind .before .before .read-kind .ensures) in
-    rw (k .0, subst (PlaceIs _ _ _) (c .enum-told2 .given .1) (c .before .before .skip .ensures))
+returns-2 c = rw (kind-is (c .before .before .before .before) .0, subst (PlaceIs _ _ _) (c .enum-told2 .given .1) (c .before .before .skip .ensures))
 
 read-field-to-requires : tie.Need-read-field-to-requires
 read-field-to-requires c κs = search needs
@@ -45,14 +50,12 @@ enum-known-value c = search needs
 enum-told-3 : tie.Need-enum-told-3
 enum-told-3 c = search needs
 
+space-is : (c : tie.After-value-at) → (let s = now (c .before .before .before .before .before .before .before .before .args .s) in let at = c .before .before .before .before .kind .given .0 .1 .0 in Leaves s at (byte 32 (drop at s)) tt (c .value-at .given .0 .0))
+space-is c = subst (PlaceIs _ _ _) (c .value-at .given .1) (c .before .before .skip .ensures)
+
 returns-3 : tie.Need-returns-3
 unfolding reading
-returns-3 c =
-    let at-space = c .before .before .before .before in
-    let at-kind = at-space .before .before .before .before in
-    let k = subst (KindIs _ _ _) (at-kind .kind .given .1) (at-kind .before .before .read-kind .ensures) in
-    let space = subst (PlaceIs _ _ _) (at-space .value-at .given .1) (at-space .before .before .skip .ensures) in
-    rw (k .0, space .0, subst (FieldIs _ _ _) (c .enum-told3 .given .1) (c .before .before .read-field-to .ensures))
+returns-3 c = rw (kind-is (c .before .before .before .before .before .before .before .before) .0, space-is (c .before .before .before .before) .0, subst (FieldIs _ _ _) (c .enum-told3 .given .1) (c .before .before .read-field-to .ensures))
 
 read-field-to-requires-2 : tie.Need-read-field-to-requires-2
 read-field-to-requires-2 c κs = search needs
@@ -63,28 +66,20 @@ enum-known-volume c = search needs
 enum-told-4 : tie.Need-enum-told-4
 enum-told-4 c = search needs
 
+value-is : (c : tie.After-value) → (let s = now (c .before .before .before .before .before .before .before .before .before .before .before .before .args .s) in let at = c .before .before .before .before .value-at .given .0 .0 in let v = c .value .given .0 in Leaves s at (fieldTo 32 (drop at s)) (v .0) (v .1 .0))
+value-is c = subst (FieldIs _ _ _) (c .value .given .1) (c .before .before .read-field-to .ensures)
+
 returns-4 : tie.Need-returns-4
 unfolding reading
-returns-4 c =
-    let at-value = c .before .before .before .before in
-    let at-space = at-value .before .before .before .before in
-    let at-kind = at-space .before .before .before .before in
-    let k = subst (KindIs _ _ _) (at-kind .kind .given .1) (at-kind .before .before .read-kind .ensures) in
-    let space = subst (PlaceIs _ _ _) (at-space .value-at .given .1) (at-space .before .before .skip .ensures) in
-    let v = subst (FieldIs _ _ _) (at-value .value .given .1) (at-value .before .before .read-field-to .ensures) in
-    rw (k .0, space .0, v .0, subst (FieldIs _ _ _) (c .enum-told4 .given .1) (c .before .before .read-field-to2 .ensures))
+returns-4 c = rw (kind-is (c .before .before .before .before .before .before .before .before .before .before .before .before) .0, space-is (c .before .before .before .before .before .before .before .before) .0, value-is (c .before .before .before .before) .0, subst (FieldIs _ _ _) (c .enum-told4 .given .1) (c .before .before .read-field-to2 .ensures))
 
 returns-5 : tie.Need-returns-5
 unfolding reading
 returns-5 c =
-    let at-volume = c .before in
-    let at-value = at-volume .before .before .before .before in
-    let at-space = at-value .before .before .before .before in
-    let at-kind = at-space .before .before .before .before in
-    let k = subst (KindIs _ _ _) (at-kind .kind .given .1) (at-kind .before .before .read-kind .ensures) in
-    let space = subst (PlaceIs _ _ _) (at-space .value-at .given .1) (at-space .before .before .skip .ensures) in
-    let v = subst (FieldIs _ _ _) (at-value .value .given .1) (at-value .before .before .read-field-to .ensures) in
-    let m = subst (FieldIs _ _ _) (at-volume .volume .given .1) (at-volume .before .before .read-field-to2 .ensures) in
+    let k = kind-is (c .before .before .before .before .before .before .before .before .before .before .before .before .before) in
+    let space = space-is (c .before .before .before .before .before .before .before .before .before) in
+    let v = value-is (c .before .before .before .before .before) in
+    let m = subst (FieldIs _ _ _) (c .before .volume .given .1) (c .before .before .before .read-field-to2 .ensures) in
     (rw (k .0, space .0, v .0, m .0), omega (arith, k .1, space .1, v .1, m .1), m .2)
 
 pub read-reading-spec : {M : Type 1} → statement M

@@ -12,7 +12,7 @@ use Rattle.rows.specs.declared.row.NonAnalytic.{NonAnalytic}
 use Rattle.isotherm.specs.declared.isotherm.Isotherm.{Isotherm}
 use Rattle.critical.specs.declared.critical.Near.{Near}
 use Rattle.critical.specs.declared.critical.Edge.{Edge}
-use Rattle.critical.specs.declared.critical.Side.{Side}
+use Rattle.critical.specs.declared.critical.Shared.{Shared}
 use Rattle.critical.specs.declared.critical.Critical.{Critical}
 
 -- ---- what the three rows share: e = δ − 1, X = e·e, r = root 5/3 of X, v = root 2/3 of X
@@ -94,8 +94,8 @@ abbrev pub heldEdge : Edge → Parts
 heldEdge g = record { θ = num (g .theta); Δ = num (g .delta); P₀ = num (g .p0); P₁ = num (g .p1); low = num (g .low) }
 
 -- what rows 40 and 41 share, and a row that has it by its P₀
-abbrev pub side : Parts → Side
-side g = record { theta = value (g .θ); delta = value (g .Δ); low = value (g .low) }
+abbrev pub shared : Parts → Shared
+shared g = record { theta = value (g .θ); delta = value (g .Δ); low = value (g .low) }
 
-abbrev pub based : Formula → Side → Parts
+abbrev pub based : Formula → Shared → Parts
 based P₀ s = record { θ = num (s .theta); Δ = num (s .delta); P₀ = P₀; P₁ = P₀ ⊘ num (s .delta); low = num (s .low) }

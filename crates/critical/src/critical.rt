@@ -2,7 +2,7 @@
 // are made of but for Ψ, in plain f64. A number here that is not finite fails whatever is worked from it.
 ghost use mathlib.Core.Path.{_≡_};
 ghost use Rattle.formulas.specs.Formula.{absolute, num, value};
-ghost use Rattle.critical.specs.Critical.{around, near, raised, lowered, heldNear, parts, side, edge, based, critical};
+ghost use Rattle.critical.specs.Critical.{around, near, raised, lowered, heldNear, parts, shared, edge, based, critical};
 use exponents::exponent::Exponent;
 use exponents::exponent::Printed;
 use exponents::exponent::worked_as;
@@ -22,7 +22,7 @@ pub struct Near {
 }
 
 // θ, Δ and Xᵃ⁻¹ of a row, which rows 40 and 41 share.
-struct Side {
+struct Shared {
     theta: f64,
     delta: f64,
     low: f64,
@@ -85,17 +85,17 @@ fn lower(half: bool, n: Near) -> f64
     if half { x * x * size_of(n.e) } else { x * x }
 }
 
-fn side_of(row: NonAnalytic, n: Near, tau: f64) -> Side
-    ensures { λ r. ⌜ r ≡ side (parts row (heldNear n) tau) ⌝ }
+fn shared_by(row: NonAnalytic, n: Near, tau: f64) -> Shared
+    ensures { λ r. ⌜ r ≡ shared (parts row (heldNear n) tau) ⌝ }
 {
     let theta = (1.0 - tau) + row.ka * n.r;
     let delta = theta * theta + row.kb * raise(row.half, n);
     let low = lower(row.half, n);
-    Side { theta, delta, low }
+    Shared { theta, delta, low }
 }
 
 // A row by its root Δᵇ.
-fn edge_at(s: Side, p0: f64) -> Edge
+fn edge_at(s: Shared, p0: f64) -> Edge
     ensures { λ r. ⌜ r ≡ edge (based (num p0) s) ⌝ }
 {
     Edge {
@@ -116,15 +116,15 @@ pub fn at_critical(iso: Isotherm, delta: f64) -> Critical
     // Row 41 differs from row 40 in n and b alone, and row 42 has the b of row 40.
     let row = rows[0];
     let next = rows[1];
-    let side = side_of(row, near, tau);
-    let other = side_of(rows[2], near, tau);
+    let shared = shared_by(row, near, tau);
+    let other = shared_by(rows[2], near, tau);
     let b = row.root;
     let c = next.root;
-    let roots = three_roots(side.delta, worked_as(b), worked_as(c), other.delta);
+    let roots = three_roots(shared.delta, worked_as(b), worked_as(c), other.delta);
     Critical {
         near,
-        first: edge_at(side, roots.first),
-        second: edge_at(side, roots.second),
+        first: edge_at(shared, roots.first),
+        second: edge_at(shared, roots.second),
         third: edge_at(other, roots.other),
     }
 }

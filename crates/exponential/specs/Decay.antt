@@ -11,10 +11,6 @@ use Rattle.exponential.specs.declared.decay.Twelve.{Twelve}
 unfoldable pub decay : Float → Float
 decay x = plain (exponential (Ieee.neg x))
 
--- x from 10⁻²⁰⁰ to 700, where the exponential of −x is that of "x ≤ 0", and y/k of a y = x/1024 is in the normal range for each k
-unfoldable pub ordinary : Float → Bool
-ordinary x = Ieee.le (decimal 1 200) x && Ieee.le x (whole 700)
-
 -- twelve numbers at once
 unfoldable pub each : (Float → Float) → Twelve → Twelve
 each f x = record {
@@ -31,6 +27,12 @@ each f x = record {
   k = f (x .k);
   l = f (x .l);
 }
+
+-- ---- what code inside asks for
+
+-- x from 10⁻²⁰⁰ to 700, where the exponential of −x is that of "x ≤ 0", and y/k of a y = x/1024 is in the normal range for each k
+unfoldable pub ordinary : Float → Bool
+ordinary x = Ieee.le (decimal 1 200) x && Ieee.le x (whole 700)
 
 abbrev pub numbers : Twelve → List Float
 numbers x = x .a ∷ x .b ∷ x .c ∷ x .d ∷ x .e ∷ x .f ∷ x .g ∷ x .h ∷ x .i ∷ x .j ∷ x .k ∷ x .l ∷ []

@@ -1,4 +1,4 @@
--- The exponential in plain f64, as twelve of it are worked at once. Definitions only.
+-- What code inside works twelve exponentials by: 01's series and squarings again, in plain f64 and step by step. No public promise cites it. Definitions only.
 use Prim.Native.Nat.{ℕ, zero, suc}
 use lib.Ieee as Ieee
 use lib.Ieee.{Float, binary64}

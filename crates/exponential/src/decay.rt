@@ -57,7 +57,7 @@ fn all_ordinary(x: Twelve) -> bool
     also(x.a, r)
 }
 
-fn thousandths(x: Twelve) -> Twelve
+fn by_1024(x: Twelve) -> Twelve
     ensures { λ r. ⌜ r ≡ each (λ v. div binary64 v (whole 1024)) x ⌝ }
 {
     Twelve {
@@ -76,12 +76,12 @@ fn thousandths(x: Twelve) -> Twelve
     }
 }
 
-// With no branch on an x, and none of the tests for a number that is not finite: from 0 to 1 no step leaves.
+// With no branch on an x, and with no test for a number that is not finite: every step stays between 0 and 1.
 fn side_by_side(x: Twelve) -> Twelve
     requires { ⌜ T (every ordinary (numbers x)) ⌝ }
     ensures { λ r. ⌜ r ≡ each decay x ⌝ }
 {
-    ten_squarings(chains(thousandths(x)))
+    ten_squarings(chains(by_1024(x)))
 }
 
 fn one_by_one(x: Twelve) -> Twelve

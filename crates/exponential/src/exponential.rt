@@ -23,7 +23,7 @@ fn series(y: f64) -> f64
     s
 }
 
-// The same with six divisions: for such a y each y/(k·2ᵗ) is in the normal range, and is y/k times 2⁻ᵗ bit for bit (`halved`, quotients/proofs/Halves.antt).
+// The same with six divisions that are none by a power of two: for such a y each y/(k·2ᵗ) is in the normal range, and is y/k times 2⁻ᵗ bit for bit (`halved`, quotients/proofs/Halves.antt).
 fn eased(y: f64) -> f64
     requires { ⌜ T (le (decimal 1 250) y) × T (le y (whole 1)) ⌝ }
     ensures { λ r. ⌜ checked r ≡ series (checked y) 14 (checked (whole 1)) ⌝ }
@@ -60,7 +60,7 @@ fn squared(s: f64) -> f64
     s
 }
 
-// x from 10⁻²⁰⁰ to 700, where six divisions do for e⁻ˣ.
+// x from 10⁻²⁰⁰ to 700, where a quotient can be worked in another way (`eased`, and `chains` of the twelve).
 pub(crate) fn ordinary(x: f64) -> bool
     ensures { λ r. ⌜ r ≡ ordinary x ⌝ }
 {

@@ -4,13 +4,12 @@ use critical::critical::at_critical;
 use densities::density::liquid_density;
 use densities::density::vapour_density;
 use derivatives::derivative::Five;
-use exponential::exponential::exponential;
 use ideal::ideal::ideal_part;
 use isotherm::isotherm::at_temperature;
 use numeric::working::Worked;
 use numeric::working::checked;
-use numeric::working::plain;
 use pressure::pressure::pressure_at;
+use residual::term::at_density;
 use rows::row::non_analytics;
 use saturation::saturation::vapour_pressure;
 use sharp::sharp::sharpen;
@@ -194,12 +193,10 @@ fn sharp(t: f64, rho: f64) {
         tt: -0.0,
         dt: -0.0,
     };
-    // Ψ of rows 40 and 41, and of row 42
-    let psi = plain(exponential(-(10.0 * c.near.x + iso.cold)));
-    let other = plain(exponential(-(12.5 * c.near.x + iso.cold)));
-    let r40 = sharpen(none, rows[0], c.near, c.first, psi, delta, tau);
-    let r41 = sharpen(none, rows[1], c.near, c.second, psi, delta, tau);
-    let r42 = sharpen(none, rows[2], c.near, c.third, other, delta, tau);
+    let psis = at_density(iso, delta).psis;
+    let r40 = sharpen(none, rows[0], c.near, c.first, psis[0], delta, tau);
+    let r41 = sharpen(none, rows[1], c.near, c.second, psis[0], delta, tau);
+    let r42 = sharpen(none, rows[2], c.near, c.third, psis[1], delta, tau);
     three(r40.d, r41.d, r42.d);
     three(r40.dd, r41.dd, r42.dd);
     three(r40.t, r41.t, r42.t);

@@ -1,4 +1,4 @@
--- What a quotient by k without a division is worked with. Definitions only.
+-- What code inside asks for where it works a quotient by k without a division. No public promise cites it. Definitions only.
 use Prim.Native.Nat.{_+_, _-_, _*_, _%_, _^_}
 use mathlib.Core.Bool.{Bool, _&&_}
 use lib.Dec.{eqb, leb, ltb}

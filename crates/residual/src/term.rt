@@ -15,7 +15,7 @@ pub struct Point {
     pub psis: [f64; 2],
 }
 
-pub(crate) fn at_density(iso: Isotherm, delta: f64) -> Point
+pub fn at_density(iso: Isotherm, delta: f64) -> Point
     ensures { λ r. ⌜ r ≡ point iso delta ⌝ }
 {
     let powers = powers_to_10(delta);

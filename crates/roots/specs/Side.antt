@@ -1,4 +1,4 @@
--- Roots side by side, and what is known before one is told from a guess. Definitions only.
+-- Roots side by side. Definitions only.
 use mathlib.Core.Path.{_≡_}
 use mathlib.Core.Bool.{Bool, not, _&&_}
 use Prim.Native.Nat.{ℕ, _+_, _-_, _*_}
@@ -14,6 +14,16 @@ use Rattle.roots.specs.Root.{root}
 use Rattle.roots.specs.declared.side.TwoRoots.{TwoRoots}
 use Rattle.roots.specs.declared.side.ThreeRoots.{ThreeRoots}
 
+-- two roots of a number in plain f64
+abbrev pub twoRoots : Exponent → Exponent → Float → TwoRoots
+twoRoots e f x = record { first = plain (root e x); second = plain (root f x) }
+
+-- and the first of another
+abbrev pub threeRoots : Exponent → Exponent → Float → Float → ThreeRoots
+threeRoots e f x z = record { first = plain (root e x); second = plain (root f x); other = plain (root e z) }
+
+-- ---- what code inside asks for before it tells a root from a guess
+
 -- the root has to be searched for, and each end of the search has a k-th whole power
 unfoldable pub usual : Exponent → Float → Bool
 usual e x = ltb (e .m) (2 * e .k) && (ltb (e .k) 52 && (not (Ieee.lt x (whole 0)) && (not (Ieee.eq x (whole 0)) && finite x)))
@@ -22,11 +32,3 @@ usual e x = ltb (e .m) (2 * e .k) && (ltb (e .k) 52 && (not (Ieee.lt x (whole 0)
 abbrev pub PowersAbout : ℕ → ℕ → Float → Float → Float → Type 0
 PowersAbout at k below here above =
     (below ≡ power (Ieee.ofBits binary64 (at - 1)) k) × (here ≡ power (Ieee.ofBits binary64 at) k) × (above ≡ power (Ieee.ofBits binary64 (at + 1)) k)
-
--- two roots of a number in plain f64
-abbrev pub twoRoots : Exponent → Exponent → Float → TwoRoots
-twoRoots e f x = record { first = plain (root e x); second = plain (root f x) }
-
--- and the first of another
-abbrev pub threeRoots : Exponent → Exponent → Float → Float → ThreeRoots
-threeRoots e f x z = record { first = plain (root e x); second = plain (root f x); other = plain (root e z) }

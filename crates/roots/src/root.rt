@@ -1,6 +1,6 @@
 // The root x^(m/k) (document 01, "How a number is worked"). The definition halves from the bits of 0 to those of 2²⁰.
-// The k-th whole power rises with the bits, so it passes its target at one place only (proofs/Roots.antt), and the
-// code looks for that place from a guess outward.
+// The k-th whole power rises with the bits, so it passes its target at one place only (proofs/Roots.antt). The code guesses
+// that place, tells it from the powers of the guess and its neighbours, and looks further out only where these don't show it.
 ghost use mathlib.Core.Path.{_≡_};
 ghost use Prim.Native.Nat.{_+_, _≤_, _<_};
 ghost use lib.Dec.{T};

@@ -72,7 +72,7 @@ fn three_by_one(x: f64, e: Exponent, f: Exponent, z: f64) -> ThreeRoots
     }
 }
 
-// f is the longer one: a power by squares leads to its guess, which so need not wait for t.
+// For an f with more products than e: a power by squares leads to its guess, which so need not wait for its target.
 pub fn three_roots(x: f64, e: Exponent, f: Exponent, z: f64) -> ThreeRoots
     ensures { λ r. ⌜ r ≡ threeRoots e f x z ⌝ }
 {

@@ -19,14 +19,14 @@ array-copy-out-row c = search needs
 array-copy-out-next : tie.Need-array-copy-out-next
 array-copy-out-next c = search needs
 
-side-of-requires : tie.Need-side-of-requires
-side-of-requires c κs = search needs
+shared-by-requires : tie.Need-shared-by-requires
+shared-by-requires c κs = search needs
 
-array-copy-out-side-of : tie.Need-array-copy-out-side-of
-array-copy-out-side-of c = search needs
+array-copy-out-shared-by : tie.Need-array-copy-out-shared-by
+array-copy-out-shared-by c = search needs
 
-side-of-requires-2 : tie.Need-side-of-requires-2
-side-of-requires-2 c κs = search needs
+shared-by-requires-2 : tie.Need-shared-by-requires-2
+shared-by-requires-2 c κs = search needs
 
 worked-as-requires : tie.Need-worked-as-requires
 worked-as-requires c κs = search needs
@@ -59,8 +59,8 @@ returns c =
       t .three-roots .ensures,
       t .before .worked-as2 .ensures,
       t .before .before .worked-as .ensures,
-      s .side-of2 .ensures,
-      s .before .before .side-of .ensures,
+      s .shared-by2 .ensures,
+      s .before .before .shared-by .ensures,
       n .near-critical .ensures,
       n .before .non-analytics .ensures,
     ) refl
@@ -73,9 +73,9 @@ at-critical-spec =
     near-critical-requires
     array-copy-out-row
     array-copy-out-next
-    side-of-requires
-    array-copy-out-side-of
-    side-of-requires-2
+    shared-by-requires
+    array-copy-out-shared-by
+    shared-by-requires-2
     worked-as-requires
     worked-as-requires-2
     three-roots-requires

@@ -12,11 +12,11 @@ use Rattle.exponential.proofs.Lanes.{all-worked, tame-parts}
 use Rattle.exponential.proofs.decay.side_by_side.Statement.{statement}
 use Rattle.exponential.proofs.decay.side_by_side.Tie as tie
 
-thousandths-requires : tie.Need-thousandths-requires
-thousandths-requires c κs = search needs
+by-1024-requires : tie.Need-by-1024-requires
+by-1024-requires c κs = search needs
 
 chains-requires : tie.Need-chains-requires
-chains-requires c κs = subst (λ (y : Twelve). T (every tame (numbers y))) (sym (c .thousandths .ensures)) (tame-parts (c .before .args .x) (c .before .pre))
+chains-requires c κs = subst (λ (y : Twelve). T (every tame (numbers y))) (sym (c .by-1024 .ensures)) (tame-parts (c .before .args .x) (c .before .pre))
 
 ten-squarings-requires : tie.Need-ten-squarings-requires
 ten-squarings-requires c κs = search needs
@@ -25,8 +25,8 @@ returns : tie.Need-returns
 returns c =
     let s = c .before .before .before in
     c .ten-squarings .ensures
-    ∙ ap (each (powers 10)) (c .before .chains .ensures ∙ ap (each (λ (v : Float). chain v 14 (whole 1))) (c .before .before .thousandths .ensures))
+    ∙ ap (each (powers 10)) (c .before .chains .ensures ∙ ap (each (λ (v : Float). chain v 14 (whole 1))) (c .before .before .by-1024 .ensures))
     ∙ all-worked (s .args .x) (s .pre)
 
 pub side-by-side-spec : {M : Type 1} → statement M
-side-by-side-spec = tie.close (tie.spec thousandths-requires chains-requires ten-squarings-requires returns)
+side-by-side-spec = tie.close (tie.spec by-1024-requires chains-requires ten-squarings-requires returns)

@@ -1,6 +1,6 @@
 -- The four kinds of rows in turn. Assumes nothing.
 use mathlib.Core.Path.{_≡_, sym, ap, _∙_, subst}
-use mathlib.Core.Bool.{Bool, true, false}
+use mathlib.Core.Bool.{Bool, false}
 use lib.Dec.{T}
 use lib.Ieee.{Float}
 use Rattle.numeric.specs.Working.{checked}

@@ -4,8 +4,8 @@ use lib.Ieee.{ofBits, ofInt}
 use Rattle.numeric.specs.Number.{whole}
 use Rattle.formulas.specs.Formula.{value}
 use borrow.Author.Needs.{needs}
-use Rattle.critical.proofs.critical.side_of.Statement.{statement}
-use Rattle.critical.proofs.critical.side_of.Tie as tie
+use Rattle.critical.proofs.critical.shared_by.Statement.{statement}
+use Rattle.critical.proofs.critical.shared_by.Tie as tie
 
 raise-requires : tie.Need-raise-requires
 raise-requires c κs = search needs
@@ -17,5 +17,5 @@ returns : tie.Need-returns
 unfolding value whole ofBits ofInt
 returns c = rw (c .lower .ensures, c .before .before .raise .ensures) refl
 
-pub side-of-spec : {M : Type 1} → statement M
-side-of-spec = tie.close (tie.spec raise-requires lower-requires returns)
+pub shared-by-spec : {M : Type 1} → statement M
+shared-by-spec = tie.close (tie.spec raise-requires lower-requires returns)

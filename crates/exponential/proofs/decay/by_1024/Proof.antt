@@ -3,12 +3,12 @@ use mathlib.Core.Path.{refl}
 use lib.Ieee.{ofBits, ofInt, round}
 use Rattle.numeric.specs.Number.{whole}
 use Rattle.exponential.specs.Decay.{each}
-use Rattle.exponential.proofs.decay.thousandths.Statement.{statement}
-use Rattle.exponential.proofs.decay.thousandths.Tie as tie
+use Rattle.exponential.proofs.decay.by_1024.Statement.{statement}
+use Rattle.exponential.proofs.decay.by_1024.Tie as tie
 
 returns : tie.Need-returns
 unfolding each whole ofBits ofInt round
 returns c = refl
 
-pub thousandths-spec : {M : Type 1} → statement M
-thousandths-spec = tie.close (tie.spec returns)
+pub by-1024-spec : {M : Type 1} → statement M
+by-1024-spec = tie.close (tie.spec returns)

@@ -11,24 +11,6 @@ use Rattle.interface.proofs.hand.Tie as tie
 returns : tie.Need-returns
 returns c = too-few _ _ (c .if1 .taken)
 
-enum-known-a : tie.Need-enum-known-a
-enum-known-a c = search needs
-
-lay-requires : tie.Need-lay-requires
-lay-requires c κs = search needs
-
-phase-number-requires : tie.Need-phase-number-requires
-phase-number-requires c κs = search needs
-
-enum-known-a-2 : tie.Need-enum-known-a-2
-enum-known-a-2 c = search needs
-
-cast-result : tie.Need-cast-result
-cast-result c = search needs
-
-same-length : tie.Need-same-length
-same-length c = search needs
-
 returns-2 : tie.Need-returns-2
 returns-2 c =
     let l = c .before .before .before in
@@ -47,11 +29,11 @@ hand-spec =
     tie.close
     (tie.spec
     returns
-    enum-known-a
-    lay-requires
-    phase-number-requires
-    enum-known-a-2
-    cast-result
-    same-length
+    (λ c. search needs)
+    (λ c κs. search needs)
+    (λ c κs. search needs)
+    (λ c. search needs)
+    (λ c. search needs)
+    (λ c. search needs)
     returns-2
     returns-3)

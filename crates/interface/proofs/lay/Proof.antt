@@ -6,9 +6,6 @@ use borrow.Author.Needs.{needs}
 use Rattle.interface.proofs.lay.Statement.{statement}
 use Rattle.interface.proofs.lay.Tie as tie
 
-slice-write-figures : tie.Need-slice-write-figures
-slice-write-figures c = search needs
-
 slice-write-figures-2 : tie.Need-slice-write-figures-2
 slice-write-figures-2 c = simp length-set (omega arith)
 
@@ -27,12 +24,6 @@ slice-write-figures-6 c = simp length-set (omega arith)
 slice-write-figures-7 : tie.Need-slice-write-figures-7
 slice-write-figures-7 c = simp length-set (omega arith)
 
-slice-write-figures-8 : tie.Need-slice-write-figures-8
-slice-write-figures-8 c = search needs
-
-same-length : tie.Need-same-length
-same-length c = search needs
-
 returns : tie.Need-returns
 returns c = laid-over _ _ (c .pre)
 
@@ -40,13 +31,13 @@ pub lay-spec : {M : Type 1} → statement M
 lay-spec =
     tie.close
     (tie.spec
-    slice-write-figures
+    (λ c. search needs)
     slice-write-figures-2
     slice-write-figures-3
     slice-write-figures-4
     slice-write-figures-5
     slice-write-figures-6
     slice-write-figures-7
-    slice-write-figures-8
-    same-length
+    (λ c. search needs)
+    (λ c. search needs)
     returns)

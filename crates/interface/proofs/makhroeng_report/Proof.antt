@@ -4,23 +4,8 @@ use Rattle.interface.proofs.Interfaces.{reported-in}
 use Rattle.interface.proofs.makhroeng_report.Statement.{statement}
 use Rattle.interface.proofs.makhroeng_report.Tie as tie
 
-score-requires : tie.Need-score-requires
-score-requires c κs = search needs
-
-enum-known-n : tie.Need-enum-known-n
-enum-known-n c = search needs
-
-enum-told : tie.Need-enum-told
-enum-told c = search needs
-
-same-length : tie.Need-same-length
-same-length c = search needs
-
 returns : tie.Need-returns
 returns c = let s = c .before .before .before .before .before .score in reported-in _ _ _ (s .result) _ (c .before .n .given .1) (s .ensures)
-
-same-length-2 : tie.Need-same-length-2
-same-length-2 c = search needs
 
 returns-2 : tie.Need-returns-2
 returns-2 c = let s = c .before .before .before .before .score in reported-in _ _ _ (s .result) _ (c .enum-told .given .1) (s .ensures)
@@ -28,4 +13,11 @@ returns-2 c = let s = c .before .before .before .before .score in reported-in _ 
 pub makhroeng-report-spec : {M : Type 1} → statement M
 makhroeng-report-spec =
     tie.close
-    (tie.spec score-requires enum-known-n enum-told same-length returns same-length-2 returns-2)
+    (tie.spec
+    (λ c κs. search needs)
+    (λ c. search needs)
+    (λ c. search needs)
+    (λ c. search needs)
+    returns
+    (λ c. search needs)
+    returns-2)

@@ -8,15 +8,6 @@ use borrow.Author.Needs.{needs}
 use Rattle.scorer.proofs.report_of.Statement.{statement}
 use Rattle.scorer.proofs.report_of.Tie as tie
 
-score-requires : tie.Need-score-requires
-score-requires c κs = search needs
-
-enum-known-long : tie.Need-enum-known-long
-enum-known-long c = search needs
-
-enum-told : tie.Need-enum-told
-enum-told c = search needs
-
 returns : tie.Need-returns
 returns c =
     let e = rw (c .enum-told .given .1) at (c .before .before .score .ensures) in
@@ -29,4 +20,11 @@ returns-2 c =
     record { wrote = e .0; fits = inside (e .0) (e .1) }
 
 pub report-of-spec : {M : Type 1} → statement M
-report-of-spec = tie.close (tie.spec score-requires enum-known-long enum-told returns returns-2)
+report-of-spec =
+    tie.close
+    (tie.spec
+    (λ c κs. search needs)
+    (λ c. search needs)
+    (λ c. search needs)
+    returns
+    returns-2)

@@ -5,17 +5,9 @@ use borrow.Author.Needs.{needs}
 use Rattle.answers.proofs.answer.settle.Statement.{statement}
 use Rattle.answers.proofs.answer.settle.Tie as tie
 
-enum-known-s : tie.Need-enum-known-s
-enum-known-s c = search needs
-
-enum-told : tie.Need-enum-told
-enum-told c = search needs
-
-returns : tie.Need-returns
-returns c = search needs
-
 returns-2 : tie.Need-returns-2
 returns-2 c = sym (ap (settled _) (c .before .s .given .1))
 
 pub settle-spec : {M : Type 1} → statement M
-settle-spec = tie.close (tie.spec enum-known-s enum-told returns returns-2)
+settle-spec =
+    tie.close (tie.spec (λ c. search needs) (λ c. search needs) (λ c. search needs) returns-2)

@@ -5,36 +5,21 @@ use borrow.Author.Needs.{needs}
 use Rattle.checks.proofs.check.check_inputs.Statement.{statement}
 use Rattle.checks.proofs.check.check_inputs.Tie as tie
 
-are-finite-requires : tie.Need-are-finite-requires
-are-finite-requires c κs = search needs
-
 returns : tie.Need-returns
 unfolding checks
 returns c = rw (sym (c .before .are-finite .ensures) ∙ c .if1 .left) refl
-
-is-outside-requires : tie.Need-is-outside-requires
-is-outside-requires c κs = search needs
 
 returns-2 : tie.Need-returns-2
 unfolding checks
 returns-2 c = rw (sym (c .before .before .before .are-finite .ensures) ∙ c .before .before .if1 .taken, sym (c .before .is-outside .ensures) ∙ c .if2 .taken) refl
 
-is-outside-requires-2 : tie.Need-is-outside-requires-2
-is-outside-requires-2 c κs = search needs
-
 returns-3 : tie.Need-returns-3
 unfolding checks
 returns-3 c = rw (sym (c .before .before .before .before .before .are-finite .ensures) ∙ c .before .before .before .before .if1 .taken, sym (c .before .before .before .is-outside .ensures) ∙ c .before .before .if2 .left, sym (c .before .is-outside2 .ensures) ∙ c .if3 .taken) refl
 
-is-outside-requires-3 : tie.Need-is-outside-requires-3
-is-outside-requires-3 c κs = search needs
-
 returns-4 : tie.Need-returns-4
 unfolding checks
 returns-4 c = rw (sym (c .before .before .before .before .before .before .before .are-finite .ensures) ∙ c .before .before .before .before .before .before .if1 .taken, sym (c .before .before .before .before .before .is-outside .ensures) ∙ c .before .before .before .before .if2 .left, sym (c .before .before .before .is-outside2 .ensures) ∙ c .before .before .if3 .left, sym (c .before .is-outside3 .ensures) ∙ c .if4 .taken) refl
-
-is-outside-requires-4 : tie.Need-is-outside-requires-4
-is-outside-requires-4 c κs = search needs
 
 returns-5 : tie.Need-returns-5
 unfolding checks
@@ -48,14 +33,14 @@ pub check-inputs-spec : {M : Type 1} → statement M
 check-inputs-spec =
     tie.close
     (tie.spec
-    are-finite-requires
+    (λ c κs. search needs)
     returns
-    is-outside-requires
+    (λ c κs. search needs)
     returns-2
-    is-outside-requires-2
+    (λ c κs. search needs)
     returns-3
-    is-outside-requires-3
+    (λ c κs. search needs)
     returns-4
-    is-outside-requires-4
+    (λ c κs. search needs)
     returns-5
     returns-6)

@@ -5,12 +5,10 @@ use borrow.Author.Needs.{needs}
 use Rattle.critical.proofs.critical.edge_at.Statement.{statement}
 use Rattle.critical.proofs.critical.edge_at.Tie as tie
 
-over-requires : tie.Need-over-requires
-over-requires c κs = search needs
-
 returns : tie.Need-returns
 unfolding value
 returns c = rw (c .over .ensures) refl
 
 pub edge-at-spec : {M : Type 1} → statement M
-edge-at-spec = tie.close (tie.spec over-requires returns)
+edge-at-spec =
+    tie.close (tie.spec (λ c κs. search needs) returns)

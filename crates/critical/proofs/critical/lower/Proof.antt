@@ -6,9 +6,6 @@ use borrow.Author.Needs.{needs}
 use Rattle.critical.proofs.critical.lower.Statement.{statement}
 use Rattle.critical.proofs.critical.lower.Tie as tie
 
-size-of-requires : tie.Need-size-of-requires
-size-of-requires c κs = search needs
-
 returns : tie.Need-returns
 unfolding value power
 returns c = rw (c .size-of .ensures, c .before .if1 .taken) refl
@@ -18,4 +15,5 @@ unfolding value power
 returns-2 c = rw (c .if1 .left) refl
 
 pub lower-spec : {M : Type 1} → statement M
-lower-spec = tie.close (tie.spec size-of-requires returns returns-2)
+lower-spec =
+    tie.close (tie.spec (λ c κs. search needs) returns returns-2)

@@ -7,15 +7,10 @@ use borrow.Author.Needs.{needs}
 use Rattle.critical.proofs.critical.near_critical.Statement.{statement}
 use Rattle.critical.proofs.critical.near_critical.Tie as tie
 
-worked-as-requires : tie.Need-worked-as-requires
-worked-as-requires c κs = search needs
-
-two-roots-requires : tie.Need-two-roots-requires
-two-roots-requires c κs = search needs
-
 returns : tie.Need-returns
 unfolding value whole ofBits ofInt
 returns c = rw (c .two-roots .ensures, c .before .worked-as .ensures) refl
 
 pub near-critical-spec : {M : Type 1} → statement M
-near-critical-spec = tie.close (tie.spec worked-as-requires two-roots-requires returns)
+near-critical-spec =
+    tie.close (tie.spec (λ c κs. search needs) (λ c κs. search needs) returns)

@@ -7,15 +7,10 @@ use borrow.Author.Needs.{needs}
 use Rattle.critical.proofs.critical.shared_by.Statement.{statement}
 use Rattle.critical.proofs.critical.shared_by.Tie as tie
 
-raise-requires : tie.Need-raise-requires
-raise-requires c κs = search needs
-
-lower-requires : tie.Need-lower-requires
-lower-requires c κs = search needs
-
 returns : tie.Need-returns
 unfolding value whole ofBits ofInt
 returns c = rw (c .lower .ensures, c .before .before .raise .ensures) refl
 
 pub shared-by-spec : {M : Type 1} → statement M
-shared-by-spec = tie.close (tie.spec raise-requires lower-requires returns)
+shared-by-spec =
+    tie.close (tie.spec (λ c κs. search needs) (λ c κs. search needs) returns)

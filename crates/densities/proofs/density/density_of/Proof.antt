@@ -13,24 +13,6 @@ told : (c : tie.After-checked) → aboveZero (c .checked .result) ≡ aboveZero 
 unfolding densityOf value
 told c = ap aboveZero (simp (c .before .before .before .before .span-wagner .ensures, c .before .before .plain .ensures, c .before .before .before .exponential .ensures) at (c .checked .ensures))
 
-span-wagner-requires : tie.Need-span-wagner-requires
-span-wagner-requires c κs = search needs
-
-exponential-requires : tie.Need-exponential-requires
-exponential-requires c κs = search needs
-
-plain-requires : tie.Need-plain-requires
-plain-requires c κs = search needs
-
-checked-requires : tie.Need-checked-requires
-checked-requires c κs = search needs
-
-enum-known-x : tie.Need-enum-known-x
-enum-known-x c = search needs
-
-enum-told : tie.Need-enum-told
-enum-told c = search needs
-
 returns : tie.Need-returns
 returns c = sym (ap aboveZero (c .enum-told .given .1)) ∙ told (c .before .before)
 
@@ -46,12 +28,12 @@ pub density-of-spec : {M : Type 1} → statement M
 density-of-spec =
     tie.close
     (tie.spec
-    span-wagner-requires
-    exponential-requires
-    plain-requires
-    checked-requires
-    enum-known-x
-    enum-told
+    (λ c κs. search needs)
+    (λ c κs. search needs)
+    (λ c κs. search needs)
+    (λ c κs. search needs)
+    (λ c. search needs)
+    (λ c. search needs)
     returns
     returns-2
     returns-3)

@@ -5,14 +5,9 @@ use borrow.Author.Needs.{needs}
 use Rattle.densities.proofs.density.to.Statement.{statement}
 use Rattle.densities.proofs.density.to.Tie as tie
 
-root-requires : tie.Need-root-requires
-root-requires c κs = search needs
-
-plain-requires : tie.Need-plain-requires
-plain-requires c κs = search needs
-
 returns : tie.Need-returns
 returns c = c .plain .ensures ∙ ap plain (c .before .root .ensures)
 
 pub to-spec : {M : Type 1} → statement M
-to-spec = tie.close (tie.spec root-requires plain-requires returns)
+to-spec =
+    tie.close (tie.spec (λ c κs. search needs) (λ c κs. search needs) returns)

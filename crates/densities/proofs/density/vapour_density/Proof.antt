@@ -6,24 +6,9 @@ use borrow.Author.Needs.{needs}
 use Rattle.densities.proofs.density.vapour_density.Statement.{statement}
 use Rattle.densities.proofs.density.vapour_density.Tie as tie
 
-theta-at-requires : tie.Need-theta-at-requires
-theta-at-requires c κs = search needs
-
-enum-known-theta : tie.Need-enum-known-theta
-enum-known-theta c = search needs
-
-enum-told : tie.Need-enum-told
-enum-told c = search needs
-
 returns : tie.Need-returns
 unfolding vapourDensity
 returns c = ap (from-theta vapourSum) (sym (c .enum-told .given .1) ∙ c .before .before .theta-at .ensures)
-
-vapour-sum-requires : tie.Need-vapour-sum-requires
-vapour-sum-requires c κs = search needs
-
-density-of-requires : tie.Need-density-of-requires
-density-of-requires c κs = search needs
 
 returns-2 : tie.Need-returns-2
 unfolding vapourDensity
@@ -36,10 +21,10 @@ pub vapour-density-spec : {M : Type 1} → statement M
 vapour-density-spec =
     tie.close
     (tie.spec
-    theta-at-requires
-    enum-known-theta
-    enum-told
+    (λ c κs. search needs)
+    (λ c. search needs)
+    (λ c. search needs)
     returns
-    vapour-sum-requires
-    density-of-requires
+    (λ c κs. search needs)
+    (λ c κs. search needs)
     returns-2)

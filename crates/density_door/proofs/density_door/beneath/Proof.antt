@@ -8,27 +8,9 @@ use borrow.Author.Needs.{needs}
 use Rattle.density_door.proofs.density_door.beneath.Statement.{statement}
 use Rattle.density_door.proofs.density_door.beneath.Tie as tie
 
-vapour-density-requires : tie.Need-vapour-density-requires
-vapour-density-requires c κs = search needs
-
-enum-known-v : tie.Need-enum-known-v
-enum-known-v c = search needs
-
-enum-told : tie.Need-enum-told
-enum-told c = search needs
-
 returns : tie.Need-returns
 unfolding below of1996
 returns c = rw (sym (c .before .before .vapour-density .ensures) ∙ c .enum-told .given .1)
-
-liquid-density-requires : tie.Need-liquid-density-requires
-liquid-density-requires c κs = search needs
-
-enum-known-l : tie.Need-enum-known-l
-enum-known-l c = search needs
-
-enum-told-2 : tie.Need-enum-told-2
-enum-told-2 c = search needs
 
 returns-2 : tie.Need-returns-2
 unfolding below of1996
@@ -42,15 +24,9 @@ returns-3 : tie.Need-returns-3
 unfolding below of1996
 returns-3 c = let k = known (c .before .before .before) in rw (k .0, k .1, c .before .if1 .taken, c .if2 .taken)
 
-in-phase-requires : tie.Need-in-phase-requires
-in-phase-requires c κs = search needs
-
 returns-4 : tie.Need-returns-4
 unfolding below of1996
 returns-4 c = let k = known (c .before .before .before .before) in c .in-phase .ensures ∙ rw (k .0, k .1, c .before .before .if1 .taken, c .before .if2 .left)
-
-in-phase-requires-2 : tie.Need-in-phase-requires-2
-in-phase-requires-2 c κs = search needs
 
 returns-5 : tie.Need-returns-5
 unfolding below of1996
@@ -60,16 +36,16 @@ pub beneath-spec : {M : Type 1} → statement M
 beneath-spec =
     tie.close
     (tie.spec
-    vapour-density-requires
-    enum-known-v
-    enum-told
+    (λ c κs. search needs)
+    (λ c. search needs)
+    (λ c. search needs)
     returns
-    liquid-density-requires
-    enum-known-l
-    enum-told-2
+    (λ c κs. search needs)
+    (λ c. search needs)
+    (λ c. search needs)
     returns-2
     returns-3
-    in-phase-requires
+    (λ c κs. search needs)
     returns-4
-    in-phase-requires-2
+    (λ c κs. search needs)
     returns-5)

@@ -8,18 +8,9 @@ use borrow.Author.Needs.{needs}
 use Rattle.density_door.proofs.density_door.enter.Statement.{statement}
 use Rattle.density_door.proofs.density_door.enter.Tie as tie
 
-span-wagner-requires : tie.Need-span-wagner-requires
-span-wagner-requires c κs = search needs
-
-in-phase-requires : tie.Need-in-phase-requires
-in-phase-requires c κs = search needs
-
 returns : tie.Need-returns
 unfolding within of1996
 returns c = c .in-phase .ensures ∙ rw (sym (ap (λ (k : Constants). le (k .temperature) (c .before .before .before .before .args .t)) (c .before .before .before .span-wagner .ensures)) ∙ c .before .if1 .taken) refl
-
-beneath-requires : tie.Need-beneath-requires
-beneath-requires c κs = search needs
 
 returns-2 : tie.Need-returns-2
 unfolding within of1996
@@ -27,4 +18,10 @@ returns-2 c = c .beneath .ensures ∙ rw (sym (ap (λ (k : Constants). le (k .te
 
 pub enter-spec : {M : Type 1} → statement M
 enter-spec =
-    tie.close (tie.spec span-wagner-requires in-phase-requires returns beneath-requires returns-2)
+    tie.close
+    (tie.spec
+    (λ c κs. search needs)
+    (λ c κs. search needs)
+    returns
+    (λ c κs. search needs)
+    returns-2)

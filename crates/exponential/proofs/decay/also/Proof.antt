@@ -4,9 +4,6 @@ use borrow.Author.Needs.{needs}
 use Rattle.exponential.proofs.decay.also.Statement.{statement}
 use Rattle.exponential.proofs.decay.also.Tie as tie
 
-ordinary-requires : tie.Need-ordinary-requires
-ordinary-requires c κs = search needs
-
 returns : tie.Need-returns
 returns c = simp (sym (c .before .ordinary .ensures) ∙ c .if1 .taken)
 
@@ -14,4 +11,5 @@ returns-2 : tie.Need-returns-2
 returns-2 c = simp (sym (c .before .ordinary .ensures) ∙ c .if1 .left)
 
 pub also-spec : {M : Type 1} → statement M
-also-spec = tie.close (tie.spec ordinary-requires returns returns-2)
+also-spec =
+    tie.close (tie.spec (λ c κs. search needs) returns returns-2)

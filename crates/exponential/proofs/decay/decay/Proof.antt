@@ -6,15 +6,10 @@ use Rattle.exponential.specs.Decay.{decay}
 use Rattle.exponential.proofs.decay.decay.Statement.{statement}
 use Rattle.exponential.proofs.decay.decay.Tie as tie
 
-exponential-requires : tie.Need-exponential-requires
-exponential-requires c κs = search needs
-
-plain-requires : tie.Need-plain-requires
-plain-requires c κs = search needs
-
 returns : tie.Need-returns
 unfolding decay
 returns c = c .plain .ensures ∙ ap plain (c .before .exponential .ensures)
 
 pub decay-spec : {M : Type 1} → statement M
-decay-spec = tie.close (tie.spec exponential-requires plain-requires returns)
+decay-spec =
+    tie.close (tie.spec (λ c κs. search needs) (λ c κs. search needs) returns)

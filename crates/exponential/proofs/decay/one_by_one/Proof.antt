@@ -5,42 +5,6 @@ use Rattle.exponential.specs.Decay.{each}
 use Rattle.exponential.proofs.decay.one_by_one.Statement.{statement}
 use Rattle.exponential.proofs.decay.one_by_one.Tie as tie
 
-decay-requires : tie.Need-decay-requires
-decay-requires c κs = search needs
-
-decay-requires-2 : tie.Need-decay-requires-2
-decay-requires-2 c κs = search needs
-
-decay-requires-3 : tie.Need-decay-requires-3
-decay-requires-3 c κs = search needs
-
-decay-requires-4 : tie.Need-decay-requires-4
-decay-requires-4 c κs = search needs
-
-decay-requires-5 : tie.Need-decay-requires-5
-decay-requires-5 c κs = search needs
-
-decay-requires-6 : tie.Need-decay-requires-6
-decay-requires-6 c κs = search needs
-
-decay-requires-7 : tie.Need-decay-requires-7
-decay-requires-7 c κs = search needs
-
-decay-requires-8 : tie.Need-decay-requires-8
-decay-requires-8 c κs = search needs
-
-decay-requires-9 : tie.Need-decay-requires-9
-decay-requires-9 c κs = search needs
-
-decay-requires-10 : tie.Need-decay-requires-10
-decay-requires-10 c κs = search needs
-
-decay-requires-11 : tie.Need-decay-requires-11
-decay-requires-11 c κs = search needs
-
-decay-requires-12 : tie.Need-decay-requires-12
-decay-requires-12 c κs = search needs
-
 returns : tie.Need-returns
 unfolding each
 returns c =
@@ -60,4 +24,19 @@ returns c =
     ) refl
 
 pub one-by-one-spec : {M : Type 1} → statement M
-one-by-one-spec = tie.close (tie.spec decay-requires decay-requires-2 decay-requires-3 decay-requires-4 decay-requires-5 decay-requires-6 decay-requires-7 decay-requires-8 decay-requires-9 decay-requires-10 decay-requires-11 decay-requires-12 returns)
+one-by-one-spec =
+    tie.close
+    (tie.spec
+    (λ c κs. search needs)
+    (λ c κs. search needs)
+    (λ c κs. search needs)
+    (λ c κs. search needs)
+    (λ c κs. search needs)
+    (λ c κs. search needs)
+    (λ c κs. search needs)
+    (λ c κs. search needs)
+    (λ c κs. search needs)
+    (λ c κs. search needs)
+    (λ c κs. search needs)
+    (λ c κs. search needs)
+    returns)

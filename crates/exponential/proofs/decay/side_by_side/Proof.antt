@@ -12,14 +12,8 @@ use Rattle.exponential.proofs.Lanes.{all-worked, tame-parts}
 use Rattle.exponential.proofs.decay.side_by_side.Statement.{statement}
 use Rattle.exponential.proofs.decay.side_by_side.Tie as tie
 
-by-1024-requires : tie.Need-by-1024-requires
-by-1024-requires c κs = search needs
-
 chains-requires : tie.Need-chains-requires
 chains-requires c κs = subst (λ (y : Twelve). T (every tame (numbers y))) (sym (c .by-1024 .ensures)) (tame-parts (c .before .args .x) (c .before .pre))
-
-ten-squarings-requires : tie.Need-ten-squarings-requires
-ten-squarings-requires c κs = search needs
 
 returns : tie.Need-returns
 returns c =
@@ -29,4 +23,5 @@ returns c =
     ∙ all-worked (s .args .x) (s .pre)
 
 pub side-by-side-spec : {M : Type 1} → statement M
-side-by-side-spec = tie.close (tie.spec by-1024-requires chains-requires ten-squarings-requires returns)
+side-by-side-spec =
+    tie.close (tie.spec (λ c κs. search needs) chains-requires (λ c κs. search needs) returns)

@@ -17,9 +17,6 @@ rising c =
     let f = sym (d .before .before .before .before .is-finite .ensures) ∙ d .before .before .before .if1 .taken in
     simp (exponential, f, d .before .before .if2 .left, d .before .if3 .left, d .if4 .left, c .falling2 .ensures)
 
-is-finite-requires : tie.Need-is-finite-requires
-is-finite-requires c κs = search needs
-
 returns : tie.Need-returns
 unfolding exponential
 returns c = simp (exponential, sym (c .before .is-finite .ensures) ∙ c .if1 .left)
@@ -32,9 +29,6 @@ returns-3 : tie.Need-returns-3
 unfolding exponential ofBits ofInt whole
 returns-3 c = simp (exponential, sym (c .before .before .before .is-finite .ensures) ∙ c .before .before .if1 .taken, c .before .if2 .left, c .if3 .taken)
 
-falling-requires : tie.Need-falling-requires
-falling-requires c κs = search needs
-
 returns-4 : tie.Need-returns-4
 unfolding exponential ofBits ofInt whole
 returns-4 c =
@@ -42,21 +36,9 @@ returns-4 c =
     let f = sym (d .before .before .before .before .is-finite .ensures) ∙ d .before .before .before .if1 .taken in
     c .falling .ensures ∙ simp (exponential, f, d .before .before .if2 .left, d .before .if3 .left, d .if4 .taken)
 
-falling-requires-2 : tie.Need-falling-requires-2
-falling-requires-2 c κs = search needs
-
-enum-known-e : tie.Need-enum-known-e
-enum-known-e c = search needs
-
-enum-told : tie.Need-enum-told
-enum-told c = search needs
-
 returns-5 : tie.Need-returns-5
 unfolding _/ᵂ_ ofInt whole
 returns-5 c = sym (rising (c .before .before) ∙ ap (λ (w : Worked). checked (whole 1) /ᵂ w) (c .enum-told .given .1))
-
-checked-requires : tie.Need-checked-requires
-checked-requires c κs = search needs
 
 returns-6 : tie.Need-returns-6
 unfolding _/ᵂ_ ofBits ofInt whole
@@ -66,15 +48,15 @@ pub exponential-spec : {M : Type 1} → statement M
 exponential-spec =
     tie.close
     (tie.spec
-    is-finite-requires
+    (λ c κs. search needs)
     returns
     returns-2
     returns-3
-    falling-requires
+    (λ c κs. search needs)
     returns-4
-    falling-requires-2
-    enum-known-e
-    enum-told
+    (λ c κs. search needs)
+    (λ c. search needs)
+    (λ c. search needs)
     returns-5
-    checked-requires
+    (λ c κs. search needs)
     returns-6)

@@ -10,35 +10,28 @@ use Rattle.exponential.proofs.Decays.{range}
 use Rattle.exponential.proofs.exponential.falling.Statement.{statement}
 use Rattle.exponential.proofs.exponential.falling.Tie as tie
 
-ordinary-requires : tie.Need-ordinary-requires
-ordinary-requires c κs = search needs
-
 eased-requires : tie.Need-eased-requires
 unfolding whole ofBits ofInt round
 eased-requires c κs = range (neg (c .before .before .args .x)) (subst T (sym (c .if1 .taken) ∙ c .before .ordinary .ensures) tt)
 
-squared-requires : tie.Need-squared-requires
-squared-requires c κs = search needs
-
-checked-requires : tie.Need-checked-requires
-checked-requires c κs = search needs
-
 returns : tie.Need-returns
 unfolding whole ofBits ofInt round
 returns c = c .checked .ensures ∙ c .before .squared .ensures ∙ ap (squared 10) (c .before .before .eased .ensures) ∙ sym (falling-is (c .before .before .before .before .before .args .x))
-
-series-requires : tie.Need-series-requires
-series-requires c κs = search needs
-
-squared-requires-2 : tie.Need-squared-requires-2
-squared-requires-2 c κs = search needs
-
-checked-requires-2 : tie.Need-checked-requires-2
-checked-requires-2 c κs = search needs
 
 returns-2 : tie.Need-returns-2
 unfolding whole ofBits ofInt round
 returns-2 c = c .checked2 .ensures ∙ c .before .squared2 .ensures ∙ ap (squared 10) (c .before .before .series .ensures) ∙ sym (falling-is (c .before .before .before .before .before .args .x))
 
 pub falling-spec : {M : Type 1} → statement M
-falling-spec = tie.close (tie.spec ordinary-requires eased-requires squared-requires checked-requires returns series-requires squared-requires-2 checked-requires-2 returns-2)
+falling-spec =
+    tie.close
+    (tie.spec
+    (λ c κs. search needs)
+    eased-requires
+    (λ c κs. search needs)
+    (λ c κs. search needs)
+    returns
+    (λ c κs. search needs)
+    (λ c κs. search needs)
+    (λ c κs. search needs)
+    returns-2)

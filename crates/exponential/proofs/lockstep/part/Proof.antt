@@ -12,9 +12,6 @@ law c = parted (c .args .y) (c .args .k) (c .args .c) (c .args .h) (subst T (sym
 float-to-bits-b : tie.Need-float-to-bits-b
 float-to-bits-b c = law c .number
 
-sub-q : tie.Need-sub-q
-sub-q c = search needs
-
 float-from-bits-q : tie.Need-float-from-bits-q
 float-from-bits-q c = law c .pattern
 
@@ -22,4 +19,5 @@ returns : tie.Need-returns
 returns c = law c .quotient
 
 pub part-spec : {M : Type 1} → statement M
-part-spec = tie.close (tie.spec float-to-bits-b sub-q float-from-bits-q returns)
+part-spec =
+    tie.close (tie.spec float-to-bits-b (λ c. search needs) float-from-bits-q returns)

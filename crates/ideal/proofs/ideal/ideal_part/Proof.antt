@@ -17,33 +17,6 @@ unfolding phi-τ phi-ττ value
 summed c =
     simp (c .onto5 .ensures, c .before .onto4 .ensures, c .before .before .onto3 .ensures, c .before .before .before .onto2 .ensures, c .before .before .before .before .onto .ensures, c .before .before .before .before .before .start .ensures, c .before .before .before .before .before .before .table-27 .ensures)
 
-table-27-requires : tie.Need-table-27-requires
-table-27-requires c κs = search needs
-
-start-requires : tie.Need-start-requires
-start-requires c κs = search needs
-
-onto-requires : tie.Need-onto-requires
-onto-requires c κs = search needs
-
-onto-requires-2 : tie.Need-onto-requires-2
-onto-requires-2 c κs = search needs
-
-onto-requires-3 : tie.Need-onto-requires-3
-onto-requires-3 c κs = search needs
-
-onto-requires-4 : tie.Need-onto-requires-4
-onto-requires-4 c κs = search needs
-
-onto-requires-5 : tie.Need-onto-requires-5
-onto-requires-5 c κs = search needs
-
-checked-requires : tie.Need-checked-requires
-checked-requires c κs = search needs
-
-checked-requires-2 : tie.Need-checked-requires-2
-checked-requires-2 c κs = search needs
-
 returns : tie.Need-returns
 unfolding idealPart value
 returns c =
@@ -57,13 +30,13 @@ pub ideal-part-spec : {M : Type 1} → statement M
 ideal-part-spec =
     tie.close
     (tie.spec
-    table-27-requires
-    start-requires
-    onto-requires
-    onto-requires-2
-    onto-requires-3
-    onto-requires-4
-    onto-requires-5
-    checked-requires
-    checked-requires-2
+    (λ c κs. search needs)
+    (λ c κs. search needs)
+    (λ c κs. search needs)
+    (λ c κs. search needs)
+    (λ c κs. search needs)
+    (λ c κs. search needs)
+    (λ c κs. search needs)
+    (λ c κs. search needs)
+    (λ c κs. search needs)
     returns)

@@ -7,22 +7,16 @@ use borrow.Author.Needs.{needs}
 use Rattle.ideal.proofs.ideal.onto.Statement.{statement}
 use Rattle.ideal.proofs.ideal.onto.Tie as tie
 
-exponential-requires : tie.Need-exponential-requires
-exponential-requires c κs = search needs
-
-plain-requires : tie.Need-plain-requires
-plain-requires c κs = search needs
-
-over-requires : tie.Need-over-requires
-over-requires c κs = search needs
-
-over-requires-2 : tie.Need-over-requires-2
-over-requires-2 c κs = search needs
-
 returns : tie.Need-returns
 unfolding slope bend value whole ofInt ofBits
 returns c = simp (c .before .over2 .ensures, c .before .before .before .over .ensures, c .before .before .before .before .plain .ensures, c .before .before .before .before .before .exponential .ensures)
 
 pub onto-spec : {M : Type 1} → statement M
 onto-spec =
-    tie.close (tie.spec exponential-requires plain-requires over-requires over-requires-2 returns)
+    tie.close
+    (tie.spec
+    (λ c κs. search needs)
+    (λ c κs. search needs)
+    (λ c κs. search needs)
+    (λ c κs. search needs)
+    returns)

@@ -4,15 +4,10 @@ use borrow.Author.Needs.{needs}
 use Rattle.ideal.proofs.ideal.start.Statement.{statement}
 use Rattle.ideal.proofs.ideal.start.Tie as tie
 
-over-requires : tie.Need-over-requires
-over-requires c κs = search needs
-
-over-requires-2 : tie.Need-over-requires-2
-over-requires-2 c κs = search needs
-
 returns : tie.Need-returns
 unfolding value
 returns c = simp (c .before .before .over .ensures, c .over2 .ensures)
 
 pub start-spec : {M : Type 1} → statement M
-start-spec = tie.close (tie.spec over-requires over-requires-2 returns)
+start-spec =
+    tie.close (tie.spec (λ c κs. search needs) (λ c κs. search needs) returns)

@@ -9,18 +9,6 @@ use borrow.Author.Needs.{needs}
 use Rattle.isotherm.proofs.isotherm.at_temperature.Statement.{statement}
 use Rattle.isotherm.proofs.isotherm.at_temperature.Tie as tie
 
-tau-at-requires : tie.Need-tau-at-requires
-tau-at-requires c κs = search needs
-
-half-of-requires : tie.Need-half-of-requires
-half-of-requires c κs = search needs
-
-half-of-requires-2 : tie.Need-half-of-requires-2
-half-of-requires-2 c κs = search needs
-
-tau-powers-requires : tie.Need-tau-powers-requires
-tau-powers-requires c κs = search needs
-
 returns : tie.Need-returns
 unfolding isotherm quarterOf spread bellRows cold gaussians value decimal fraction whole ofBits ofInt round
 returns c = rw (c .tau-powers .ensures, c .before .half-of2 .ensures, c .before .before .half-of .ensures, c .before .before .before .tau-at .ensures) refl
@@ -28,4 +16,9 @@ returns c = rw (c .tau-powers .ensures, c .before .half-of2 .ensures, c .before 
 pub at-temperature-spec : {M : Type 1} → statement M
 at-temperature-spec =
     tie.close
-    (tie.spec tau-at-requires half-of-requires half-of-requires-2 tau-powers-requires returns)
+    (tie.spec
+    (λ c κs. search needs)
+    (λ c κs. search needs)
+    (λ c κs. search needs)
+    (λ c κs. search needs)
+    returns)

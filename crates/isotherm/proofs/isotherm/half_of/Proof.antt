@@ -5,14 +5,9 @@ use borrow.Author.Needs.{needs}
 use Rattle.isotherm.proofs.isotherm.half_of.Statement.{statement}
 use Rattle.isotherm.proofs.isotherm.half_of.Tie as tie
 
-root-requires : tie.Need-root-requires
-root-requires c κs = search needs
-
-plain-requires : tie.Need-plain-requires
-plain-requires c κs = search needs
-
 returns : tie.Need-returns
 returns c = c .plain .ensures ∙ ap plain (c .before .root .ensures)
 
 pub half-of-spec : {M : Type 1} → statement M
-half-of-spec = tie.close (tie.spec root-requires plain-requires returns)
+half-of-spec =
+    tie.close (tie.spec (λ c κs. search needs) (λ c κs. search needs) returns)

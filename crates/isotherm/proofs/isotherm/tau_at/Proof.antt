@@ -6,15 +6,10 @@ use borrow.Author.Needs.{needs}
 use Rattle.isotherm.proofs.isotherm.tau_at.Statement.{statement}
 use Rattle.isotherm.proofs.isotherm.tau_at.Tie as tie
 
-span-wagner-requires : tie.Need-span-wagner-requires
-span-wagner-requires c κs = search needs
-
-over-requires : tie.Need-over-requires
-over-requires c κs = search needs
-
 returns : tie.Need-returns
 unfolding tauOf value
 returns c = rw (c .over .ensures, c .before .span-wagner .ensures) refl
 
 pub tau-at-spec : {M : Type 1} → statement M
-tau-at-spec = tie.close (tie.spec span-wagner-requires over-requires returns)
+tau-at-spec =
+    tie.close (tie.spec (λ c κs. search needs) (λ c κs. search needs) returns)

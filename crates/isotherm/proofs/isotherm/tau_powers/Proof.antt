@@ -27,22 +27,10 @@ abbrev μ-loop : tie.MeasureT-loop
 low : (c : tie.At-loop Inv-loop μ-loop) → getD (c .before .tau-quarters .result) (c .loop .i) 0 < 113
 low c = subst (λ (l : List ℕ). getD l (c .loop .i) 0 < 113) (sym (c .before .tau-quarters .ensures)) (small (c .loop .i))
 
-powers-to-28-requires : tie.Need-powers-to-28-requires Inv-loop μ-loop
-powers-to-28-requires c κs = search needs
-
-powers-to-3-requires : tie.Need-powers-to-3-requires Inv-loop μ-loop
-powers-to-3-requires c κs = search needs
-
-tau-quarters-requires : tie.Need-tau-quarters-requires Inv-loop μ-loop
-tau-quarters-requires c κs = search needs
-
 loop-holds : tie.Need-loop-holds Inv-loop μ-loop
 loop-holds c =
     let a = c .before .before .before .args in
     (omega arith, record { long = sym (long (a .tau) (a .quarter)); same = refl })
-
-array-read-j : tie.Need-array-read-j Inv-loop μ-loop
-array-read-j c = search needs
 
 cast-j : tie.Need-cast-j Inv-loop μ-loop
 cast-j c = let l = low (c .before) in omega arith
@@ -53,17 +41,8 @@ mul-a c = let l = low (c .before) in omega arith
 array-read-a : tie.Need-array-read-a Inv-loop μ-loop
 array-read-a c = let l = low (c .before) in omega arith
 
-mul-a-2 : tie.Need-mul-a-2 Inv-loop μ-loop
-mul-a-2 c = search needs
-
-array-read-a-2 : tie.Need-array-read-a-2 Inv-loop μ-loop
-array-read-a-2 c = search needs
-
 mul-a-3 : tie.Need-mul-a-3 Inv-loop μ-loop
 mul-a-3 c = omega arith
-
-array-write-a : tie.Need-array-write-a Inv-loop μ-loop
-array-write-a c = search needs
 
 add-i : tie.Need-add-i Inv-loop μ-loop
 add-i c = omega arith
@@ -98,18 +77,18 @@ tau-powers-spec =
     (tie.spec
     Inv-loop
     μ-loop
-    powers-to-28-requires
-    powers-to-3-requires
-    tau-quarters-requires
+    (λ c κs. search needs)
+    (λ c κs. search needs)
+    (λ c κs. search needs)
     loop-holds
-    array-read-j
+    (λ c. search needs)
     cast-j
     mul-a
     array-read-a
-    mul-a-2
-    array-read-a-2
+    (λ c. search needs)
+    (λ c. search needs)
     mul-a-3
-    array-write-a
+    (λ c. search needs)
     add-i
     loop-less
     loop-again

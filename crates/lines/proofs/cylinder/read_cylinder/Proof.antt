@@ -8,27 +8,9 @@ use borrow.Author.Needs.{needs}
 use Rattle.lines.proofs.cylinder.read_cylinder.Statement.{statement}
 use Rattle.lines.proofs.cylinder.read_cylinder.Tie as tie
 
-read-field-after-requires : tie.Need-read-field-after-requires
-read-field-after-requires c κs = search needs
-
-enum-known-number : tie.Need-enum-known-number
-enum-known-number c = search needs
-
-enum-told : tie.Need-enum-told
-enum-told c = search needs
-
 returns : tie.Need-returns
 unfolding cylinder
 returns c = rw (subst (FieldIs _ _ _) (c .enum-told .given .1) (c .before .before .read-field-after .ensures))
-
-read-field-to-requires : tie.Need-read-field-to-requires
-read-field-to-requires c κs = search needs
-
-enum-known-temperature : tie.Need-enum-known-temperature
-enum-known-temperature c = search needs
-
-enum-told-2 : tie.Need-enum-told-2
-enum-told-2 c = search needs
 
 returns-2 : tie.Need-returns-2
 unfolding cylinder
@@ -36,9 +18,6 @@ returns-2 c =
     let at-number = c .before .before .before .before in
     let n = subst (FieldIs _ _ _) (at-number .number .given .1) (at-number .before .before .read-field-after .ensures) in
     rw (n .0, subst (FieldIs _ _ _) (c .enum-told2 .given .1) (c .before .before .read-field-to .ensures))
-
-read-reading-requires : tie.Need-read-reading-requires
-read-reading-requires c κs = search needs
 
 returns-3 : tie.Need-returns-3
 unfolding cylinder
@@ -53,13 +32,13 @@ pub read-cylinder-spec : {M : Type 1} → statement M
 read-cylinder-spec =
     tie.close
     (tie.spec
-    read-field-after-requires
-    enum-known-number
-    enum-told
+    (λ c κs. search needs)
+    (λ c. search needs)
+    (λ c. search needs)
     returns
-    read-field-to-requires
-    enum-known-temperature
-    enum-told-2
+    (λ c κs. search needs)
+    (λ c. search needs)
+    (λ c. search needs)
     returns-2
-    read-reading-requires
+    (λ c κs. search needs)
     returns-3)

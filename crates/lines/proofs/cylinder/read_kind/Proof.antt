@@ -7,17 +7,8 @@ use Rattle.lines.proofs.cylinder.read_kind.Tie as tie
 returns : tie.Need-returns
 returns c = kind-end _ _ (c .if1 .taken)
 
-shared-slice-read-b : tie.Need-shared-slice-read-b
-shared-slice-read-b c = search needs
-
-add-t9 : tie.Need-add-t9
-add-t9 c = search needs
-
 returns-2 : tie.Need-returns-2
 returns-2 c = (kind-pressure _ _ (c .before .before .if1 .left) (c .if2 .taken), search needs, search needs)
-
-add-t11 : tie.Need-add-t11
-add-t11 c = search needs
 
 returns-3 : tie.Need-returns-3
 returns-3 c = (kind-density _ _ (c .before .before .before .if1 .left) (c .if3 .taken), search needs, search needs)
@@ -27,4 +18,12 @@ returns-4 c = kind-other _ _ (c .before .before .before .if1 .left) (c .before .
 
 pub read-kind-spec : {M : Type 1} → statement M
 read-kind-spec =
-    tie.close (tie.spec returns shared-slice-read-b add-t9 returns-2 add-t11 returns-3 returns-4)
+    tie.close
+    (tie.spec
+    returns
+    (λ c. search needs)
+    (λ c. search needs)
+    returns-2
+    (λ c. search needs)
+    returns-3
+    returns-4)

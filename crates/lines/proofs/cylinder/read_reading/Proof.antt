@@ -11,27 +11,9 @@ use borrow.Author.Needs.{needs}
 use Rattle.lines.proofs.cylinder.read_reading.Statement.{statement}
 use Rattle.lines.proofs.cylinder.read_reading.Tie as tie
 
-read-kind-requires : tie.Need-read-kind-requires
-read-kind-requires c κs = search needs
-
-enum-known-kind : tie.Need-enum-known-kind
-enum-known-kind c = search needs
-
-enum-told : tie.Need-enum-told
-enum-told c = search needs
-
 returns : tie.Need-returns
 unfolding reading
 returns c = rw (subst (KindIs _ _ _) (c .enum-told .given .1) (c .before .before .read-kind .ensures))
-
-skip-requires : tie.Need-skip-requires
-skip-requires c κs = search needs
-
-enum-known-value-at : tie.Need-enum-known-value-at
-enum-known-value-at c = search needs
-
-enum-told-2 : tie.Need-enum-told-2
-enum-told-2 c = search needs
 
 -- past the kind; below, past the space and past the value
 kind-is : (c : tie.After-kind) → (let a = c .before .before .before .before .args in let k = c .kind .given .0 in Leaves (now (a .s)) (a .at) (kind (drop (a .at) (now (a .s)))) (k .0) (k .1 .0))
@@ -41,30 +23,12 @@ returns-2 : tie.Need-returns-2
 unfolding reading
 returns-2 c = rw (kind-is (c .before .before .before .before) .0, subst (PlaceIs _ _ _) (c .enum-told2 .given .1) (c .before .before .skip .ensures))
 
-read-field-to-requires : tie.Need-read-field-to-requires
-read-field-to-requires c κs = search needs
-
-enum-known-value : tie.Need-enum-known-value
-enum-known-value c = search needs
-
-enum-told-3 : tie.Need-enum-told-3
-enum-told-3 c = search needs
-
 space-is : (c : tie.After-value-at) → (let s = now (c .before .before .before .before .before .before .before .before .args .s) in let at = c .before .before .before .before .kind .given .0 .1 .0 in Leaves s at (byte 32 (drop at s)) tt (c .value-at .given .0 .0))
 space-is c = subst (PlaceIs _ _ _) (c .value-at .given .1) (c .before .before .skip .ensures)
 
 returns-3 : tie.Need-returns-3
 unfolding reading
 returns-3 c = rw (kind-is (c .before .before .before .before .before .before .before .before) .0, space-is (c .before .before .before .before) .0, subst (FieldIs _ _ _) (c .enum-told3 .given .1) (c .before .before .read-field-to .ensures))
-
-read-field-to-requires-2 : tie.Need-read-field-to-requires-2
-read-field-to-requires-2 c κs = search needs
-
-enum-known-volume : tie.Need-enum-known-volume
-enum-known-volume c = search needs
-
-enum-told-4 : tie.Need-enum-told-4
-enum-told-4 c = search needs
 
 value-is : (c : tie.After-value) → (let s = now (c .before .before .before .before .before .before .before .before .before .before .before .before .args .s) in let at = c .before .before .before .before .value-at .given .0 .0 in let v = c .value .given .0 in Leaves s at (fieldTo 32 (drop at s)) (v .0) (v .1 .0))
 value-is c = subst (FieldIs _ _ _) (c .value .given .1) (c .before .before .read-field-to .ensures)
@@ -86,20 +50,20 @@ pub read-reading-spec : {M : Type 1} → statement M
 read-reading-spec =
     tie.close
     (tie.spec
-    read-kind-requires
-    enum-known-kind
-    enum-told
+    (λ c κs. search needs)
+    (λ c. search needs)
+    (λ c. search needs)
     returns
-    skip-requires
-    enum-known-value-at
-    enum-told-2
+    (λ c κs. search needs)
+    (λ c. search needs)
+    (λ c. search needs)
     returns-2
-    read-field-to-requires
-    enum-known-value
-    enum-told-3
+    (λ c κs. search needs)
+    (λ c. search needs)
+    (λ c. search needs)
     returns-3
-    read-field-to-requires-2
-    enum-known-volume
-    enum-told-4
+    (λ c κs. search needs)
+    (λ c. search needs)
+    (λ c. search needs)
     returns-4
     returns-5)

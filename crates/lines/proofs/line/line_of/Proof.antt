@@ -3,14 +3,9 @@ use borrow.Author.Needs.{needs}
 use Rattle.lines.proofs.line.line_of.Statement.{statement}
 use Rattle.lines.proofs.line.line_of.Tie as tie
 
-temperature-of-requires : tie.Need-temperature-of-requires
-temperature-of-requires c κs = search needs
-
-reading-of-requires : tie.Need-reading-of-requires
-reading-of-requires c κs = search needs
-
 returns : tie.Need-returns
 returns c = rw (c .before .temperature-of .ensures, c .reading-of .ensures)
 
 pub line-of-spec : {M : Type 1} → statement M
-line-of-spec = tie.close (tie.spec temperature-of-requires reading-of-requires returns)
+line-of-spec =
+    tie.close (tie.spec (λ c κs. search needs) (λ c κs. search needs) returns)

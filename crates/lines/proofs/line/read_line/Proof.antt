@@ -7,15 +7,6 @@ use borrow.Author.Needs.{needs}
 use Rattle.lines.proofs.line.read_line.Statement.{statement}
 use Rattle.lines.proofs.line.read_line.Tie as tie
 
-read-cylinder-requires : tie.Need-read-cylinder-requires
-read-cylinder-requires c κs = search needs
-
-enum-known-c : tie.Need-enum-known-c
-enum-known-c c = search needs
-
-enum-told : tie.Need-enum-told
-enum-told c = search needs
-
 returns : tie.Need-returns
 unfolding line
 returns c = rw (subst (CylinderIs _ _ _) (c .enum-told .given .1) (c .before .before .read-cylinder .ensures))
@@ -32,4 +23,10 @@ returns-2 c =
 pub read-line-spec : {M : Type 1} → statement M
 read-line-spec =
     tie.close
-    (tie.spec read-cylinder-requires enum-known-c enum-told returns line-of-requires returns-2)
+    (tie.spec
+    (λ c κs. search needs)
+    (λ c. search needs)
+    (λ c. search needs)
+    returns
+    line-of-requires
+    returns-2)

@@ -9,26 +9,11 @@ use borrow.Author.Needs.{needs}
 use Rattle.lines.proofs.line.reading_of.Statement.{statement}
 use Rattle.lines.proofs.line.reading_of.Tie as tie
 
-enum-told : tie.Need-enum-told
-enum-told c = search needs
-
-enum-known-f : tie.Need-enum-known-f
-enum-known-f c = search needs
-
-enum-told-2 : tie.Need-enum-told-2
-enum-told-2 c = search needs
-
 int-to-float-t6 : tie.Need-int-to-float-t6
 int-to-float-t6 c = in-float _ (subst Small (c .before .before .before .before .f .given .1) (c .before .before .before .before .before .before .pre))
 
-enum-told-3 : tie.Need-enum-told-3
-enum-told-3 c = search needs
-
 int-to-float-t7 : tie.Need-int-to-float-t7
 int-to-float-t7 c = in-float _ (subst Small (c .before .before .before .before .f .given .1) (c .before .before .before .before .before .before .pre))
-
-returns : tie.Need-returns
-returns c = search needs
 
 returns-2 : tie.Need-returns-2
 unfolding whole
@@ -44,12 +29,12 @@ pub reading-of-spec : {M : Type 1} → statement M
 reading-of-spec =
     tie.close
     (tie.spec
-    enum-told
-    enum-known-f
-    enum-told-2
+    (λ c. search needs)
+    (λ c. search needs)
+    (λ c. search needs)
     int-to-float-t6
-    enum-told-3
+    (λ c. search needs)
     int-to-float-t7
-    returns
+    (λ c. search needs)
     returns-2
     returns-3)

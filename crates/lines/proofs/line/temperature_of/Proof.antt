@@ -7,12 +7,6 @@ use borrow.Author.Needs.{needs}
 use Rattle.lines.proofs.line.temperature_of.Statement.{statement}
 use Rattle.lines.proofs.line.temperature_of.Tie as tie
 
-enum-told : tie.Need-enum-told
-enum-told c = search needs
-
-enum-known-f : tie.Need-enum-known-f
-enum-known-f c = search needs
-
 int-to-float-t4 : tie.Need-int-to-float-t4
 int-to-float-t4 c = in-float _ (subst Small (c .before .before .f .given .1) (c .before .before .before .before .pre))
 
@@ -24,4 +18,5 @@ unfolding whole
 returns-2 c = rw (c .before .before .f .given .1, ten-thousand)
 
 pub temperature-of-spec : {M : Type 1} → statement M
-temperature-of-spec = tie.close (tie.spec enum-told enum-known-f int-to-float-t4 returns returns-2)
+temperature-of-spec =
+    tie.close (tie.spec (λ c. search needs) (λ c. search needs) int-to-float-t4 returns returns-2)

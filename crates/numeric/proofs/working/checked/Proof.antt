@@ -4,9 +4,6 @@ use Rattle.numeric.proofs.Workings.{checked-finite, checked-failed}
 use Rattle.numeric.proofs.working.checked.Statement.{statement}
 use Rattle.numeric.proofs.working.checked.Tie as tie
 
-is-finite-requires : tie.Need-is-finite-requires
-is-finite-requires c κs = search needs
-
 returns : tie.Need-returns
 returns c = checked-finite (c .before .before .args .x) (sym (c .before .is-finite .ensures) ∙ c .if1 .taken)
 
@@ -14,4 +11,5 @@ returns-2 : tie.Need-returns-2
 returns-2 c = checked-failed (c .before .before .args .x) (sym (c .before .is-finite .ensures) ∙ c .if1 .left)
 
 pub checked-spec : {M : Type 1} → statement M
-checked-spec = tie.close (tie.spec is-finite-requires returns returns-2)
+checked-spec =
+    tie.close (tie.spec (λ c κs. search needs) returns returns-2)

@@ -6,14 +6,9 @@ use Rattle.numeric.specs.Working.{checked, plain}
 use Rattle.numeric.proofs.working.over.Statement.{statement}
 use Rattle.numeric.proofs.working.over.Tie as tie
 
-checked-requires : tie.Need-checked-requires
-checked-requires c κs = search needs
-
-plain-requires : tie.Need-plain-requires
-plain-requires c κs = search needs
-
 returns : tie.Need-returns
 returns c = ap (λ (d : Float). div binary64 (c .before .before .args .x) d) (c .plain .ensures ∙ ap plain (c .before .checked .ensures))
 
 pub over-spec : {M : Type 1} → statement M
-over-spec = tie.close (tie.spec checked-requires plain-requires returns)
+over-spec =
+    tie.close (tie.spec (λ c κs. search needs) (λ c κs. search needs) returns)

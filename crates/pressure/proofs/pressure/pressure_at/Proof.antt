@@ -6,15 +6,10 @@ use borrow.Author.Needs.{needs}
 use Rattle.pressure.proofs.pressure.pressure_at.Statement.{statement}
 use Rattle.pressure.proofs.pressure.pressure_at.Tie as tie
 
-at-temperature-requires : tie.Need-at-temperature-requires
-at-temperature-requires c κs = search needs
-
-pressure-on-requires : tie.Need-pressure-on-requires
-pressure-on-requires c κs = search needs
-
 returns : tie.Need-returns
 unfolding pressure
 returns c = c .pressure-on .ensures ∙ ap (λ (i : Isotherm). pressureOn i (c .before .before .args .rho)) (c .before .at-temperature .ensures)
 
 pub pressure-at-spec : {M : Type 1} → statement M
-pressure-at-spec = tie.close (tie.spec at-temperature-requires pressure-on-requires returns)
+pressure-at-spec =
+    tie.close (tie.spec (λ c κs. search needs) (λ c κs. search needs) returns)

@@ -18,27 +18,9 @@ worked c =
     let a = n .before .before .before .before .before .before .before .args in
     c .checked .ensures ∙ rw (c .before .before .span-wagner .ensures) (once (pressureFormula (a .iso .t) (a .rho) (n .a .given .0 .0)))
 
-delta-at-requires : tie.Need-delta-at-requires
-delta-at-requires c κs = search needs
-
-enum-known-delta : tie.Need-enum-known-delta
-enum-known-delta c = search needs
-
-enum-told : tie.Need-enum-told
-enum-told c = search needs
-
 returns : tie.Need-returns
 unfolding pressureOn
 returns c = simp (pressureOn, sym (c .before .before .delta-at .ensures) ∙ c .enum-told .given .1)
-
-slope-at-requires : tie.Need-slope-at-requires
-slope-at-requires c κs = search needs
-
-enum-known-a : tie.Need-enum-known-a
-enum-known-a c = search needs
-
-enum-told-2 : tie.Need-enum-told-2
-enum-told-2 c = search needs
 
 returns-2 : tie.Need-returns-2
 unfolding pressureOn
@@ -46,12 +28,6 @@ returns-2 c =
     let m = c .before .before in
     let n = m .before .before in
     simp (pressureOn, sym (n .before .before .delta-at .ensures) ∙ n .delta .given .1, sym (m .slope-at .ensures) ∙ c .enum-told2 .given .1)
-
-span-wagner-requires : tie.Need-span-wagner-requires
-span-wagner-requires c κs = search needs
-
-checked-requires : tie.Need-checked-requires
-checked-requires c κs = search needs
 
 returns-3 : tie.Need-returns-3
 unfolding pressureOn
@@ -65,14 +41,14 @@ pub pressure-on-spec : {M : Type 1} → statement M
 pressure-on-spec =
     tie.close
     (tie.spec
-    delta-at-requires
-    enum-known-delta
-    enum-told
+    (λ c κs. search needs)
+    (λ c. search needs)
+    (λ c. search needs)
     returns
-    slope-at-requires
-    enum-known-a
-    enum-told-2
+    (λ c κs. search needs)
+    (λ c. search needs)
+    (λ c. search needs)
     returns-2
-    span-wagner-requires
-    checked-requires
+    (λ c κs. search needs)
+    (λ c κs. search needs)
     returns-3)

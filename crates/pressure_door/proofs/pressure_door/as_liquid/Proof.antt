@@ -12,30 +12,9 @@ use borrow.Author.Needs.{needs}
 use Rattle.pressure_door.proofs.pressure_door.as_liquid.Statement.{statement}
 use Rattle.pressure_door.proofs.pressure_door.as_liquid.Tie as tie
 
-document-01-requires : tie.Need-document-01-requires
-document-01-requires c κs = search needs
-
-liquid-density-requires : tie.Need-liquid-density-requires
-liquid-density-requires c κs = search needs
-
-enum-known-d : tie.Need-enum-known-d
-enum-known-d c = search needs
-
-enum-told : tie.Need-enum-told
-enum-told c = search needs
-
 returns : tie.Need-returns
 unfolding liquid of1996
 returns c = rw (sym (c .before .before .liquid-density .ensures) ∙ c .enum-told .given .1)
-
-checked-requires : tie.Need-checked-requires
-checked-requires c κs = search needs
-
-enum-known-from : tie.Need-enum-known-from
-enum-known-from c = search needs
-
-enum-told-2 : tie.Need-enum-told-2
-enum-told-2 c = search needs
 
 -- past the product: the density, and what the end was worked to
 known : (c : tie.After-checked) → (let d = c .before .before .before .d .given .0 .0 in (liquidDensity (c .before .before .before .before .before .before .before .args .t) ≡ Number d) × (work (num (document01 .liquid) ⊗ num d) ≡ c .checked .result))
@@ -60,14 +39,14 @@ pub as-liquid-spec : {M : Type 1} → statement M
 as-liquid-spec =
     tie.close
     (tie.spec
-    document-01-requires
-    liquid-density-requires
-    enum-known-d
-    enum-told
+    (λ c κs. search needs)
+    (λ c κs. search needs)
+    (λ c. search needs)
+    (λ c. search needs)
     returns
-    checked-requires
-    enum-known-from
-    enum-told-2
+    (λ c κs. search needs)
+    (λ c. search needs)
+    (λ c. search needs)
     returns-2
     search-at-requires
     returns-3)

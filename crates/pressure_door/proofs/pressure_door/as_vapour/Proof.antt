@@ -12,30 +12,9 @@ use borrow.Author.Needs.{needs}
 use Rattle.pressure_door.proofs.pressure_door.as_vapour.Statement.{statement}
 use Rattle.pressure_door.proofs.pressure_door.as_vapour.Tie as tie
 
-document-01-requires : tie.Need-document-01-requires
-document-01-requires c κs = search needs
-
-vapour-density-requires : tie.Need-vapour-density-requires
-vapour-density-requires c κs = search needs
-
-enum-known-d : tie.Need-enum-known-d
-enum-known-d c = search needs
-
-enum-told : tie.Need-enum-told
-enum-told c = search needs
-
 returns : tie.Need-returns
 unfolding vapour of1996
 returns c = rw (sym (c .before .before .vapour-density .ensures) ∙ c .enum-told .given .1)
-
-checked-requires : tie.Need-checked-requires
-checked-requires c κs = search needs
-
-enum-known-to : tie.Need-enum-known-to
-enum-known-to c = search needs
-
-enum-told-2 : tie.Need-enum-told-2
-enum-told-2 c = search needs
 
 -- past the product: the density, and what the end was worked to
 known : (c : tie.After-checked) → (let d = c .before .before .before .d .given .0 .0 in (vapourDensity (c .before .before .before .before .before .before .before .args .t) ≡ Number d) × (work (num (document01 .vapour) ⊗ num d) ≡ c .checked .result))
@@ -60,14 +39,14 @@ pub as-vapour-spec : {M : Type 1} → statement M
 as-vapour-spec =
     tie.close
     (tie.spec
-    document-01-requires
-    vapour-density-requires
-    enum-known-d
-    enum-told
+    (λ c κs. search needs)
+    (λ c κs. search needs)
+    (λ c. search needs)
+    (λ c. search needs)
     returns
-    checked-requires
-    enum-known-to
-    enum-told-2
+    (λ c κs. search needs)
+    (λ c. search needs)
+    (λ c. search needs)
     returns-2
     search-at-requires
     returns-3)

@@ -6,15 +6,6 @@ use borrow.Author.Needs.{needs}
 use Rattle.pressure_door.proofs.pressure_door.beneath.Statement.{statement}
 use Rattle.pressure_door.proofs.pressure_door.beneath.Tie as tie
 
-vapour-pressure-requires : tie.Need-vapour-pressure-requires
-vapour-pressure-requires c κs = search needs
-
-enum-known-s : tie.Need-enum-known-s
-enum-known-s c = search needs
-
-enum-told : tie.Need-enum-told
-enum-told c = search needs
-
 returns : tie.Need-returns
 unfolding beneath of1996
 returns c = rw (sym (c .before .before .vapour-pressure .ensures) ∙ c .enum-told .given .1) refl
@@ -23,15 +14,9 @@ returns-2 : tie.Need-returns-2
 unfolding beneath of1996
 returns-2 c = rw (sym (c .before .before .before .before .vapour-pressure .ensures) ∙ c .before .before .s .given .1, c .if1 .taken) refl
 
-as-vapour-requires : tie.Need-as-vapour-requires
-as-vapour-requires c κs = search needs
-
 returns-3 : tie.Need-returns-3
 unfolding beneath of1996
 returns-3 c = c .as-vapour .ensures ∙ rw (sym (c .before .before .before .before .before .before .vapour-pressure .ensures) ∙ c .before .before .before .before .s .given .1, c .before .before .if1 .left, c .before .if2 .taken) refl
-
-as-liquid-requires : tie.Need-as-liquid-requires
-as-liquid-requires c κs = search needs
 
 returns-4 : tie.Need-returns-4
 unfolding beneath of1996
@@ -41,12 +26,12 @@ pub beneath-spec : {M : Type 1} → statement M
 beneath-spec =
     tie.close
     (tie.spec
-    vapour-pressure-requires
-    enum-known-s
-    enum-told
+    (λ c κs. search needs)
+    (λ c. search needs)
+    (λ c. search needs)
     returns
     returns-2
-    as-vapour-requires
+    (λ c κs. search needs)
     returns-3
-    as-liquid-requires
+    (λ c κs. search needs)
     returns-4)

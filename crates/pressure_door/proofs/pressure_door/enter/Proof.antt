@@ -9,12 +9,6 @@ use borrow.Author.Needs.{needs}
 use Rattle.pressure_door.proofs.pressure_door.enter.Statement.{statement}
 use Rattle.pressure_door.proofs.pressure_door.enter.Tie as tie
 
-span-wagner-requires : tie.Need-span-wagner-requires
-span-wagner-requires c κs = search needs
-
-document-01-requires : tie.Need-document-01-requires
-document-01-requires c κs = search needs
-
 search-at-requires : tie.Need-search-at-requires
 search-at-requires c κs = let s = subst Searchable (sym (c .document-01 .ensures)) searchable in (s .from, (s .to, s .held))
 
@@ -24,9 +18,6 @@ returns c =
     let doc = c .before .document-01 .ensures in
     c .search-at .ensures ∙ rw (doc, sym (ap (λ (k : Constants). le (k .temperature) (c .before .before .before .before .before .args .t)) (c .before .before .before .before .span-wagner .ensures)) ∙ c .before .before .if1 .taken) refl
 
-beneath-requires : tie.Need-beneath-requires
-beneath-requires c κs = search needs
-
 returns-2 : tie.Need-returns-2
 unfolding entered of1996
 returns-2 c = c .beneath .ensures ∙ rw (sym (ap (λ (k : Constants). le (k .temperature) (c .before .before .before .before .args .t)) (c .before .before .before .span-wagner .ensures)) ∙ c .before .if1 .left) refl
@@ -35,9 +26,9 @@ pub enter-spec : {M : Type 1} → statement M
 enter-spec =
     tie.close
     (tie.spec
-    span-wagner-requires
-    document-01-requires
+    (λ c κs. search needs)
+    (λ c κs. search needs)
     search-at-requires
     returns
-    beneath-requires
+    (λ c κs. search needs)
     returns-2)

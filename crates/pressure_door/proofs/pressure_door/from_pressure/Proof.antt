@@ -7,21 +7,6 @@ use borrow.Author.Needs.{needs}
 use Rattle.pressure_door.proofs.pressure_door.from_pressure.Statement.{statement}
 use Rattle.pressure_door.proofs.pressure_door.from_pressure.Tie as tie
 
-document-01-requires : tie.Need-document-01-requires
-document-01-requires c κs = search needs
-
-check-inputs-requires : tie.Need-check-inputs-requires
-check-inputs-requires c κs = search needs
-
-enum-told : tie.Need-enum-told
-enum-told c = search needs
-
-enum-told-2 : tie.Need-enum-told-2
-enum-told-2 c = search needs
-
-refusal-requires : tie.Need-refusal-requires
-refusal-requires c κs = search needs
-
 -- what was checked
 known : (c : tie.After-check-inputs) → (let a = c .before .before .args in checks document01 (document01 .asked .pressure) (document01 .critical .pressure) (a .t) (a .p) ≡ c .check-inputs .result)
 known c = rw (← c .before .document-01 .ensures) (sym (c .check-inputs .ensures))
@@ -29,9 +14,6 @@ known c = rw (← c .before .document-01 .ensures) (sym (c .check-inputs .ensure
 returns : tie.Need-returns
 unfolding pressureDoor
 returns c = let e = c .before .enum-told2 .given .1 in c .refusal .ensures ∙ rw (known (c .before .before .before) ∙ e, e)
-
-enter-requires : tie.Need-enter-requires
-enter-requires c κs = search needs
 
 returns-2 : tie.Need-returns-2
 unfolding pressureDoor
@@ -41,11 +23,11 @@ pub from-pressure-spec : {M : Type 1} → statement M
 from-pressure-spec =
     tie.close
     (tie.spec
-    document-01-requires
-    check-inputs-requires
-    enum-told
-    enum-told-2
-    refusal-requires
+    (λ c κs. search needs)
+    (λ c κs. search needs)
+    (λ c. search needs)
+    (λ c. search needs)
+    (λ c κs. search needs)
     returns
-    enter-requires
+    (λ c κs. search needs)
     returns-2)

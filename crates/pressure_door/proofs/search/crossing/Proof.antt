@@ -18,15 +18,6 @@ returns c = let a = c .before .args in sym (nowhere-back (figure (pressureOn (a 
 float-from-bits-pressure-on : tie.Need-float-from-bits-pressure-on
 float-from-bits-pressure-on c = no-nan _ (omega arith)
 
-pressure-on-requires : tie.Need-pressure-on-requires
-pressure-on-requires c κs = search needs
-
-enum-known-low : tie.Need-enum-known-low
-enum-known-low c = search needs
-
-enum-told : tie.Need-enum-told
-enum-told c = search needs
-
 returns-2 : tie.Need-returns-2
 returns-2 c =
     let k = c .before .before in
@@ -35,15 +26,6 @@ returns-2 c =
 
 float-from-bits-pressure-on-2 : tie.Need-float-from-bits-pressure-on-2
 float-from-bits-pressure-on-2 c = no-nan _ (omega arith)
-
-pressure-on-requires-2 : tie.Need-pressure-on-requires-2
-pressure-on-requires-2 c κs = search needs
-
-enum-known-high : tie.Need-enum-known-high
-enum-known-high c = search needs
-
-enum-told-2 : tie.Need-enum-told-2
-enum-told-2 c = search needs
 
 returns-3 : tie.Need-returns-3
 returns-3 c =
@@ -68,9 +50,6 @@ narrow-requires c κs =
     let a = c .before .before .before .before .before .before .before .before .before .before .before .args in
     (omega arith, (omega arith, (is-not-above (a .iso) (a .p) (a .from) _ (k .0) (c .before .if2 .left), is-above (a .iso) (a .p) (a .to) _ (k .1) (c .if3 .taken))))
 
-returns-5 : tie.Need-returns-5
-returns-5 c = search needs
-
 returns-6 : tie.Need-returns-6
 returns-6 c =
     let k = known (c .before .before .before) in
@@ -83,16 +62,16 @@ crossing-spec =
     (tie.spec
     returns
     float-from-bits-pressure-on
-    pressure-on-requires
-    enum-known-low
-    enum-told
+    (λ c κs. search needs)
+    (λ c. search needs)
+    (λ c. search needs)
     returns-2
     float-from-bits-pressure-on-2
-    pressure-on-requires-2
-    enum-known-high
-    enum-told-2
+    (λ c κs. search needs)
+    (λ c. search needs)
+    (λ c. search needs)
     returns-3
     returns-4
     narrow-requires
-    returns-5
+    (λ c. search needs)
     returns-6)

@@ -33,15 +33,6 @@ add-mid c = omega arith
 float-from-bits-pressure-on : tie.Need-float-from-bits-pressure-on Inv-loop μ-loop
 float-from-bits-pressure-on c = no-nan _ (omega arith)
 
-pressure-on-requires : tie.Need-pressure-on-requires Inv-loop μ-loop
-pressure-on-requires c κs = search needs
-
-enum-known-x : tie.Need-enum-known-x Inv-loop μ-loop
-enum-known-x c = search needs
-
-enum-told : tie.Need-enum-told Inv-loop μ-loop
-enum-told c = search needs
-
 returns : tie.Need-returns Inv-loop μ-loop
 unfolding middle
 returns c =
@@ -90,9 +81,9 @@ narrow-spec =
     sub-mid
     add-mid
     float-from-bits-pressure-on
-    pressure-on-requires
-    enum-known-x
-    enum-told
+    (λ c κs. search needs)
+    (λ c. search needs)
+    (λ c. search needs)
     returns
     loop-less
     loop-again

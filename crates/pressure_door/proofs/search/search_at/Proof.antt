@@ -8,12 +8,6 @@ use borrow.Author.Needs.{needs}
 use Rattle.pressure_door.proofs.search.search_at.Statement.{statement}
 use Rattle.pressure_door.proofs.search.search_at.Tie as tie
 
-at-temperature-requires : tie.Need-at-temperature-requires
-at-temperature-requires c κs = search needs
-
-search-for-requires : tie.Need-search-for-requires
-search-for-requires c κs = search needs
-
 returns : tie.Need-returns
 unfolding pressure state
 returns c =
@@ -21,4 +15,5 @@ returns c =
     c .search-for .ensures ∙ ap (λ (i : Isotherm). searched (pressureOn i) (stateOn i) (a .phase) (a .from) (a .to) (a .p)) (c .before .at-temperature .ensures)
 
 pub search-at-spec : {M : Type 1} → statement M
-search-at-spec = tie.close (tie.spec at-temperature-requires search-for-requires returns)
+search-at-spec =
+    tie.close (tie.spec (λ c κs. search needs) (λ c κs. search needs) returns)

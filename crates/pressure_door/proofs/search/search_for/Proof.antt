@@ -22,9 +22,6 @@ float-to-bits-crossing-2 c = nonneg-no-nan (c .args .to) (c .pre .1 .0)
 crossing-requires : tie.Need-crossing-requires
 crossing-requires c κs = bits-below (c .args .to) (c .pre .1 .0) (c .pre .1 .1)
 
-enum-known-b : tie.Need-enum-known-b
-enum-known-b c = search needs
-
 float-from-bits-state-on : tie.Need-float-from-bits-state-on
 float-from-bits-state-on c =
     let n = c .before in
@@ -34,18 +31,6 @@ float-from-bits-state-on c =
     let f = answer (figure (pressureOn (a .iso))) (a .p) (toBits binary64 (a .from)) (toBits binary64 (a .to)) _ (omega arith) (sym (q .crossing .ensures) ∙ n .b .given .1) in
     let l = f .to in
     no-nan _ (omega arith)
-
-state-on-requires : tie.Need-state-on-requires
-state-on-requires c κs = search needs
-
-settle-requires : tie.Need-settle-requires
-settle-requires c κs = search needs
-
-enum-told : tie.Need-enum-told
-enum-told c = search needs
-
-enum-told-2 : tie.Need-enum-told-2
-enum-told-2 c = search needs
 
 returns : tie.Need-returns
 unfolding searched
@@ -77,12 +62,12 @@ search-for-spec =
     float-to-bits-crossing
     float-to-bits-crossing-2
     crossing-requires
-    enum-known-b
+    (λ c. search needs)
     float-from-bits-state-on
-    state-on-requires
-    settle-requires
-    enum-told
-    enum-told-2
+    (λ c κs. search needs)
+    (λ c κs. search needs)
+    (λ c. search needs)
+    (λ c. search needs)
     returns
     returns-2
     returns-3)

@@ -15,32 +15,8 @@ Inv-loop m n sum₀ i₀ sum i = (i ≤ n) × (sum ≤ 46 * i) × (length (lines
 abbrev μ-loop : tie.MeasureT-loop
 μ-loop m n sum₀ i₀ sum i = n - i
 
-shown-requires : tie.Need-shown-requires Inv-loop μ-loop
-shown-requires c κs = search needs
-
 loop-holds : tie.Need-loop-holds Inv-loop μ-loop
 loop-holds c = omega arith
-
-mul-mark : tie.Need-mul-mark Inv-loop μ-loop
-mul-mark c = search needs
-
-element-copy-out-mark : tie.Need-element-copy-out-mark Inv-loop μ-loop
-element-copy-out-mark c = search needs
-
-add-line-len : tie.Need-add-line-len Inv-loop μ-loop
-add-line-len c = search needs
-
-line-len-requires : tie.Need-line-len-requires Inv-loop μ-loop
-line-len-requires c κs = search needs
-
-add-sum : tie.Need-add-sum Inv-loop μ-loop
-add-sum c = search needs
-
-add-i : tie.Need-add-i Inv-loop μ-loop
-add-i c = search needs
-
-loop-less : tie.Need-loop-less Inv-loop μ-loop
-loop-less c = search needs
 
 loop-again : tie.Need-loop-again Inv-loop μ-loop
 loop-again c =
@@ -58,14 +34,14 @@ lines-len-spec =
     (tie.spec
     Inv-loop
     μ-loop
-    shown-requires
+    (λ c κs. search needs)
     loop-holds
-    mul-mark
-    element-copy-out-mark
-    add-line-len
-    line-len-requires
-    add-sum
-    add-i
-    loop-less
+    (λ c. search needs)
+    (λ c. search needs)
+    (λ c. search needs)
+    (λ c κs. search needs)
+    (λ c. search needs)
+    (λ c. search needs)
+    (λ c. search needs)
     loop-again
     returns)

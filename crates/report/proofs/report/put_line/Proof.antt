@@ -8,12 +8,6 @@ use borrow.Author.Needs.{needs}
 use Rattle.report.proofs.report.put_line.Statement.{statement}
 use Rattle.report.proofs.report.put_line.Tie as tie
 
-slice-aggregate-put-between : tie.Need-slice-aggregate-put-between
-slice-aggregate-put-between c = search needs
-
-slice-aggregate-put-between-2 : tie.Need-slice-aggregate-put-between-2
-slice-aggregate-put-between-2 c = search needs
-
 put-between-requires : tie.Need-put-between-requires
 put-between-requires c κs =
     let a = c .before .before .before .before .args in
@@ -29,9 +23,6 @@ part-put-weighed-start c =
     let a = c .before .before .before .before .before .before .before .args in
     inside (c .before .before .put-between .ensures) (omega (arith, line-length (a .i) (a .w)))
 
-part-put-weighed-end : tie.Need-part-put-weighed-end
-part-put-weighed-end c = search needs
-
 put-weighed-requires : tie.Need-put-weighed-requires
 put-weighed-requires c κs =
     let a = c .before .before .before .before .before .before .before .before .args in
@@ -43,9 +34,6 @@ add-result c =
     let a = c .before .before .before .before .before .before .before .before .before .before .before .args in
     omega (arith, line-length (a .i) (a .w), c .before .before .before .before .before .before .put-between .ensures .count, c .before .before .put-weighed .ensures .count)
 
-same-length : tie.Need-same-length
-same-length c = search needs
-
 returns : tie.Need-returns
 unfolding lineBytes
 returns c =
@@ -56,13 +44,13 @@ pub put-line-spec : {M : Type 1} → statement M
 put-line-spec =
     tie.close
     (tie.spec
-    slice-aggregate-put-between
-    slice-aggregate-put-between-2
+    (λ c. search needs)
+    (λ c. search needs)
     put-between-requires
     sub-put-weighed
     part-put-weighed-start
-    part-put-weighed-end
+    (λ c. search needs)
     put-weighed-requires
     add-result
-    same-length
+    (λ c. search needs)
     returns)

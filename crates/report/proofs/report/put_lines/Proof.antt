@@ -12,29 +12,14 @@ Inv-loop out₀ m n at₀ i₀ out at i = (i ≤ n) × Turn out₀ m out at i
 abbrev μ-loop : tie.MeasureT-loop
 μ-loop out₀ m n at₀ i₀ out at i = n - i
 
-shown-requires : tie.Need-shown-requires Inv-loop μ-loop
-shown-requires c κs = search needs
-
 loop-holds : tie.Need-loop-holds Inv-loop μ-loop
 loop-holds c = (search needs, start _ _)
-
-mul-mark : tie.Need-mul-mark Inv-loop μ-loop
-mul-mark c = search needs
-
-element-copy-out-mark : tie.Need-element-copy-out-mark Inv-loop μ-loop
-element-copy-out-mark c = search needs
 
 sub-put-line : tie.Need-sub-put-line Inv-loop μ-loop
 sub-put-line c = before (c .before .before .loop .inv .1) (c .before .before .before .before .before .pre)
 
 part-put-line-start : tie.Need-part-put-line-start Inv-loop μ-loop
 part-put-line-start c = before (c .before .before .loop .inv .1) (c .before .before .before .before .before .pre)
-
-part-put-line-end : tie.Need-part-put-line-end Inv-loop μ-loop
-part-put-line-end c = search needs
-
-add-put-line : tie.Need-add-put-line Inv-loop μ-loop
-add-put-line c = search needs
 
 put-line-requires : tie.Need-put-line-requires Inv-loop μ-loop
 put-line-requires c κs =
@@ -45,12 +30,6 @@ add-at : tie.Need-add-at Inv-loop μ-loop
 add-at c =
     let l = c .before .before .before .before .before .before in
     omega (arith, at-most (l .loop .inv .1) (l .before .before .before .pre) (omega arith) _ _ (c .before .before .put-line .ensures))
-
-add-i : tie.Need-add-i Inv-loop μ-loop
-add-i c = search needs
-
-loop-less : tie.Need-loop-less Inv-loop μ-loop
-loop-less c = search needs
 
 loop-again : tie.Need-loop-again Inv-loop μ-loop
 loop-again c =
@@ -69,18 +48,18 @@ put-lines-spec =
     (tie.spec
     Inv-loop
     μ-loop
-    shown-requires
+    (λ c κs. search needs)
     loop-holds
-    mul-mark
-    element-copy-out-mark
+    (λ c. search needs)
+    (λ c. search needs)
     sub-put-line
     part-put-line-start
-    part-put-line-end
-    add-put-line
+    (λ c. search needs)
+    (λ c. search needs)
     put-line-requires
     add-at
-    add-i
-    loop-less
+    (λ c. search needs)
+    (λ c. search needs)
     loop-again
     same-length
     returns)

@@ -30,9 +30,6 @@ low c = rw (c .exponential-row .ensures) (exponential-small (c .before .before .
 loop-holds : tie.Need-loop-holds Inv-loop μ-loop
 loop-holds c = (omega arith, λ iso delta y d e k t. refl)
 
-exponential-row-requires : tie.Need-exponential-row-requires Inv-loop μ-loop
-exponential-row-requires c κs = search needs
-
 cast-d : tie.Need-cast-d Inv-loop μ-loop
 cast-d c = let l = low (c .before) in omega arith
 
@@ -69,12 +66,6 @@ mul-exponential-brackets c = let l = low (c .before .before .before) in omega ar
 array-read-exponential-brackets : tie.Need-array-read-exponential-brackets Inv-loop μ-loop
 array-read-exponential-brackets c = let l = low (c .before .before .before) in omega arith
 
-exponential-brackets-requires : tie.Need-exponential-brackets-requires Inv-loop μ-loop
-exponential-brackets-requires c κs = search needs
-
-grow-requires : tie.Need-grow-requires Inv-loop μ-loop
-grow-requires c κs = search needs
-
 add-i : tie.Need-add-i Inv-loop μ-loop
 add-i c = omega arith
 
@@ -110,7 +101,7 @@ exponential-sums-spec =
     Inv-loop
     μ-loop
     loop-holds
-    exponential-row-requires
+    (λ c κs. search needs)
     cast-d
     cast-c
     mul-term
@@ -123,8 +114,8 @@ exponential-sums-spec =
     array-read-term-3
     mul-exponential-brackets
     array-read-exponential-brackets
-    exponential-brackets-requires
-    grow-requires
+    (λ c κs. search needs)
+    (λ c κs. search needs)
     add-i
     loop-less
     loop-again

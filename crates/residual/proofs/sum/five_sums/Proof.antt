@@ -8,12 +8,6 @@ use borrow.Author.Needs.{needs}
 use Rattle.residual.proofs.sum.five_sums.Statement.{statement}
 use Rattle.residual.proofs.sum.five_sums.Tie as tie
 
-sums-at-requires : tie.Need-sums-at-requires
-sums-at-requires c κs = search needs
-
-together-requires : tie.Need-together-requires
-together-requires c κs = search needs
-
 returns : tie.Need-returns
 unfolding fiveSums
 returns c =
@@ -22,4 +16,5 @@ returns c =
     c .together .ensures ∙ together-same (λ k. checked (of (t .sums-at .result) k)) (residual (a .iso) (a .delta)) (λ k. t .sums-at .ensures k tt)
 
 pub five-sums-spec : {M : Type 1} → statement M
-five-sums-spec = tie.close (tie.spec sums-at-requires together-requires returns)
+five-sums-spec =
+    tie.close (tie.spec (λ c κs. search needs) (λ c κs. search needs) returns)

@@ -27,9 +27,6 @@ low c = rw (c .gaussian-row .ensures) (gaussian-small (c .before .before .loop .
 loop-holds : tie.Need-loop-holds Inv-loop μ-loop
 loop-holds c = (omega arith, λ k t. refl)
 
-gaussian-row-requires : tie.Need-gaussian-row-requires Inv-loop μ-loop
-gaussian-row-requires c κs = search needs
-
 cast-d : tie.Need-cast-d Inv-loop μ-loop
 cast-d c = let l = low (c .before) in omega arith
 
@@ -53,12 +50,6 @@ mul-term-3 c = omega arith
 
 array-read-term-3 : tie.Need-array-read-term-3 Inv-loop μ-loop
 array-read-term-3 c = omega arith
-
-gaussian-brackets-requires : tie.Need-gaussian-brackets-requires Inv-loop μ-loop
-gaussian-brackets-requires c κs = search needs
-
-grow-requires : tie.Need-grow-requires Inv-loop μ-loop
-grow-requires c κs = search needs
 
 add-i : tie.Need-add-i Inv-loop μ-loop
 add-i c = omega arith
@@ -93,7 +84,7 @@ gaussian-sums-spec =
     Inv-loop
     μ-loop
     loop-holds
-    gaussian-row-requires
+    (λ c κs. search needs)
     cast-d
     mul-term
     array-read-term
@@ -102,8 +93,8 @@ gaussian-sums-spec =
     array-read-term-2
     mul-term-3
     array-read-term-3
-    gaussian-brackets-requires
-    grow-requires
+    (λ c κs. search needs)
+    (λ c κs. search needs)
     add-i
     loop-less
     loop-again

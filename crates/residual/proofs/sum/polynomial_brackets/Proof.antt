@@ -8,15 +8,10 @@ use borrow.Author.Needs.{needs}
 use Rattle.residual.proofs.sum.polynomial_brackets.Statement.{statement}
 use Rattle.residual.proofs.sum.polynomial_brackets.Tie as tie
 
-int-to-float-d : tie.Need-int-to-float-d
-int-to-float-d c = search needs
-
-int-to-float-t : tie.Need-int-to-float-t
-int-to-float-t c = search needs
-
 returns : tie.Need-returns
 unfolding polynomialBracket value whole ofBits ofInt
 returns c = refl
 
 pub polynomial-brackets-spec : {M : Type 1} → statement M
-polynomial-brackets-spec = tie.close (tie.spec int-to-float-d int-to-float-t returns)
+polynomial-brackets-spec =
+    tie.close (tie.spec (λ c. search needs) (λ c. search needs) returns)

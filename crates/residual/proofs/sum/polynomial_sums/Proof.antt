@@ -27,21 +27,6 @@ abbrev μ-loop : tie.MeasureT-loop
 low : (c : tie.After-polynomial-row2 Inv-loop μ-loop) → c .polynomial-row2 .result .d < 11
 low c = rw (c .polynomial-row2 .ensures) (polynomial-small (c .before .before .loop .i))
 
-polynomial-row-requires : tie.Need-polynomial-row-requires Inv-loop μ-loop
-polynomial-row-requires c κs = search needs
-
-array-read-first : tie.Need-array-read-first Inv-loop μ-loop
-array-read-first c = search needs
-
-array-read-first-2 : tie.Need-array-read-first-2 Inv-loop μ-loop
-array-read-first-2 c = search needs
-
-polynomial-brackets-requires : tie.Need-polynomial-brackets-requires Inv-loop μ-loop
-polynomial-brackets-requires c κs = search needs
-
-first-requires : tie.Need-first-requires Inv-loop μ-loop
-first-requires c κs = search needs
-
 loop-holds : tie.Need-loop-holds Inv-loop μ-loop
 unfolding polynomials
 loop-holds c =
@@ -54,9 +39,6 @@ loop-holds c =
           dues-first (a .all) (polynomialFigures iso delta) (c .first .result) _ _ (c .first .ensures)
           (rw one at (polynomial-placed iso delta y d 0 (omega arith) (x .polynomial-row .ensures) (b .polynomial-brackets .ensures))),
     )
-
-polynomial-row-requires-2 : tie.Need-polynomial-row-requires-2 Inv-loop μ-loop
-polynomial-row-requires-2 c κs = search needs
 
 cast-d : tie.Need-cast-d Inv-loop μ-loop
 cast-d c = let l = low (c .before) in omega arith
@@ -72,12 +54,6 @@ mul-grow-2 c = omega arith
 
 array-read-grow-2 : tie.Need-array-read-grow-2 Inv-loop μ-loop
 array-read-grow-2 c = omega arith
-
-polynomial-brackets-requires-2 : tie.Need-polynomial-brackets-requires-2 Inv-loop μ-loop
-polynomial-brackets-requires-2 c κs = search needs
-
-grow-requires : tie.Need-grow-requires Inv-loop μ-loop
-grow-requires c κs = search needs
 
 add-i : tie.Need-add-i Inv-loop μ-loop
 add-i c = omega arith
@@ -112,20 +88,20 @@ polynomial-sums-spec =
     (tie.spec
     Inv-loop
     μ-loop
-    polynomial-row-requires
-    array-read-first
-    array-read-first-2
-    polynomial-brackets-requires
-    first-requires
+    (λ c κs. search needs)
+    (λ c. search needs)
+    (λ c. search needs)
+    (λ c κs. search needs)
+    (λ c κs. search needs)
     loop-holds
-    polynomial-row-requires-2
+    (λ c κs. search needs)
     cast-d
     mul-grow
     array-read-grow
     mul-grow-2
     array-read-grow-2
-    polynomial-brackets-requires-2
-    grow-requires
+    (λ c κs. search needs)
+    (λ c κs. search needs)
     add-i
     loop-less
     loop-again

@@ -18,36 +18,6 @@ use borrow.Author.Needs.{needs}
 use Rattle.residual.proofs.sum.sharp_slope.Statement.{statement}
 use Rattle.residual.proofs.sum.sharp_slope.Tie as tie
 
-non-analytics-requires : tie.Need-non-analytics-requires
-non-analytics-requires c κs = search needs
-
-array-copy-out-steepen : tie.Need-array-copy-out-steepen
-array-copy-out-steepen c = search needs
-
-array-read-steepen : tie.Need-array-read-steepen
-array-read-steepen c = search needs
-
-steepen-requires : tie.Need-steepen-requires
-steepen-requires c κs = search needs
-
-array-copy-out-steepen-2 : tie.Need-array-copy-out-steepen-2
-array-copy-out-steepen-2 c = search needs
-
-array-read-steepen-2 : tie.Need-array-read-steepen-2
-array-read-steepen-2 c = search needs
-
-steepen-requires-2 : tie.Need-steepen-requires-2
-steepen-requires-2 c κs = search needs
-
-array-copy-out-steepen-3 : tie.Need-array-copy-out-steepen-3
-array-copy-out-steepen-3 c = search needs
-
-array-read-steepen-3 : tie.Need-array-read-steepen-3
-array-read-steepen-3 c = search needs
-
-steepen-requires-3 : tie.Need-steepen-requires-3
-steepen-requires-3 c κs = search needs
-
 returns : tie.Need-returns
 unfolding onto sharpFigures nonAnalytics critical
 returns c =
@@ -72,14 +42,14 @@ pub sharp-slope-spec : {M : Type 1} → statement M
 sharp-slope-spec =
     tie.close
     (tie.spec
-    non-analytics-requires
-    array-copy-out-steepen
-    array-read-steepen
-    steepen-requires
-    array-copy-out-steepen-2
-    array-read-steepen-2
-    steepen-requires-2
-    array-copy-out-steepen-3
-    array-read-steepen-3
-    steepen-requires-3
+    (λ c κs. search needs)
+    (λ c. search needs)
+    (λ c. search needs)
+    (λ c κs. search needs)
+    (λ c. search needs)
+    (λ c. search needs)
+    (λ c κs. search needs)
+    (λ c. search needs)
+    (λ c. search needs)
+    (λ c κs. search needs)
     returns)

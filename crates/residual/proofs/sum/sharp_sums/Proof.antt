@@ -17,36 +17,6 @@ use borrow.Author.Needs.{needs}
 use Rattle.residual.proofs.sum.sharp_sums.Statement.{statement}
 use Rattle.residual.proofs.sum.sharp_sums.Tie as tie
 
-non-analytics-requires : tie.Need-non-analytics-requires
-non-analytics-requires c κs = search needs
-
-array-copy-out-sharpen : tie.Need-array-copy-out-sharpen
-array-copy-out-sharpen c = search needs
-
-array-read-sharpen : tie.Need-array-read-sharpen
-array-read-sharpen c = search needs
-
-sharpen-requires : tie.Need-sharpen-requires
-sharpen-requires c κs = search needs
-
-array-copy-out-sharpen-2 : tie.Need-array-copy-out-sharpen-2
-array-copy-out-sharpen-2 c = search needs
-
-array-read-sharpen-2 : tie.Need-array-read-sharpen-2
-array-read-sharpen-2 c = search needs
-
-sharpen-requires-2 : tie.Need-sharpen-requires-2
-sharpen-requires-2 c κs = search needs
-
-array-copy-out-sharpen-3 : tie.Need-array-copy-out-sharpen-3
-array-copy-out-sharpen-3 c = search needs
-
-array-read-sharpen-3 : tie.Need-array-read-sharpen-3
-array-read-sharpen-3 c = search needs
-
-sharpen-requires-3 : tie.Need-sharpen-requires-3
-sharpen-requires-3 c κs = search needs
-
 returns : tie.Need-returns
 unfolding onto sharpFigures nonAnalytics critical
 returns c =
@@ -72,14 +42,14 @@ pub sharp-sums-spec : {M : Type 1} → statement M
 sharp-sums-spec =
     tie.close
     (tie.spec
-    non-analytics-requires
-    array-copy-out-sharpen
-    array-read-sharpen
-    sharpen-requires
-    array-copy-out-sharpen-2
-    array-read-sharpen-2
-    sharpen-requires-2
-    array-copy-out-sharpen-3
-    array-read-sharpen-3
-    sharpen-requires-3
+    (λ c κs. search needs)
+    (λ c. search needs)
+    (λ c. search needs)
+    (λ c κs. search needs)
+    (λ c. search needs)
+    (λ c. search needs)
+    (λ c κs. search needs)
+    (λ c. search needs)
+    (λ c. search needs)
+    (λ c κs. search needs)
     returns)

@@ -45,12 +45,6 @@ first-alone all P e p Tau h = absurd (subst (λ (b : Bool). T (asked b Tau)) e h
 first-alone all P e p TauTau h = absurd (subst (λ (b : Bool). T (asked b TauTau)) e h)
 first-alone all P e p DeltaTau h = absurd (subst (λ (b : Bool). T (asked b DeltaTau)) e h)
 
-at-density-requires : tie.Need-at-density-requires
-at-density-requires c κs = search needs
-
-at-critical-requires : tie.Need-at-critical-requires
-at-critical-requires c κs = search needs
-
 polynomial-sums-requires : tie.Need-polynomial-sums-requires
 polynomial-sums-requires c κs = let a = c .before .before .args in own (a .iso) (a .delta) _ (c .before .at-density .ensures) .0
 
@@ -88,8 +82,8 @@ pub sums-at-spec : {M : Type 1} → statement M
 sums-at-spec =
     tie.close
     (tie.spec
-    at-density-requires
-    at-critical-requires
+    (λ c κs. search needs)
+    (λ c κs. search needs)
     polynomial-sums-requires
     exponential-sums-requires
     gaussian-sums-requires

@@ -7,43 +7,16 @@ use borrow.Author.Needs.{needs}
 use Rattle.residual.proofs.sum.together.Statement.{statement}
 use Rattle.residual.proofs.sum.together.Tie as tie
 
-checked-requires : tie.Need-checked-requires
-checked-requires c κs = search needs
-
-enum-known-d : tie.Need-enum-known-d
-enum-known-d c = search needs
-
-enum-told : tie.Need-enum-told
-enum-told c = search needs
-
 returns : tie.Need-returns
 unfolding together
 returns c =
     rw (sym (c .before .before .checked .ensures) ∙ c .enum-told .given .1) refl
-
-checked-requires-2 : tie.Need-checked-requires-2
-checked-requires-2 c κs = search needs
-
-enum-known-dd : tie.Need-enum-known-dd
-enum-known-dd c = search needs
-
-enum-told-2 : tie.Need-enum-told-2
-enum-told-2 c = search needs
 
 returns-2 : tie.Need-returns-2
 unfolding together
 returns-2 c =
     let l0 = c .before .before .before .before in
     rw (sym (l0 .before .before .checked .ensures) ∙ l0 .d .given .1, sym (c .before .before .checked2 .ensures) ∙ c .enum-told2 .given .1) refl
-
-checked-requires-3 : tie.Need-checked-requires-3
-checked-requires-3 c κs = search needs
-
-enum-known-t : tie.Need-enum-known-t
-enum-known-t c = search needs
-
-enum-told-3 : tie.Need-enum-told-3
-enum-told-3 c = search needs
 
 returns-3 : tie.Need-returns-3
 unfolding together
@@ -52,15 +25,6 @@ returns-3 c =
     let l0 = l1 .before .before .before .before in
     rw (sym (l0 .before .before .checked .ensures) ∙ l0 .d .given .1, sym (l1 .before .before .checked2 .ensures) ∙ l1 .dd .given .1, sym (c .before .before .checked3 .ensures) ∙ c .enum-told3 .given .1) refl
 
-checked-requires-4 : tie.Need-checked-requires-4
-checked-requires-4 c κs = search needs
-
-enum-known-tt : tie.Need-enum-known-tt
-enum-known-tt c = search needs
-
-enum-told-4 : tie.Need-enum-told-4
-enum-told-4 c = search needs
-
 returns-4 : tie.Need-returns-4
 unfolding together
 returns-4 c =
@@ -68,15 +32,6 @@ returns-4 c =
     let l1 = l2 .before .before .before .before in
     let l0 = l1 .before .before .before .before in
     rw (sym (l0 .before .before .checked .ensures) ∙ l0 .d .given .1, sym (l1 .before .before .checked2 .ensures) ∙ l1 .dd .given .1, sym (l2 .before .before .checked3 .ensures) ∙ l2 .t .given .1, sym (c .before .before .checked4 .ensures) ∙ c .enum-told4 .given .1) refl
-
-checked-requires-5 : tie.Need-checked-requires-5
-checked-requires-5 c κs = search needs
-
-enum-known-dt : tie.Need-enum-known-dt
-enum-known-dt c = search needs
-
-enum-told-5 : tie.Need-enum-told-5
-enum-told-5 c = search needs
 
 returns-5 : tie.Need-returns-5
 unfolding together
@@ -106,24 +61,24 @@ pub together-spec : {M : Type 1} → statement M
 together-spec =
     tie.close
     (tie.spec
-    checked-requires
-    enum-known-d
-    enum-told
+    (λ c κs. search needs)
+    (λ c. search needs)
+    (λ c. search needs)
     returns
-    checked-requires-2
-    enum-known-dd
-    enum-told-2
+    (λ c κs. search needs)
+    (λ c. search needs)
+    (λ c. search needs)
     returns-2
-    checked-requires-3
-    enum-known-t
-    enum-told-3
+    (λ c κs. search needs)
+    (λ c. search needs)
+    (λ c. search needs)
     returns-3
-    checked-requires-4
-    enum-known-tt
-    enum-told-4
+    (λ c κs. search needs)
+    (λ c. search needs)
+    (λ c. search needs)
     returns-4
-    checked-requires-5
-    enum-known-dt
-    enum-told-5
+    (λ c κs. search needs)
+    (λ c. search needs)
+    (λ c. search needs)
     returns-5
     returns-6)

@@ -8,28 +8,19 @@ use Rattle.roots.proofs.root.about_log.Tie as tie
 float-to-bits-b : tie.Need-float-to-bits-b
 float-to-bits-b c = nonneg-no-nan (c .args .x) (c .pre)
 
-add-z : tie.Need-add-z
-add-z c = search needs
-
 float-from-bits-z : tie.Need-float-from-bits-z
 float-from-bits-z c = no-nan _ (omega arith)
 
-add-exponent : tie.Need-add-exponent
-add-exponent c = search needs
-
 float-from-bits-exponent : tie.Need-float-from-bits-exponent
 float-from-bits-exponent c = no-nan _ (omega arith)
-
-returns : tie.Need-returns
-returns c = search needs
 
 pub about-log-spec : {M : Type 1} → statement M
 about-log-spec =
     tie.close
     (tie.spec
     float-to-bits-b
-    add-z
+    (λ c. search needs)
     float-from-bits-z
-    add-exponent
+    (λ c. search needs)
     float-from-bits-exponent
-    returns)
+    (λ c. search needs))

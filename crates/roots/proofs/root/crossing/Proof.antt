@@ -36,12 +36,6 @@ loop-holds c = record {
 add-loop : tie.Need-add-loop Inv-loop μ-loop
 add-loop c = omega arith
 
-probe-requires : tie.Need-probe-requires Inv-loop μ-loop
-probe-requires c κs = search needs
-
-wider-requires : tie.Need-wider-requires Inv-loop μ-loop
-wider-requires c κs = search needs
-
 power-at-requires : tie.Need-power-at-requires Inv-loop μ-loop
 power-at-requires c κs = omega arith
 
@@ -107,8 +101,8 @@ crossing-spec =
     μ-loop
     loop-holds
     add-loop
-    probe-requires
-    wider-requires
+    (λ c κs. search needs)
+    (λ c κs. search needs)
     power-at-requires
     loop-less
     loop-again

@@ -33,9 +33,6 @@ returns c =
     let e = c .before .args .e in
     simp (root, le-ltb (e .m) (2 * e .k) (omega arith))
 
-is-finite-requires : tie.Need-is-finite-requires
-is-finite-requires c κs = search needs
-
 returns-2 : tie.Need-returns-2
 unfolding root
 returns-2 c =
@@ -73,7 +70,7 @@ looked-for-spec =
     tie.close
     (tie.spec
     returns
-    is-finite-requires
+    (λ c κs. search needs)
     returns-2
     returns-3
     returns-4

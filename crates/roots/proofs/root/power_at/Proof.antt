@@ -7,11 +7,6 @@ use Rattle.roots.proofs.root.power_at.Tie as tie
 float-from-bits-whole-power : tie.Need-float-from-bits-whole-power
 float-from-bits-whole-power c = no-nan (c .args .b) (c .pre)
 
-whole-power-requires : tie.Need-whole-power-requires
-whole-power-requires c κs = search needs
-
-returns : tie.Need-returns
-returns c = search needs
-
 pub power-at-spec : {M : Type 1} → statement M
-power-at-spec = tie.close (tie.spec float-from-bits-whole-power whole-power-requires returns)
+power-at-spec =
+    tie.close (tie.spec float-from-bits-whole-power (λ c κs. search needs) (λ c. search needs))

@@ -5,35 +5,23 @@ use Rattle.numeric.proofs.Numbers.{no-nan}
 use Rattle.roots.proofs.root.powers_about.Statement.{statement}
 use Rattle.roots.proofs.root.powers_about.Tie as tie
 
-sub-three-powers : tie.Need-sub-three-powers
-sub-three-powers c = search needs
-
 float-from-bits-three-powers : tie.Need-float-from-bits-three-powers
 float-from-bits-three-powers c = no-nan _ (omega arith)
 
 float-from-bits-three-powers-2 : tie.Need-float-from-bits-three-powers-2
 float-from-bits-three-powers-2 c = no-nan _ (omega arith)
 
-add-three-powers : tie.Need-add-three-powers
-add-three-powers c = search needs
-
 float-from-bits-three-powers-3 : tie.Need-float-from-bits-three-powers-3
 float-from-bits-three-powers-3 c = no-nan _ (omega arith)
-
-three-powers-requires : tie.Need-three-powers-requires
-three-powers-requires c κs = search needs
-
-returns : tie.Need-returns
-returns c = search needs
 
 pub powers-about-spec : {M : Type 1} → statement M
 powers-about-spec =
     tie.close
     (tie.spec
-    sub-three-powers
+    (λ c. search needs)
     float-from-bits-three-powers
     float-from-bits-three-powers-2
-    add-three-powers
+    (λ c. search needs)
     float-from-bits-three-powers-3
-    three-powers-requires
-    returns)
+    (λ c κs. search needs)
+    (λ c. search needs))

@@ -10,12 +10,6 @@ use Rattle.roots.proofs.root.root.Tie as tie
 is-usual : (c : tie.Then1) → T (usual (c .before .before .args .e) (c .before .before .args .x))
 is-usual c = rw (sym (c .before .usual .ensures) ∙ c .if1 .taken) tt
 
-usual-requires : tie.Need-usual-requires
-usual-requires c κs = search needs
-
-whole-power-requires : tie.Need-whole-power-requires
-whole-power-requires c κs = search needs
-
 about-log-requires : tie.Need-about-log-requires
 about-log-requires c κs = unsigned _ _ (is-usual (c .before))
 
@@ -30,25 +24,16 @@ root-about-requires c κs =
     let g = c .before in
     (is-usual (g .before .before .before .before), (g .before .before .before .whole-power .ensures, ((g .if2 .taken, g .before .guess .ensures), c .powers-about .ensures)))
 
-returns : tie.Need-returns
-returns c = search needs
-
-looked-for-requires : tie.Need-looked-for-requires
-looked-for-requires c κs = search needs
-
-returns-2 : tie.Need-returns-2
-returns-2 c = search needs
-
 pub root-spec : {M : Type 1} → statement M
 root-spec =
     tie.close
     (tie.spec
-    usual-requires
-    whole-power-requires
+    (λ c κs. search needs)
+    (λ c κs. search needs)
     about-log-requires
     guess-requires
     powers-about-requires
     root-about-requires
-    returns
-    looked-for-requires
-    returns-2)
+    (λ c. search needs)
+    (λ c κs. search needs)
+    (λ c. search needs))

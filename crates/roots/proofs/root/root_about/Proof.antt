@@ -11,9 +11,6 @@ use Rattle.roots.proofs.Usuals.{at-below, at-here}
 use Rattle.roots.proofs.root.root_about.Statement.{statement}
 use Rattle.roots.proofs.root.root_about.Tie as tie
 
-sub-place : tie.Need-sub-place
-sub-place c = search needs
-
 float-from-bits-t12 : tie.Need-float-from-bits-t12
 float-from-bits-t12 c = no-nan _ (⊎-elim (λ w. omega arith) (λ w. omega arith) (c .before .before .if1 .came))
 
@@ -32,12 +29,12 @@ returns c =
     (c .before .if2 .came))
     (c .before .before .if1 .came)
 
-looked-for-requires : tie.Need-looked-for-requires
-looked-for-requires c κs = search needs
-
-returns-2 : tie.Need-returns-2
-returns-2 c = search needs
-
 pub root-about-spec : {M : Type 1} → statement M
 root-about-spec =
-    tie.close (tie.spec sub-place float-from-bits-t12 returns looked-for-requires returns-2)
+    tie.close
+    (tie.spec
+    (λ c. search needs)
+    float-from-bits-t12
+    returns
+    (λ c κs. search needs)
+    (λ c. search needs))

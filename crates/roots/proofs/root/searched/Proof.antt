@@ -35,26 +35,8 @@ told c =
     let t = c .before .before .before .before in
     ap rootOf (c .crossing .ensures) ∙ sym (raised (t .before .before) ∙ ap (lookedFor _) (t .t .given .1))
 
-whole-power-requires : tie.Need-whole-power-requires
-whole-power-requires c κs = search needs
-
-checked-requires : tie.Need-checked-requires
-checked-requires c κs = search needs
-
-enum-known-t : tie.Need-enum-known-t
-enum-known-t c = search needs
-
-enum-told : tie.Need-enum-told
-enum-told c = search needs
-
 returns : tie.Need-returns
 returns c = sym (raised (c .before .before) ∙ ap (lookedFor _) (c .enum-told .given .1))
-
-about-log-requires : tie.Need-about-log-requires
-about-log-requires c κs = search needs
-
-guess-requires : tie.Need-guess-requires
-guess-requires c κs = search needs
 
 crossing-requires : tie.Need-crossing-requires
 crossing-requires c κs =
@@ -66,19 +48,10 @@ crossing-requires c κs =
     let p = power-unsigned (a .args .x) (a .args .m) (a .pre .0) f in
     (subst (λ (z : Float). T (nonneg z)) (sym (w .whole-power .ensures) ∙ n .0) p, (omega arith, omega arith))
 
-enum-known-b : tie.Need-enum-known-b
-enum-known-b c = search needs
-
 float-from-bits-t12 : tie.Need-float-from-bits-t12
 float-from-bits-t12 c =
     let b = c .before in
     no-nan _ (crossing-below _ _ _ (sym (b .before .before .crossing .ensures) ∙ b .b .given .1))
-
-enum-told-2 : tie.Need-enum-told-2
-enum-told-2 c = search needs
-
-enum-told-3 : tie.Need-enum-told-3
-enum-told-3 c = search needs
 
 returns-2 : tie.Need-returns-2
 returns-2 c = sym (ap rootOf (c .before .b .given .1)) ∙ told (c .before .before .before)
@@ -93,18 +66,18 @@ pub searched-spec : {M : Type 1} → statement M
 searched-spec =
     tie.close
     (tie.spec
-    whole-power-requires
-    checked-requires
-    enum-known-t
-    enum-told
+    (λ c κs. search needs)
+    (λ c κs. search needs)
+    (λ c. search needs)
+    (λ c. search needs)
     returns
-    about-log-requires
-    guess-requires
+    (λ c κs. search needs)
+    (λ c κs. search needs)
     crossing-requires
-    enum-known-b
+    (λ c. search needs)
     float-from-bits-t12
-    enum-told-2
-    enum-told-3
+    (λ c. search needs)
+    (λ c. search needs)
     returns-2
     returns-3
     returns-4)

@@ -34,9 +34,6 @@ returns-4 c =
     let e = c .before .before .before .before .args .e in
     simp (usual, lt-ltb (e .m) (2 * e .k) (omega arith), lt-ltb (e .k) 52 (omega arith), c .before .if3 .left, c .if4 .taken)
 
-is-finite-requires : tie.Need-is-finite-requires
-is-finite-requires c κs = search needs
-
 returns-5 : tie.Need-returns-5
 unfolding usual ofBits ofInt whole
 returns-5 c =
@@ -44,4 +41,5 @@ returns-5 c =
     c .is-finite .ensures ∙ sym (simp (usual, lt-ltb (e .m) (2 * e .k) (omega arith), lt-ltb (e .k) 52 (omega arith), c .before .before .if3 .left, c .before .if4 .left))
 
 pub usual-spec : {M : Type 1} → statement M
-usual-spec = tie.close (tie.spec returns returns-2 returns-3 returns-4 is-finite-requires returns-5)
+usual-spec =
+    tie.close (tie.spec returns returns-2 returns-3 returns-4 (λ c κs. search needs) returns-5)

@@ -7,18 +7,15 @@ use borrow.Author.Needs.{needs}
 use Rattle.saturation.proofs.saturation.tau_at.Statement.{statement}
 use Rattle.saturation.proofs.saturation.tau_at.Tie as tie
 
-span-wagner-requires : tie.Need-span-wagner-requires
-span-wagner-requires c κs = search needs
-
-over-requires : tie.Need-over-requires
-over-requires c κs = search needs
-
-checked-requires : tie.Need-checked-requires
-checked-requires c κs = search needs
-
 returns : tie.Need-returns
 unfolding value
 returns c = (simp (c .before .over .ensures, c .before .before .span-wagner .ensures) at (c .checked .ensures)) ∙ once (tau (c .before .before .before .args .t))
 
 pub tau-at-spec : {M : Type 1} → statement M
-tau-at-spec = tie.close (tie.spec span-wagner-requires over-requires checked-requires returns)
+tau-at-spec =
+    tie.close
+    (tie.spec
+    (λ c κs. search needs)
+    (λ c κs. search needs)
+    (λ c κs. search needs)
+    returns)

@@ -10,15 +10,10 @@ use borrow.Author.Needs.{needs}
 use Rattle.saturation.proofs.saturation.theta_at.Statement.{statement}
 use Rattle.saturation.proofs.saturation.theta_at.Tie as tie
 
-span-wagner-requires : tie.Need-span-wagner-requires
-span-wagner-requires c κs = search needs
-
-checked-requires : tie.Need-checked-requires
-checked-requires c κs = search needs
-
 returns : tie.Need-returns
 unfolding value ofBits spanWagner decimal fraction whole ofInt round
 returns c = (rw (c .before .before .span-wagner .ensures) at (c .checked .ensures)) ∙ once (theta (c .before .before .before .args .t))
 
 pub theta-at-spec : {M : Type 1} → statement M
-theta-at-spec = tie.close (tie.spec span-wagner-requires checked-requires returns)
+theta-at-spec =
+    tie.close (tie.spec (λ c κs. search needs) (λ c κs. search needs) returns)

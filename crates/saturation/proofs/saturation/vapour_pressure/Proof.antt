@@ -21,45 +21,12 @@ past-theta : (c : tie.After-theta) → from-tau (c .theta .given .0 .0) (work (t
 unfolding vapourPressure
 past-theta c = ap (from-theta (c .before .before .before .args .t)) (sym (c .theta .given .1) ∙ c .before .before .theta-at .ensures)
 
-theta-at-requires : tie.Need-theta-at-requires
-theta-at-requires c κs = search needs
-
-enum-known-theta : tie.Need-enum-known-theta
-enum-known-theta c = search needs
-
-enum-told : tie.Need-enum-told
-enum-told c = search needs
-
 returns : tie.Need-returns
 unfolding vapourPressure
 returns c = ap (from-theta (c .before .before .before .args .t)) (sym (c .enum-told .given .1) ∙ c .before .before .theta-at .ensures)
 
-tau-at-requires : tie.Need-tau-at-requires
-tau-at-requires c κs = search needs
-
-enum-known-tau : tie.Need-enum-known-tau
-enum-known-tau c = search needs
-
-enum-told-2 : tie.Need-enum-told-2
-enum-told-2 c = search needs
-
 returns-2 : tie.Need-returns-2
 returns-2 c = ap (from-tau (c .before .before .before .before .theta .given .0 .0)) (sym (c .enum-told2 .given .1) ∙ c .before .before .tau-at .ensures) ∙ past-theta (c .before .before .before .before)
-
-span-wagner-requires : tie.Need-span-wagner-requires
-span-wagner-requires c κs = search needs
-
-pressure-sum-requires : tie.Need-pressure-sum-requires
-pressure-sum-requires c κs = search needs
-
-exponential-requires : tie.Need-exponential-requires
-exponential-requires c κs = search needs
-
-plain-requires : tie.Need-plain-requires
-plain-requires c κs = search needs
-
-checked-requires : tie.Need-checked-requires
-checked-requires c κs = search needs
 
 returns-3 : tie.Need-returns-3
 unfolding pressureOf value
@@ -75,17 +42,17 @@ pub vapour-pressure-spec : {M : Type 1} → statement M
 vapour-pressure-spec =
     tie.close
     (tie.spec
-    theta-at-requires
-    enum-known-theta
-    enum-told
+    (λ c κs. search needs)
+    (λ c. search needs)
+    (λ c. search needs)
     returns
-    tau-at-requires
-    enum-known-tau
-    enum-told-2
+    (λ c κs. search needs)
+    (λ c. search needs)
+    (λ c. search needs)
     returns-2
-    span-wagner-requires
-    pressure-sum-requires
-    exponential-requires
-    plain-requires
-    checked-requires
+    (λ c κs. search needs)
+    (λ c κs. search needs)
+    (λ c κs. search needs)
+    (λ c κs. search needs)
+    (λ c κs. search needs)
     returns-3)

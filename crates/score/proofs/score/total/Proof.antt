@@ -21,18 +21,6 @@ abbrev μ-loop : tie.MeasureT-loop
 loop-holds : tie.Need-loop-holds Inv-loop μ-loop
 loop-holds c = (omega arith, omega arith, onto-none _)
 
-mul-mark : tie.Need-mul-mark Inv-loop μ-loop
-mul-mark c = search needs
-
-element-copy-out-mark : tie.Need-element-copy-out-mark Inv-loop μ-loop
-element-copy-out-mark c = search needs
-
-enum-known-w : tie.Need-enum-known-w Inv-loop μ-loop
-enum-known-w c = search needs
-
-enum-told : tie.Need-enum-told Inv-loop μ-loop
-enum-told c = search needs
-
 returns : tie.Need-returns Inv-loop μ-loop
 returns c =
     let l = c .before .before .before .before in
@@ -51,9 +39,6 @@ add-sum c =
     let w = mark-there m size (omega arith) (l .loop .i) _ (omega arith) (c .before .w .given .1) in
     let u = subst Under w (light-at (marksOf m) (l .before .pre .1) (l .loop .i) noMark (omega (arith, h))) in
     omega (arith, u)
-
-add-i : tie.Need-add-i Inv-loop μ-loop
-add-i c = search needs
 
 loop-less : tie.Need-loop-less Inv-loop μ-loop
 loop-less c = omega arith
@@ -82,13 +67,13 @@ total-spec =
     Inv-loop
     μ-loop
     loop-holds
-    mul-mark
-    element-copy-out-mark
-    enum-known-w
-    enum-told
+    (λ c. search needs)
+    (λ c. search needs)
+    (λ c. search needs)
+    (λ c. search needs)
     returns
     add-sum
-    add-i
+    (λ c. search needs)
     loop-less
     loop-again
     returns-2)

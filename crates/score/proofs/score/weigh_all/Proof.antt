@@ -22,30 +22,6 @@ loop-holds : tie.Need-loop-holds Inv-loop μ-loop
 unfolding padded
 loop-holds c = (omega arith, omega arith, refl)
 
-sub-l : tie.Need-sub-l Inv-loop μ-loop
-sub-l c = search needs
-
-mul-l : tie.Need-mul-l Inv-loop μ-loop
-mul-l c = search needs
-
-element-copy-out-l : tie.Need-element-copy-out-l Inv-loop μ-loop
-element-copy-out-l c = search needs
-
-weigh-requires : tie.Need-weigh-requires Inv-loop μ-loop
-weigh-requires c κs = search needs
-
-sub-marks : tie.Need-sub-marks Inv-loop μ-loop
-sub-marks c = search needs
-
-mul-marks : tie.Need-mul-marks Inv-loop μ-loop
-mul-marks c = search needs
-
-array-set-from-marks : tie.Need-array-set-from-marks Inv-loop μ-loop
-array-set-from-marks c = search needs
-
-add-i : tie.Need-add-i Inv-loop μ-loop
-add-i c = search needs
-
 loop-less : tie.Need-loop-less Inv-loop μ-loop
 loop-less c = omega arith
 
@@ -71,14 +47,14 @@ weigh-all-spec =
     Inv-loop
     μ-loop
     loop-holds
-    sub-l
-    mul-l
-    element-copy-out-l
-    weigh-requires
-    sub-marks
-    mul-marks
-    array-set-from-marks
-    add-i
+    (λ c. search needs)
+    (λ c. search needs)
+    (λ c. search needs)
+    (λ c κs. search needs)
+    (λ c. search needs)
+    (λ c. search needs)
+    (λ c. search needs)
+    (λ c. search needs)
     loop-less
     loop-again
     returns)

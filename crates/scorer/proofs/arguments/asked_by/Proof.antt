@@ -6,35 +6,14 @@ use borrow.Author.Needs.{needs}
 use Rattle.scorer.proofs.arguments.asked_by.Statement.{statement}
 use Rattle.scorer.proofs.arguments.asked_by.Tie as tie
 
-returns : tie.Need-returns
-returns c = search needs
-
-slice-aggregate-same : tie.Need-slice-aggregate-same
-slice-aggregate-same c = search needs
-
-same-requires : tie.Need-same-requires
-same-requires c κs = search needs
-
 returns-2 : tie.Need-returns-2
 returns-2 c = (omega arith, c .before .same .ensures .0 (c .if3 .taken))
-
-slice-aggregate-same-2 : tie.Need-slice-aggregate-same-2
-slice-aggregate-same-2 c = search needs
-
-same-requires-2 : tie.Need-same-requires-2
-same-requires-2 c κs = search needs
 
 returns-3 : tie.Need-returns-3
 returns-3 c = (omega arith, λ _. c .before .same2 .ensures .0 (c .if4 .taken), λ e. absurd (omega arith))
 
 returns-4 : tie.Need-returns-4
 returns-4 c = (omega arith, λ e. true≢false (sym (c .before .before .before .before .same .ensures .1 e) ∙ c .before .before .before .if3 .left), λ e. true≢false (sym (c .before .same2 .ensures .1 e) ∙ c .if4 .left))
-
-slice-aggregate-same-3 : tie.Need-slice-aggregate-same-3
-slice-aggregate-same-3 c = search needs
-
-same-requires-3 : tie.Need-same-requires-3
-same-requires-3 c κs = search needs
 
 returns-5 : tie.Need-returns-5
 returns-5 c = (omega arith, c .before .same3 .ensures .0 (c .if6 .taken))
@@ -49,16 +28,16 @@ pub asked-by-spec : {M : Type 1} → statement M
 asked-by-spec =
     tie.close
     (tie.spec
-    returns
-    slice-aggregate-same
-    same-requires
+    (λ c. search needs)
+    (λ c. search needs)
+    (λ c κs. search needs)
     returns-2
-    slice-aggregate-same-2
-    same-requires-2
+    (λ c. search needs)
+    (λ c κs. search needs)
     returns-3
     returns-4
-    slice-aggregate-same-3
-    same-requires-3
+    (λ c. search needs)
+    (λ c κs. search needs)
     returns-5
     returns-6
     returns-7)

@@ -9,15 +9,10 @@ use borrow.Author.Needs.{needs}
 use Rattle.sharp.proofs.sharp.brackets.Statement.{statement}
 use Rattle.sharp.proofs.sharp.brackets.Tie as tie
 
-over-requires : tie.Need-over-requires
-over-requires c κs = search needs
-
-bend-of-requires : tie.Need-bend-of-requires
-bend-of-requires c κs = search needs
-
 returns : tie.Need-returns
 unfolding sharpBracket power value fraction whole ofBits ofInt round div
 returns c = rw (c .before .before .before .before .before .before .before .before .before .before .before .before .before .before .before .before .before .before .before .before .before .before .before .before .before .before .before .before .before .before .before .before .before .before .before .before .before .before .before .before .before .before .bend-of .ensures, c .before .before .before .before .before .before .before .before .before .before .before .before .before .before .before .before .before .before .before .before .before .before .before .before .before .before .before .before .before .before .before .before .before .before .before .before .before .before .before .before .before .before .before .over .ensures) refl
 
 pub brackets-spec : {M : Type 1} → statement M
-brackets-spec = tie.close (tie.spec over-requires bend-of-requires returns)
+brackets-spec =
+    tie.close (tie.spec (λ c κs. search needs) (λ c κs. search needs) returns)

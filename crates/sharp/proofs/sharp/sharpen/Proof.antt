@@ -5,15 +5,10 @@ use borrow.Author.Needs.{needs}
 use Rattle.sharp.proofs.sharp.sharpen.Statement.{statement}
 use Rattle.sharp.proofs.sharp.sharpen.Tie as tie
 
-brackets-requires : tie.Need-brackets-requires
-brackets-requires c κs = search needs
-
-grow-requires : tie.Need-grow-requires
-grow-requires c κs = search needs
-
 returns : tie.Need-returns
 unfolding value
 returns c = rw (c .grow .ensures, c .before .brackets .ensures) refl
 
 pub sharpen-spec : {M : Type 1} → statement M
-sharpen-spec = tie.close (tie.spec brackets-requires grow-requires returns)
+sharpen-spec =
+    tie.close (tie.spec (λ c κs. search needs) (λ c κs. search needs) returns)

@@ -7,12 +7,10 @@ use borrow.Author.Needs.{needs}
 use Rattle.sharp.proofs.sharp.slope_bracket.Statement.{statement}
 use Rattle.sharp.proofs.sharp.slope_bracket.Tie as tie
 
-bend-of-requires : tie.Need-bend-of-requires
-bend-of-requires c κs = search needs
-
 returns : tie.Need-returns
 unfolding value fraction whole ofBits ofInt round div
 returns c = rw (c .before .before .before .before .before .before .bend-of .ensures) refl
 
 pub slope-bracket-spec : {M : Type 1} → statement M
-slope-bracket-spec = tie.close (tie.spec bend-of-requires returns)
+slope-bracket-spec =
+    tie.close (tie.spec (λ c κs. search needs) returns)

@@ -5,12 +5,10 @@ use borrow.Author.Needs.{needs}
 use Rattle.sharp.proofs.sharp.steepen.Statement.{statement}
 use Rattle.sharp.proofs.sharp.steepen.Tie as tie
 
-slope-bracket-requires : tie.Need-slope-bracket-requires
-slope-bracket-requires c κs = search needs
-
 returns : tie.Need-returns
 unfolding value
 returns c = rw (c .slope-bracket .ensures) refl
 
 pub steepen-spec : {M : Type 1} → statement M
-steepen-spec = tie.close (tie.spec slope-bracket-requires returns)
+steepen-spec =
+    tie.close (tie.spec (λ c κs. search needs) returns)

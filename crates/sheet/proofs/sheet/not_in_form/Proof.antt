@@ -5,12 +5,10 @@ use borrow.Author.Needs.{needs}
 use Rattle.sheet.proofs.sheet.not_in_form.Statement.{statement}
 use Rattle.sheet.proofs.sheet.not_in_form.Tie as tie
 
-blank-line-requires : tie.Need-blank-line-requires
-blank-line-requires c κs = search needs
-
 returns : tie.Need-returns
 unfolding sheetRead sheetOf padded
 returns c = rw (c .blank-line .ensures)
 
 pub not-in-form-spec : {M : Type 1} → statement M
-not-in-form-spec = tie.close (tie.spec blank-line-requires returns)
+not-in-form-spec =
+    tie.close (tie.spec (λ c κs. search needs) returns)

@@ -18,36 +18,15 @@ Inv-loop s from need lines₀ count₀ at₀ lines count at = Turn s from lines 
 abbrev μ-loop : tie.MeasureT-loop
 μ-loop s from need lines₀ count₀ at₀ lines count at = length s - at
 
-blank-line-requires : tie.Need-blank-line-requires Inv-loop μ-loop
-blank-line-requires c κs = search needs
-
 loop-holds : tie.Need-loop-holds Inv-loop μ-loop
 unfolding padded
 loop-holds c = rw (c .blank-line .ensures) (first _ _ (c .before .before .pre))
-
-read-line-requires : tie.Need-read-line-requires Inv-loop μ-loop
-read-line-requires c κs = search needs
-
-enum-known-line : tie.Need-enum-known-line Inv-loop μ-loop
-enum-known-line c = search needs
-
-enum-told : tie.Need-enum-told Inv-loop μ-loop
-enum-told c = search needs
-
-not-in-form-requires : tie.Need-not-in-form-requires Inv-loop μ-loop
-not-in-form-requires c κs = search needs
 
 returns : tie.Need-returns Inv-loop μ-loop
 returns c =
     let at-test = c .before .before .before .before in
     c .not-in-form .ensures
     ∙ rw (bad _ _ _ _ _ (at-test .before .loop .inv) (at-test .loop-test .taken) (subst (LineIs _ _ _) (c .before .enum-told .given .1) (c .before .before .before .read-line .ensures)))
-
-mul-lines : tie.Need-mul-lines Inv-loop μ-loop
-mul-lines c = search needs
-
-array-set-from-lines : tie.Need-array-set-from-lines Inv-loop μ-loop
-array-set-from-lines c = search needs
 
 add-count : tie.Need-add-count Inv-loop μ-loop
 add-count c = omega arith
@@ -77,15 +56,15 @@ read-lines-spec =
     (tie.spec
     Inv-loop
     μ-loop
-    blank-line-requires
+    (λ c κs. search needs)
     loop-holds
-    read-line-requires
-    enum-known-line
-    enum-told
-    not-in-form-requires
+    (λ c κs. search needs)
+    (λ c. search needs)
+    (λ c. search needs)
+    (λ c κs. search needs)
     returns
-    mul-lines
-    array-set-from-lines
+    (λ c. search needs)
+    (λ c. search needs)
     add-count
     loop-less
     loop-again

@@ -7,24 +7,9 @@ use borrow.Author.Needs.{needs}
 use Rattle.sheet.proofs.sheet.read_sheet.Statement.{statement}
 use Rattle.sheet.proofs.sheet.read_sheet.Tie as tie
 
-not-in-form-requires : tie.Need-not-in-form-requires
-not-in-form-requires c κs = search needs
-
 returns : tie.Need-returns
 unfolding inForm
 returns c = c .not-in-form .ensures ∙ rw (lt-leb _ 65536 (c .before .if1 .taken))
-
-read-field-after-requires : tie.Need-read-field-after-requires
-read-field-after-requires c κs = search needs
-
-enum-known-need : tie.Need-enum-known-need
-enum-known-need c = search needs
-
-enum-told : tie.Need-enum-told
-enum-told c = search needs
-
-not-in-form-requires-2 : tie.Need-not-in-form-requires-2
-not-in-form-requires-2 c κs = search needs
 
 returns-2 : tie.Need-returns-2
 unfolding inForm bank
@@ -45,12 +30,12 @@ pub read-sheet-spec : {M : Type 1} → statement M
 read-sheet-spec =
     tie.close
     (tie.spec
-    not-in-form-requires
+    (λ c κs. search needs)
     returns
-    read-field-after-requires
-    enum-known-need
-    enum-told
-    not-in-form-requires-2
+    (λ c κs. search needs)
+    (λ c. search needs)
+    (λ c. search needs)
+    (λ c κs. search needs)
     returns-2
     read-lines-requires
     returns-3)

@@ -6,15 +6,10 @@ use borrow.Author.Needs.{needs}
 use Rattle.state.proofs.state.state_at.Statement.{statement}
 use Rattle.state.proofs.state.state_at.Tie as tie
 
-at-temperature-requires : tie.Need-at-temperature-requires
-at-temperature-requires c κs = search needs
-
-state-on-requires : tie.Need-state-on-requires
-state-on-requires c κs = search needs
-
 returns : tie.Need-returns
 unfolding state
 returns c = c .state-on .ensures ∙ ap (λ (i : Isotherm). stateOn i (c .before .before .args .rho)) (c .before .at-temperature .ensures)
 
 pub state-at-spec : {M : Type 1} → statement M
-state-at-spec = tie.close (tie.spec at-temperature-requires state-on-requires returns)
+state-at-spec =
+    tie.close (tie.spec (λ c κs. search needs) (λ c κs. search needs) returns)

@@ -6,24 +6,9 @@ use borrow.Author.Needs.{needs}
 use Rattle.state.proofs.state.state_ideal.Statement.{statement}
 use Rattle.state.proofs.state.state_ideal.Tie as tie
 
-ideal-part-requires : tie.Need-ideal-part-requires
-ideal-part-requires c κs = search needs
-
-enum-known-first : tie.Need-enum-known-first
-enum-known-first c = search needs
-
-enum-told : tie.Need-enum-told
-enum-told c = search needs
-
 returns : tie.Need-returns
 unfolding stateIdeal
 returns c = simp (stateIdeal, sym (ap (λ (i : Ideal). i .first) (c .before .before .ideal-part .ensures)) ∙ c .enum-told .given .1)
-
-enum-known-second : tie.Need-enum-known-second
-enum-known-second c = search needs
-
-enum-told-2 : tie.Need-enum-told-2
-enum-told-2 c = search needs
 
 returns-2 : tie.Need-returns-2
 unfolding stateIdeal
@@ -31,9 +16,6 @@ returns-2 c =
     let n = c .before .before .before in
     let i = n .before .before .ideal-part .ensures in
     simp (stateIdeal, sym (ap (λ (i : Ideal). i .first) i) ∙ n .first .given .1, sym (ap (λ (i : Ideal). i .second) i) ∙ c .enum-told2 .given .1)
-
-state-of-requires : tie.Need-state-of-requires
-state-of-requires c κs = search needs
 
 returns-3 : tie.Need-returns-3
 unfolding stateIdeal
@@ -47,12 +29,12 @@ pub state-ideal-spec : {M : Type 1} → statement M
 state-ideal-spec =
     tie.close
     (tie.spec
-    ideal-part-requires
-    enum-known-first
-    enum-told
+    (λ c κs. search needs)
+    (λ c. search needs)
+    (λ c. search needs)
     returns
-    enum-known-second
-    enum-told-2
+    (λ c. search needs)
+    (λ c. search needs)
     returns-2
-    state-of-requires
+    (λ c κs. search needs)
     returns-3)

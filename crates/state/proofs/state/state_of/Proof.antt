@@ -29,30 +29,9 @@ h-is c =
     let a = c .before .before .before .before .before .before .before .before .before .before .before .before .before .args in
     sym (c .checked3 .ensures ∙ rw (c .before .before .before .before .before .before .before .before .before .before .before .before .span-wagner .ensures) (once (enthalpy (a .t) (a .s) (a .i1) (a .i2))))
 
-span-wagner-requires : tie.Need-span-wagner-requires
-span-wagner-requires c κs = search needs
-
-checked-requires : tie.Need-checked-requires
-checked-requires c κs = search needs
-
-enum-known-p : tie.Need-enum-known-p
-enum-known-p c = search needs
-
-enum-told : tie.Need-enum-told
-enum-told c = search needs
-
 returns : tie.Need-returns
 unfolding stateOf
 returns c = simp (stateOf, p-is (c .before .before) ∙ c .enum-told .given .1)
-
-checked-requires-2 : tie.Need-checked-requires-2
-checked-requires-2 c κs = search needs
-
-enum-known-u : tie.Need-enum-known-u
-enum-known-u c = search needs
-
-enum-told-2 : tie.Need-enum-told-2
-enum-told-2 c = search needs
 
 returns-2 : tie.Need-returns-2
 unfolding stateOf
@@ -60,15 +39,6 @@ returns-2 c =
     let m = c .before .before in
     let v = m .before .before in
     simp (stateOf, p-is (v .before .before) ∙ v .p .given .1, u-is m ∙ c .enum-told2 .given .1)
-
-checked-requires-3 : tie.Need-checked-requires-3
-checked-requires-3 c κs = search needs
-
-enum-known-h : tie.Need-enum-known-h
-enum-known-h c = search needs
-
-enum-told-3 : tie.Need-enum-told-3
-enum-told-3 c = search needs
 
 returns-3 : tie.Need-returns-3
 unfolding stateOf
@@ -78,9 +48,6 @@ returns-3 c =
     let m = q .before .before in
     let v = m .before .before in
     simp (stateOf, p-is (v .before .before) ∙ v .p .given .1, u-is m ∙ q .u .given .1, h-is k ∙ c .enum-told3 .given .1)
-
-state-with-requires : tie.Need-state-with-requires
-state-with-requires c κs = search needs
 
 returns-4 : tie.Need-returns-4
 unfolding stateOf
@@ -96,18 +63,18 @@ pub state-of-spec : {M : Type 1} → statement M
 state-of-spec =
     tie.close
     (tie.spec
-    span-wagner-requires
-    checked-requires
-    enum-known-p
-    enum-told
+    (λ c κs. search needs)
+    (λ c κs. search needs)
+    (λ c. search needs)
+    (λ c. search needs)
     returns
-    checked-requires-2
-    enum-known-u
-    enum-told-2
+    (λ c κs. search needs)
+    (λ c. search needs)
+    (λ c. search needs)
     returns-2
-    checked-requires-3
-    enum-known-h
-    enum-told-3
+    (λ c κs. search needs)
+    (λ c. search needs)
+    (λ c. search needs)
     returns-3
-    state-with-requires
+    (λ c κs. search needs)
     returns-4)

@@ -10,30 +10,9 @@ use Rattle.state.proofs.state.state_on.Tie as tie
 delta-is : (c : tie.After-checked) → deltaOf (c .before .before .before .args .rho) ≡ c .checked .result
 delta-is c = sym (c .checked .ensures ∙ rw (c .before .before .span-wagner .ensures) (delta-worked (c .before .before .before .args .rho)))
 
-span-wagner-requires : tie.Need-span-wagner-requires
-span-wagner-requires c κs = search needs
-
-checked-requires : tie.Need-checked-requires
-checked-requires c κs = search needs
-
-enum-known-delta : tie.Need-enum-known-delta
-enum-known-delta c = search needs
-
-enum-told : tie.Need-enum-told
-enum-told c = search needs
-
 returns : tie.Need-returns
 unfolding stateOn
 returns c = simp (stateOn, delta-is (c .before .before) ∙ c .enum-told .given .1)
-
-five-sums-requires : tie.Need-five-sums-requires
-five-sums-requires c κs = search needs
-
-enum-known-s : tie.Need-enum-known-s
-enum-known-s c = search needs
-
-enum-told-2 : tie.Need-enum-told-2
-enum-told-2 c = search needs
 
 returns-2 : tie.Need-returns-2
 unfolding stateOn
@@ -41,9 +20,6 @@ returns-2 c =
     let m = c .before .before in
     let n = m .before .before in
     simp (stateOn, delta-is (n .before .before) ∙ n .delta .given .1, sym (m .five-sums .ensures) ∙ c .enum-told2 .given .1)
-
-state-ideal-requires : tie.Need-state-ideal-requires
-state-ideal-requires c κs = search needs
 
 returns-3 : tie.Need-returns-3
 unfolding stateOn
@@ -57,14 +33,14 @@ pub state-on-spec : {M : Type 1} → statement M
 state-on-spec =
     tie.close
     (tie.spec
-    span-wagner-requires
-    checked-requires
-    enum-known-delta
-    enum-told
+    (λ c κs. search needs)
+    (λ c κs. search needs)
+    (λ c. search needs)
+    (λ c. search needs)
     returns
-    five-sums-requires
-    enum-known-s
-    enum-told-2
+    (λ c κs. search needs)
+    (λ c. search needs)
+    (λ c. search needs)
     returns-2
-    state-ideal-requires
+    (λ c κs. search needs)
     returns-3)

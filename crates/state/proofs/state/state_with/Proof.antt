@@ -31,33 +31,9 @@ w-is c =
     sym (c .root .ensures ∙ rw (c .before .over2 .ensures, c .before .before .before .before .before .before .before .before .before .before .before .before .before .before .before .before .span-wagner .ensures)
     (once-root half (thermal (a .t) (a .s) (a .i1) (a .i2) ⊗ (stiffness (a .t) (a .s) (a .i1) (a .i2) ⊖ pull (a .t) (a .s) (a .i1) (a .i2) ⊗ pull (a .t) (a .s) (a .i1) (a .i2) ⊘ sag (a .t) (a .s) (a .i1) (a .i2)))))
 
-span-wagner-requires : tie.Need-span-wagner-requires
-span-wagner-requires c κs = search needs
-
-checked-requires : tie.Need-checked-requires
-checked-requires c κs = search needs
-
-enum-known-cv : tie.Need-enum-known-cv
-enum-known-cv c = search needs
-
-enum-told : tie.Need-enum-told
-enum-told c = search needs
-
 returns : tie.Need-returns
 unfolding stateWith
 returns c = simp (stateWith, cv-is (c .before .before) ∙ c .enum-told .given .1)
-
-over-requires : tie.Need-over-requires
-over-requires c κs = search needs
-
-checked-requires-2 : tie.Need-checked-requires-2
-checked-requires-2 c κs = search needs
-
-enum-known-cp : tie.Need-enum-known-cp
-enum-known-cp c = search needs
-
-enum-told-2 : tie.Need-enum-told-2
-enum-told-2 c = search needs
 
 returns-2 : tie.Need-returns-2
 unfolding stateWith
@@ -65,18 +41,6 @@ returns-2 c =
     let m = c .before .before in
     let v = m .before .before .before in
     simp (stateWith, cv-is (v .before .before) ∙ v .cv .given .1, cp-is m ∙ c .enum-told2 .given .1)
-
-over-requires-2 : tie.Need-over-requires-2
-over-requires-2 c κs = search needs
-
-root-requires : tie.Need-root-requires
-root-requires c κs = search needs
-
-enum-known-w : tie.Need-enum-known-w
-enum-known-w c = search needs
-
-enum-told-3 : tie.Need-enum-told-3
-enum-told-3 c = search needs
 
 returns-3 : tie.Need-returns-3
 unfolding stateWith
@@ -101,19 +65,19 @@ pub state-with-spec : {M : Type 1} → statement M
 state-with-spec =
     tie.close
     (tie.spec
-    span-wagner-requires
-    checked-requires
-    enum-known-cv
-    enum-told
+    (λ c κs. search needs)
+    (λ c κs. search needs)
+    (λ c. search needs)
+    (λ c. search needs)
     returns
-    over-requires
-    checked-requires-2
-    enum-known-cp
-    enum-told-2
+    (λ c κs. search needs)
+    (λ c κs. search needs)
+    (λ c. search needs)
+    (λ c. search needs)
     returns-2
-    over-requires-2
-    root-requires
-    enum-known-w
-    enum-told-3
+    (λ c κs. search needs)
+    (λ c κs. search needs)
+    (λ c. search needs)
+    (λ c. search needs)
     returns-3
     returns-4)

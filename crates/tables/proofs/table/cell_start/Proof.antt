@@ -11,25 +11,15 @@ Inv-loop text line column at₀ i₀ at i = (i ≤ column) × (at ≤ length tex
 abbrev μ-loop : tie.MeasureT-loop
 μ-loop text line column at₀ i₀ at i = column - i
 
-loop-holds : tie.Need-loop-holds Inv-loop μ-loop
-loop-holds c = search needs
-
-cell-after-requires : tie.Need-cell-after-requires Inv-loop μ-loop
-cell-after-requires c κs = search needs
-
-add-i : tie.Need-add-i Inv-loop μ-loop
-add-i c = search needs
-
-loop-less : tie.Need-loop-less Inv-loop μ-loop
-loop-less c = search needs
-
-loop-again : tie.Need-loop-again Inv-loop μ-loop
-loop-again c = search needs
-
-returns : tie.Need-returns Inv-loop μ-loop
-returns c = search needs
-
 pub cell-start-spec : {M : Type 1} → statement M
 cell-start-spec =
     tie.close
-    (tie.spec Inv-loop μ-loop loop-holds cell-after-requires add-i loop-less loop-again returns)
+    (tie.spec
+    Inv-loop
+    μ-loop
+    (λ c. search needs)
+    (λ c κs. search needs)
+    (λ c. search needs)
+    (λ c. search needs)
+    (λ c. search needs)
+    (λ c. search needs))

@@ -18,17 +18,8 @@ abbrev μ-loop : tie.MeasureT-loop
 returns : tie.Need-returns Inv-loop μ-loop
 returns c = field-end _ _ (c .if1 .taken)
 
-shared-slice-read-b : tie.Need-shared-slice-read-b Inv-loop μ-loop
-shared-slice-read-b c = search needs
-
-add-t13 : tie.Need-add-t13 Inv-loop μ-loop
-add-t13 c = search needs
-
 returns-2 : tie.Need-returns-2 Inv-loop μ-loop
 returns-2 c = (field-blank _ _ (c .before .before .if1 .left) (c .if2 .taken), search needs, search needs)
-
-is-digit-requires : tie.Need-is-digit-requires Inv-loop μ-loop
-is-digit-requires c κs = search needs
 
 returns-3 : tie.Need-returns-3 Inv-loop μ-loop
 returns-3 c = field-bad _ _ (c .before .before .before .before .if1 .left) (c .before .before .if2 .left) (sym (c .before .is-digit .ensures) ∙ not-true _ (c .if3 .taken))
@@ -36,19 +27,10 @@ returns-3 c = field-bad _ _ (c .before .before .before .before .if1 .left) (c .b
 digit-of-requires : tie.Need-digit-of-requires Inv-loop μ-loop
 digit-of-requires c κs = sym (c .before .is-digit .ensures) ∙ not-false _ (c .if3 .left)
 
-add-i : tie.Need-add-i Inv-loop μ-loop
-add-i c = search needs
-
 loop-holds : tie.Need-loop-holds Inv-loop μ-loop
 loop-holds c =
     let e = sym (c .before .before .is-digit .ensures) ∙ not-false _ (c .before .if3 .left) in
     (search needs, search needs, search needs, field-digits _ _ (c .before .before .before .before .before .if1 .left) (c .before .before .before .if2 .left) e _ (c .digit-of .ensures .0))
-
-shared-slice-read-d : tie.Need-shared-slice-read-d Inv-loop μ-loop
-shared-slice-read-d c = search needs
-
-is-digit-requires-2 : tie.Need-is-digit-requires-2 Inv-loop μ-loop
-is-digit-requires-2 c κs = search needs
 
 returns-4 : tie.Need-returns-4 Inv-loop μ-loop
 returns-4 c = (c .before .before .before .before .loop .inv .3 ∙ after-stop _ _ _ (c .before .before .before .loop-test .taken) (sym (c .before .is-digit2 .ensures) ∙ not-true _ (c .if4 .taken)), search needs, search needs)
@@ -56,26 +38,14 @@ returns-4 c = (c .before .before .before .before .loop .inv .3 ∙ after-stop _ 
 returns-5 : tie.Need-returns-5 Inv-loop μ-loop
 returns-5 c = c .before .before .before .before .before .loop .inv .3 ∙ after-zero _ _ _ (c .before .before .before .before .loop-test .taken) (sym (c .before .before .is-digit2 .ensures) ∙ not-false _ (c .before .if4 .left)) (c .if5 .taken)
 
-mul-next : tie.Need-mul-next Inv-loop μ-loop
-mul-next c = search needs
-
 digit-of-requires-2 : tie.Need-digit-of-requires-2 Inv-loop μ-loop
 digit-of-requires-2 c κs = sym (c .before .before .is-digit2 .ensures) ∙ not-false _ (c .before .if4 .left)
-
-add-next : tie.Need-add-next Inv-loop μ-loop
-add-next c = search needs
 
 returns-6 : tie.Need-returns-6 Inv-loop μ-loop
 returns-6 c =
     let at-test = c .before .before .before .before .before .before in
     at-test .before .loop .inv .3
     ∙ after-large _ _ _ (at-test .loop-test .taken) (sym (c .before .before .before .before .is-digit2 .ensures) ∙ not-false _ (c .before .before .before .if4 .left)) (c .before .before .if5 .left) _ (c .before .digit-of2 .ensures .0) (c .if6 .taken)
-
-add-i-2 : tie.Need-add-i-2 Inv-loop μ-loop
-add-i-2 c = search needs
-
-loop-less : tie.Need-loop-less Inv-loop μ-loop
-loop-less c = search needs
 
 loop-again : tie.Need-loop-again Inv-loop μ-loop
 loop-again c =
@@ -97,23 +67,23 @@ read-field-spec =
     Inv-loop
     μ-loop
     returns
-    shared-slice-read-b
-    add-t13
+    (λ c. search needs)
+    (λ c. search needs)
     returns-2
-    is-digit-requires
+    (λ c κs. search needs)
     returns-3
     digit-of-requires
-    add-i
+    (λ c. search needs)
     loop-holds
-    shared-slice-read-d
-    is-digit-requires-2
+    (λ c. search needs)
+    (λ c κs. search needs)
     returns-4
     returns-5
-    mul-next
+    (λ c. search needs)
     digit-of-requires-2
-    add-next
+    (λ c. search needs)
     returns-6
-    add-i-2
-    loop-less
+    (λ c. search needs)
+    (λ c. search needs)
     loop-again
     returns-7)

@@ -8,27 +8,9 @@ use borrow.Author.Needs.{needs}
 use Rattle.text.proofs.field.read_field_after.Statement.{statement}
 use Rattle.text.proofs.field.read_field_after.Tie as tie
 
-skip-requires : tie.Need-skip-requires
-skip-requires c κs = search needs
-
-enum-known-space : tie.Need-enum-known-space
-enum-known-space c = search needs
-
-enum-told : tie.Need-enum-told
-enum-told c = search needs
-
 returns : tie.Need-returns
 unfolding fieldAfter
 returns c = rw (subst (PlaceIs _ _ _) (c .enum-told .given .1) (c .before .before .skip .ensures))
-
-skip-requires-2 : tie.Need-skip-requires-2
-skip-requires-2 c κs = search needs
-
-enum-known-next : tie.Need-enum-known-next
-enum-known-next c = search needs
-
-enum-told-2 : tie.Need-enum-told-2
-enum-told-2 c = search needs
 
 returns-2 : tie.Need-returns-2
 unfolding fieldAfter
@@ -36,9 +18,6 @@ returns-2 c =
     let at-letter = c .before .before .before .before in
     let letter = subst (PlaceIs _ _ _) (at-letter .space .given .1) (at-letter .before .before .skip .ensures) in
     rw (letter .0, subst (PlaceIs _ _ _) (c .enum-told2 .given .1) (c .before .before .skip2 .ensures))
-
-read-field-to-requires : tie.Need-read-field-to-requires
-read-field-to-requires c κs = search needs
 
 returns-3 : tie.Need-returns-3
 unfolding fieldAfter
@@ -53,13 +32,13 @@ pub read-field-after-spec : {M : Type 1} → statement M
 read-field-after-spec =
     tie.close
     (tie.spec
-    skip-requires
-    enum-known-space
-    enum-told
+    (λ c κs. search needs)
+    (λ c. search needs)
+    (λ c. search needs)
     returns
-    skip-requires-2
-    enum-known-next
-    enum-told-2
+    (λ c κs. search needs)
+    (λ c. search needs)
+    (λ c. search needs)
     returns-2
-    read-field-to-requires
+    (λ c κs. search needs)
     returns-3)

@@ -7,26 +7,8 @@ use borrow.Author.Needs.{needs}
 use Rattle.text.proofs.field.read_field_to.Statement.{statement}
 use Rattle.text.proofs.field.read_field_to.Tie as tie
 
-read-field-requires : tie.Need-read-field-requires
-read-field-requires c κs = search needs
-
-enum-known-f : tie.Need-enum-known-f
-enum-known-f c = search needs
-
-enum-told : tie.Need-enum-told
-enum-told c = search needs
-
 returns : tie.Need-returns
 returns c = to-none₁ _ _ (subst (FieldIs _ _ _) (c .enum-told .given .1) (c .before .before .read-field .ensures))
-
-skip-requires : tie.Need-skip-requires
-skip-requires c κs = search needs
-
-enum-known-next : tie.Need-enum-known-next
-enum-known-next c = search needs
-
-enum-told-2 : tie.Need-enum-told-2
-enum-told-2 c = search needs
 
 returns-2 : tie.Need-returns-2
 returns-2 c = to-none₂ _ _ (subst (FieldIs _ _ _) (c .before .before .before .before .f .given .1) (c .before .before .before .before .before .before .read-field .ensures) .0) (subst (PlaceIs _ _ _) (c .enum-told2 .given .1) (c .before .before .skip .ensures))
@@ -43,12 +25,12 @@ pub read-field-to-spec : {M : Type 1} → statement M
 read-field-to-spec =
     tie.close
     (tie.spec
-    read-field-requires
-    enum-known-f
-    enum-told
+    (λ c κs. search needs)
+    (λ c. search needs)
+    (λ c. search needs)
     returns
-    skip-requires
-    enum-known-next
-    enum-told-2
+    (λ c κs. search needs)
+    (λ c. search needs)
+    (λ c. search needs)
     returns-2
     returns-3)

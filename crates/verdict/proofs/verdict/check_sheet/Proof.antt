@@ -18,20 +18,11 @@ returns-3 : tie.Need-returns-3
 unfolding checked
 returns-3 c = rw (c .before .before .if1 .left, ne-eqb _ _ (c .before .if2 .left), lt-ltb _ _ (c .if3 .taken))
 
-enum-known-need : tie.Need-enum-known-need
-enum-known-need c = search needs
-
-enum-told : tie.Need-enum-told
-enum-told c = search needs
-
 returns-4 : tie.Need-returns-4
 unfolding checked
 returns-4 c =
     let b = c .before .before in
     rw (b .before .before .if1 .left, ne-eqb _ _ (b .before .if2 .left), le-ltb _ _ (b .if3 .left), c .enum-told .given .1)
-
-is-need-requires : tie.Need-is-need-requires
-is-need-requires c κs = search needs
 
 returns-5 : tie.Need-returns-5
 unfolding checked
@@ -46,4 +37,15 @@ returns-6 c =
     rw (b .before .before .if1 .left, ne-eqb _ _ (b .before .if2 .left), le-ltb _ _ (b .if3 .left), c .before .before .before .need .given .1, sym (c .before .is-need .ensures) ∙ c .if4 .left)
 
 pub check-sheet-spec : {M : Type 1} → statement M
-check-sheet-spec = tie.close (tie.spec returns returns-2 returns-3 enum-known-need enum-told returns-4 is-need-requires returns-5 returns-6)
+check-sheet-spec =
+    tie.close
+    (tie.spec
+    returns
+    returns-2
+    returns-3
+    (λ c. search needs)
+    (λ c. search needs)
+    returns-4
+    (λ c κs. search needs)
+    returns-5
+    returns-6)

@@ -5,12 +5,6 @@ use Rattle.verdict.specs.Verdict.{ending}
 use Rattle.verdict.proofs.verdict.ending.Statement.{statement}
 use Rattle.verdict.proofs.verdict.ending.Tie as tie
 
-enum-known-t : tie.Need-enum-known-t
-enum-known-t c = search needs
-
-enum-told : tie.Need-enum-told
-enum-told c = search needs
-
 returns : tie.Need-returns
 unfolding ending
 returns c = rw (c .enum-told .given .1)
@@ -24,4 +18,5 @@ unfolding ending
 returns-3 c = rw (c .before .before .t .given .1, lt-leb _ _ (c .if1 .left))
 
 pub ending-spec : {M : Type 1} → statement M
-ending-spec = tie.close (tie.spec enum-known-t enum-told returns returns-2 returns-3)
+ending-spec =
+    tie.close (tie.spec (λ c. search needs) (λ c. search needs) returns returns-2 returns-3)

@@ -8,23 +8,8 @@ use Rattle.weighing.proofs.Weighings.{volume-most, out-of-range, in-ran
 use Rattle.weighing.proofs.weighing.fill.Statement.{statement}
 use Rattle.weighing.proofs.weighing.fill.Tie as tie
 
-is-volume-requires : tie.Need-is-volume-requires
-is-volume-requires c κs = search needs
-
 returns : tie.Need-returns
 returns c = out-of-range _ _ _ (sym (c .before .is-volume .ensures) ∙ not-true _ (c .if1 .taken))
-
-ask-requires : tie.Need-ask-requires
-ask-requires c κs = search needs
-
-enum-known-a : tie.Need-enum-known-a
-enum-known-a c = search needs
-
-enum-told : tie.Need-enum-told
-enum-told c = search needs
-
-hand-on-requires : tie.Need-hand-on-requires
-hand-on-requires c κs = search needs
 
 returns-2 : tie.Need-returns-2
 returns-2 c =
@@ -53,12 +38,12 @@ pub fill-spec : {M : Type 1} → statement M
 fill-spec =
     tie.close
     (tie.spec
-    is-volume-requires
+    (λ c κs. search needs)
     returns
-    ask-requires
-    enum-known-a
-    enum-told
-    hand-on-requires
+    (λ c κs. search needs)
+    (λ c. search needs)
+    (λ c. search needs)
+    (λ c κs. search needs)
     returns-2
     milligrams-requires
     returns-3)

@@ -10,15 +10,6 @@ use Rattle.weighing.proofs.weighing.milligrams.Tie as tie
 int-to-float-whole-below : tie.Need-int-to-float-whole-below
 int-to-float-whole-below c = in-float _ (c .before .pre)
 
-whole-below-requires : tie.Need-whole-below-requires
-whole-below-requires c κs = search needs
-
-enum-known-mg : tie.Need-enum-known-mg
-enum-known-mg c = search needs
-
-enum-told : tie.Need-enum-told
-enum-told c = search needs
-
 returns : tie.Need-returns
 unfolding whole
 returns c = ap mass (sym (c .enum-told .given .1)) ∙ mass-of _ _ _ (c .before .before .whole-below .ensures)
@@ -28,4 +19,12 @@ unfolding whole
 returns-2 c = ap mass (sym (c .before .mg .given .1)) ∙ mass-of _ _ _ (c .before .before .before .whole-below .ensures)
 
 pub milligrams-spec : {M : Type 1} → statement M
-milligrams-spec = tie.close (tie.spec int-to-float-whole-below whole-below-requires enum-known-mg enum-told returns returns-2)
+milligrams-spec =
+    tie.close
+    (tie.spec
+    int-to-float-whole-below
+    (λ c κs. search needs)
+    (λ c. search needs)
+    (λ c. search needs)
+    returns
+    returns-2)

@@ -5,47 +5,23 @@ use Rattle.weighing.specs.Weighing.{weighed}
 use Rattle.weighing.proofs.weighing.weigh.Statement.{statement}
 use Rattle.weighing.proofs.weighing.weigh.Tie as tie
 
-enum-told : tie.Need-enum-told
-enum-told c = search needs
-
-enum-told-2 : tie.Need-enum-told-2
-enum-told-2 c = search needs
-
 returns : tie.Need-returns
 unfolding weighed
 returns c = rw (c .enum-told2 .given .1)
-
-enum-known-temperature : tie.Need-enum-known-temperature
-enum-known-temperature c = search needs
-
-enum-told-3 : tie.Need-enum-told-3
-enum-told-3 c = search needs
 
 returns-2 : tie.Need-returns-2
 unfolding weighed
 returns-2 c = rw (c .before .before .enum-told .given .1, c .enum-told3 .given .1)
 
-enum-known-volume : tie.Need-enum-known-volume
-enum-known-volume c = search needs
-
-enum-told-4 : tie.Need-enum-told-4
-enum-told-4 c = search needs
-
 returns-3 : tie.Need-returns-3
 unfolding weighed
 returns-3 c = rw (c .before .before .before .before .before .enum-told .given .1, c .before .before .before .temperature .given .1, c .enum-told4 .given .1)
-
-is-blank-requires : tie.Need-is-blank-requires
-is-blank-requires c κs = search needs
 
 returns-4 : tie.Need-returns-4
 unfolding weighed
 returns-4 c =
     let k = c .before .before in
     rw (k .before .before .before .before .before .before .enum-told .given .1, k .before .before .before .before .temperature .given .1, k .before .volume .given .1, sym (c .before .is-blank .ensures) ∙ c .if1 .taken)
-
-fill-requires : tie.Need-fill-requires
-fill-requires c κs = search needs
 
 returns-5 : tie.Need-returns-5
 unfolding weighed
@@ -59,16 +35,16 @@ pub weigh-spec : {M : Type 1} → statement M
 weigh-spec =
     tie.close
     (tie.spec
-    enum-told
-    enum-told-2
+    (λ c. search needs)
+    (λ c. search needs)
     returns
-    enum-known-temperature
-    enum-told-3
+    (λ c. search needs)
+    (λ c. search needs)
     returns-2
-    enum-known-volume
-    enum-told-4
+    (λ c. search needs)
+    (λ c. search needs)
     returns-3
-    is-blank-requires
+    (λ c κs. search needs)
     returns-4
-    fill-requires
+    (λ c κs. search needs)
     returns-5)

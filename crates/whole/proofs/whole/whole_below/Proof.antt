@@ -33,9 +33,6 @@ loop-holds c =
 sub-loop : tie.Need-sub-loop Inv-loop μ-loop
 sub-loop c = omega arith
 
-sub-mid : tie.Need-sub-mid Inv-loop μ-loop
-sub-mid c = search needs
-
 add-mid : tie.Need-add-mid Inv-loop μ-loop
 add-mid c = omega arith
 
@@ -78,7 +75,7 @@ whole-below-spec =
     returns-2
     loop-holds
     sub-loop
-    sub-mid
+    (λ c. search needs)
     add-mid
     int-to-float-if3
     loop-less

@@ -55,7 +55,7 @@ static inline double expo(double x) {
     return 1.0 / falling(-x);
 }
 
-/* The guess of crates/roots/src/root.rt, and its search: the guess and its neighbours side by side, then outward. */
+/* The guess of crates/num_roots/src/root.rt, and its search: the guess and its neighbours side by side, then outward. */
 static inline uint64_t guess(double x, int m, int k, double t) {
     uint64_t b = bits(x);
     double z = of_bits((b & 0x000fffffffffffffull) + 0x3ff0000000000000ull);

@@ -1,4 +1,4 @@
-"""The doors worked a second time, from document 01 ("Constants and ranges", "The doors, step by step"): what the program `readings` must print of them, after numerics.py's
+"""The doors worked a second time, from document 01 ("Constants and ranges", "The doors, step by step"): what the program `run_readings` must print of them, after numerics.py's
 lines. `python3 numerics.py; python3 doors.py` is all of it.
 """
 import math

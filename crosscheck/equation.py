@@ -2,7 +2,7 @@
 """The pressure and the state worked a second time, from 004 and docs/ARRANGEMENT.md, sections 2 to 9: prints what the program `figures` must print.
 
 Each operation is one Python float operation, which is the same f64 operation. Each number is tested as it is worked, where the code tests at the end.
-    crosscheck/equation.py | diff - crates/figures/stdout
+    crosscheck/equation.py | diff - crates/run_figures/stdout
 """
 import sys
 

@@ -1,8 +1,8 @@
 #!/usr/bin/env python3
-"""The numerics worked a second time, from document 01 alone: prints what the program `readings` must print of them, its first lines.
+"""The numerics worked a second time, from document 01 alone: prints what the program `run_readings` must print of them, its first lines.
 
 Each operation is one Python float operation, which is the same f64 operation. Roots halve as document 01 says, with no guess.
-    (crosscheck/numerics.py; python3 crosscheck/doors.py) | diff - crates/readings/stdout
+    (crosscheck/numerics.py; python3 crosscheck/doors.py) | diff - crates/run_readings/stdout
 """
 import math
 import struct

@@ -4,13 +4,13 @@ use mathlib.Core.Path.{_≡_, refl}
 use mathlib.Core.Bool.{Bool, true, false, _&&_, not}
 use lib.Ieee.{Float}
 use lib.Ieee.Scale.{finite}
-use Rattle.checks.specs.Check.{if, checks}
-use Rattle.limits.specs.Limits.{outside}
+use Rattle.door_checks.specs.Check.{if, checks}
+use Rattle.door_limits.specs.Limits.{outside}
 use Rattle.demands.specs.Demands.{Barred, no-number, no-temperature, no-value, in-box, Past}
-use Rattle.checks.specs.declared.check.Check.{Check}
-use Rattle.checks.specs.declared.check.Check.the-variants.{Passed, No}
-use Rattle.limits.specs.declared.limits.Range.{Range}
-use Rattle.limits.specs.declared.limits.Limits.{Limits}
+use Rattle.door_checks.specs.declared.Check.{Check}
+use Rattle.door_checks.specs.declared.Check.the-variants.{Passed, No}
+use Rattle.door_limits.specs.declared.Range.{Range}
+use Rattle.door_limits.specs.declared.Limits.{Limits}
 
 module _ (L : Limits) (asked critical : Range) (t x : Float) where
   pub data Finds (c : Check) : Type 0 where

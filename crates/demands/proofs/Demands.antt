@@ -5,31 +5,31 @@ use native.Mathlib.Omega.{arith}
 use lib.Dec.{T}
 use lib.Ieee.{Float, binary64, le, fits, ofBits, toBits}
 use lib.Ieee.Bits.{ofBits-toBits}
-use Rattle.numeric.specs.Number.{nonneg}
-use Rattle.numeric.proofs.Numbers.{infinity}
-use Rattle.halving.specs.Halving.{NoCrossing}
-use Rattle.orders.proofs.Orders.{bits-mono}
-use Rattle.state.specs.declared.state.State as Eight
-use Rattle.state.specs.declared.state.Stated.the-variants.{Known}
-use Rattle.state.proofs.States.{pressure-of-state}
-use Rattle.densities.proofs.Densities.{vapour-nonneg, liquid-nonneg}
-use Rattle.limits.specs.Limits.{document01}
+use Rattle.num_working.specs.Number.{nonneg}
+use Rattle.num_working.proofs.Numbers.{infinity}
+use Rattle.num_halving.specs.Halving.{NoCrossing}
+use Rattle.num_laws.proofs.Orders.{bits-mono}
+use Rattle.eos_state.specs.declared.State as Eight
+use Rattle.eos_state.specs.declared.Stated.the-variants.{Known}
+use Rattle.eos_state.proofs.States.{pressure-of-state}
+use Rattle.eos_densities.proofs.Densities.{vapour-nonneg, liquid-nonneg}
+use Rattle.door_limits.specs.Limits.{document01}
 use Rattle.equation.specs.Equation.{Equation, of1996}
-use Rattle.pressure_door.specs.Search.{figure}
-use Rattle.pressure_door.specs.PressureDoor.{pressureDoor}
-use Rattle.density_door.specs.DensityDoor.{densityDoor}
+use Rattle.door_pressure.specs.Search.{figure}
+use Rattle.door_pressure.specs.PressureDoor.{pressureDoor}
+use Rattle.door_density.specs.DensityDoor.{densityDoor}
 use Rattle.demands.specs.Demands as demands
 use Rattle.demands.specs.Demands.{Whatever, Exactly, Barred, no-number, no-temperature, no-value, in-box, PastP, Ranged, supercritical, RefusesP, barred, line-fails, on-line, vapour-fails, vapour-end-fails, liquid-fails, liquid-end-fails, no-crossing, probe-fails, state-fails, Answered, RefusesD, stopped, no-vapour, no-liquid, between, no-pressure, pressure-outside, no-state, AnsweredD, Sane, Settled, given, not-given, eightOf, SameEight, LiesInRange}
-use Rattle.limits.specs.declared.limits.Range.{Range}
-use Rattle.limits.specs.declared.limits.Limits.{Limits}
-use Rattle.answers.specs.declared.answer.Phase.{Phase}
-use Rattle.answers.specs.declared.answer.State.{State}
-use Rattle.answers.specs.declared.answer.Answer.{Answer}
-use Rattle.answers.specs.declared.answer.Answer.the-variants as answer
-use Rattle.pressure_door.proofs.pressure_door.from_pressure.Reads as from-pressure
-use Rattle.density_door.proofs.density_door.from_density.Reads as from-density
-use Rattle.pressure_door.proofs.Doors.{searchable, product-nonneg}
-use Rattle.pressure_door.proofs.Searches.{bits-below}
+use Rattle.door_limits.specs.declared.Range.{Range}
+use Rattle.door_limits.specs.declared.Limits.{Limits}
+use Rattle.door_answers.specs.declared.Phase.{Phase}
+use Rattle.door_answers.specs.declared.State.{State}
+use Rattle.door_answers.specs.declared.Answer.{Answer}
+use Rattle.door_answers.specs.declared.Answer.the-variants as answer
+use Rattle.door_pressure.proofs.from_pressure.Reads as from-pressure
+use Rattle.door_density.proofs.from_density.Reads as from-density
+use Rattle.door_pressure.proofs.Doors.{searchable, product-nonneg}
+use Rattle.door_pressure.proofs.Searches.{bits-below}
 use Rattle.demands.proofs.PressureDoors.{pressure-refusals, pressure-answers, no-crossing-exactly}
 use Rattle.demands.proofs.DensityDoors.{density-refusals, density-answers}
 

@@ -4,22 +4,22 @@ use mathlib.Core.Path.{_≡_, refl, sym, ap, subst, _∙_}
 use mathlib.Core.Bool.{Bool, true, false, _&&_, not}
 use native.Mathlib.Omega.{arith}
 use lib.Ieee.{Float, lt, le}
-use Rattle.numeric.specs.declared.working.Worked.{Worked}
-use Rattle.numeric.specs.declared.working.Worked.the-variants.{Number, Failed}
-use Rattle.state.specs.declared.state.Stated.{Stated}
-use Rattle.state.specs.declared.state.Stated.the-variants.{Known, Unknown}
-use Rattle.answers.specs.Answer.{passed, withPhase, settled, thenAnswer, either}
+use Rattle.num_working.specs.declared.Worked.{Worked}
+use Rattle.num_working.specs.declared.Worked.the-variants.{Number, Failed}
+use Rattle.eos_state.specs.declared.Stated.{Stated}
+use Rattle.eos_state.specs.declared.Stated.the-variants.{Known, Unknown}
+use Rattle.door_answers.specs.Answer.{passed, withPhase, settled, thenAnswer, either}
 use Rattle.equation.specs.Equation.{Equation}
-use Rattle.limits.specs.Limits.{outside}
-use Rattle.density_door.specs.DensityDoor.{inPhase, below, within, densityDoor}
+use Rattle.door_limits.specs.Limits.{outside}
+use Rattle.door_density.specs.DensityDoor.{inPhase, below, within, densityDoor}
 use Rattle.demands.specs.Demands.{PastD, Phased, above-critical, as-vapour, as-liquid, RefusesD, stopped, no-vapour, no-liquid, between, no-pressure, pressure-outside, no-state, AnsweredD, DensityRefusals, DensityAnswers}
-use Rattle.checks.specs.declared.check.Check.{Check}
-use Rattle.limits.specs.declared.limits.Limits.{Limits}
-use Rattle.answers.specs.declared.answer.Phase.{Phase}
-use Rattle.answers.specs.declared.answer.Phase.the-variants.{Vapour, Liquid, Supercritical}
-use Rattle.answers.specs.declared.answer.State.{State}
-use Rattle.answers.specs.declared.answer.Answer.{Answer}
-use Rattle.answers.specs.declared.answer.Answer.the-variants as answer
+use Rattle.door_checks.specs.declared.Check.{Check}
+use Rattle.door_limits.specs.declared.Limits.{Limits}
+use Rattle.door_answers.specs.declared.Phase.{Phase}
+use Rattle.door_answers.specs.declared.Phase.the-variants.{Vapour, Liquid, Supercritical}
+use Rattle.door_answers.specs.declared.State.{State}
+use Rattle.door_answers.specs.declared.Answer.{Answer}
+use Rattle.door_answers.specs.declared.Answer.the-variants as answer
 use Rattle.demands.proofs.Checks.{stops, passes, finds, stops-back, passes-back}
 
 module _ (E : Equation) (L : Limits) (t rho : Float) where

@@ -2,20 +2,20 @@
 use mathlib.Core.Path.{_≡_, refl}
 use mathlib.Core.List.{map}
 use lib.Ieee.{ofInt, round, div, lt}
-use Rattle.numeric.specs.Number.{whole, decimal, fraction}
-use Rattle.text.specs.Decimal as Decimal
-use Rattle.text.specs.Parse.{byte}
-use Rattle.text.specs.Field.{digitsAfter, field, fieldTo, fieldAfter}
-use Rattle.lines.specs.Cylinder.{kind, reading, cylinder}
-use Rattle.sheet.specs.Form.{cylinders, bank, inForm}
-use Rattle.limits.specs.Limits.{document01}
-use Rattle.checks.specs.Check.{checks}
-use Rattle.pressure_door.specs.PressureDoor.{pressureDoor}
-use Rattle.weighing.specs.Weighing.{filled, weighed}
-use Rattle.writing.specs.Writing.{ascii}
-use Rattle.report.specs.Report.{weighedBytes, lineBytes, linesBytes, endingBytes}
-use Rattle.verdict.specs.Verdict.{checked, ending}
-use Rattle.score.specs.Score.{total, report}
+use Rattle.num_working.specs.Number.{whole, decimal, fraction}
+use Rattle.sheet_text.specs.Decimal as Decimal
+use Rattle.sheet_text.specs.Parse.{byte}
+use Rattle.sheet_text.specs.Field.{digitsAfter, field, fieldTo, fieldAfter}
+use Rattle.sheet_line.specs.Cylinder.{kind, reading, cylinder}
+use Rattle.sheet_read.specs.Form.{cylinders, bank, inForm}
+use Rattle.door_limits.specs.Limits.{document01}
+use Rattle.door_checks.specs.Check.{checks}
+use Rattle.door_pressure.specs.PressureDoor.{pressureDoor}
+use Rattle.sheet_weigh.specs.Weighing.{filled, weighed}
+use Rattle.sheet_write.specs.Writing.{ascii}
+use Rattle.sheet_report.specs.Report.{weighedBytes, lineBytes, linesBytes, endingBytes}
+use Rattle.sheet_outcome.specs.Verdict.{checked, ending}
+use Rattle.sheet_score.specs.Score.{total, report}
 use Rattle.demands.specs.Examples.{Example, examples}
 
 pub all-printed : map (λ (e : Example). report (inForm (e .text))) examples ≡ map (λ (e : Example). ascii (e .report)) examples

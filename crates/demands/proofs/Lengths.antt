@@ -5,23 +5,23 @@ use mathlib.Core.List.{List, [], _∷_, _++_, map}
 use native.Mathlib.Omega.{arith}
 use lib.ListN.{length, length-append, length-map}
 use lib.Ieee.{Float, binary64, div}
-use Rattle.numeric.specs.Number.{whole}
-use Rattle.text.specs.Decimal.{decimal}
-use Rattle.text.specs.declared.field.Field.{Field}
-use Rattle.text.proofs.Decimals.{digits-most}
-use Rattle.lines.specs.Line.{lineOf}
-use Rattle.lines.specs.declared.cylinder.Kind.{Kind}
-use Rattle.lines.specs.declared.cylinder.Cylinder.{Cylinder}
-use Rattle.sheet.specs.Form.{Bank, inForm}
-use Rattle.answers.specs.declared.answer.Answer.{Answer}
-use Rattle.weighing.specs.Weighing.{weighed, Under}
-use Rattle.weighing.proofs.Weights.{weighed-under}
-use Rattle.writing.specs.Writing.{ascii}
-use Rattle.report.specs.Report.{lineBytes, linesBytes, endingBytes}
-use Rattle.report.specs.declared.report.Weighed.{Weighed}
-use Rattle.report.specs.declared.report.Ending.{Ending}
-use Rattle.report.proofs.Reports.{between-length, number-of, line-size}
-use Rattle.score.specs.Score.{mark, report}
+use Rattle.num_working.specs.Number.{whole}
+use Rattle.sheet_text.specs.Decimal.{decimal}
+use Rattle.sheet_text.specs.declared.Field.{Field}
+use Rattle.sheet_text.proofs.Decimals.{digits-most}
+use Rattle.sheet_line.specs.Line.{lineOf}
+use Rattle.sheet_line.specs.declared.cylinder.Kind.{Kind}
+use Rattle.sheet_line.specs.declared.cylinder.Cylinder.{Cylinder}
+use Rattle.sheet_read.specs.Form.{Bank, inForm}
+use Rattle.door_answers.specs.declared.Answer.{Answer}
+use Rattle.sheet_weigh.specs.Weighing.{weighed, Under}
+use Rattle.sheet_weigh.proofs.Weights.{weighed-under}
+use Rattle.sheet_write.specs.Writing.{ascii}
+use Rattle.sheet_report.specs.Report.{lineBytes, linesBytes, endingBytes}
+use Rattle.sheet_report.specs.declared.Weighed.{Weighed}
+use Rattle.sheet_report.specs.declared.Ending.{Ending}
+use Rattle.sheet_report.proofs.Reports.{between-length, number-of, line-size}
+use Rattle.sheet_score.specs.Score.{mark, report}
 use Rattle.demands.specs.Demands.{Settled, given, not-given}
 use Rattle.demands.specs.Lines as lines
 use Rattle.demands.specs.Lines.{Asked, by-pressure, by-density, RefusesLine, no-volume, by-door, no-product}

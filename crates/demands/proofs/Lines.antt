@@ -3,23 +3,23 @@ use Prim.Native.Nat.{ℕ}
 use mathlib.Core.Path.{_≡_, refl, sym, ap, subst, _∙_}
 use mathlib.Core.Bool.{Bool, true, false, true≢false}
 use lib.Ieee.{Float, binary64, div}
-use Rattle.numeric.specs.Number.{whole}
-use Rattle.text.specs.declared.field.Field.{Field}
-use Rattle.lines.specs.Line.{temperatureOf, readingOf, lineOf}
-use Rattle.lines.specs.declared.cylinder.Kind.{Kind}
-use Rattle.lines.specs.declared.cylinder.Cylinder.{Cylinder}
-use Rattle.lines.specs.declared.line.Temperature.{Temperature}
-use Rattle.limits.specs.Limits.{document01}
-use Rattle.answers.specs.declared.answer.State.{State}
-use Rattle.answers.specs.declared.answer.Answer.{Answer}
+use Rattle.num_working.specs.Number.{whole}
+use Rattle.sheet_text.specs.declared.Field.{Field}
+use Rattle.sheet_line.specs.Line.{temperatureOf, readingOf, lineOf}
+use Rattle.sheet_line.specs.declared.cylinder.Kind.{Kind}
+use Rattle.sheet_line.specs.declared.cylinder.Cylinder.{Cylinder}
+use Rattle.sheet_line.specs.declared.line.Temperature.{Temperature}
+use Rattle.door_limits.specs.Limits.{document01}
+use Rattle.door_answers.specs.declared.State.{State}
+use Rattle.door_answers.specs.declared.Answer.{Answer}
 use Rattle.equation.specs.Equation.{of1996}
-use Rattle.pressure_door.specs.PressureDoor.{pressureDoor}
-use Rattle.density_door.specs.DensityDoor.{densityDoor}
-use Rattle.whole.specs.Whole.{wholeBelow}
-use Rattle.whole.specs.declared.whole.Below.{Below}
-use Rattle.weighing.specs.Weighing.{ifNumber, ifKelvin, isBlank, isVolume, asked, mass, milligrams, answered, when, filled, weighed}
-use Rattle.report.specs.declared.report.Weighed.{Weighed}
-use Rattle.report.proofs.Reports.{number-of}
+use Rattle.door_pressure.specs.PressureDoor.{pressureDoor}
+use Rattle.door_density.specs.DensityDoor.{densityDoor}
+use Rattle.num_whole.specs.Whole.{wholeBelow}
+use Rattle.num_whole.specs.declared.Below.{Below}
+use Rattle.sheet_weigh.specs.Weighing.{ifNumber, ifKelvin, isBlank, isVolume, asked, mass, milligrams, answered, when, filled, weighed}
+use Rattle.sheet_report.specs.declared.Weighed.{Weighed}
+use Rattle.sheet_report.proofs.Reports.{number-of}
 use Rattle.demands.specs.Demands.{Exactly}
 use Rattle.demands.proofs.Ranges.{Outside, below-one, above-top, inside, outside, is-inside, is-outside}
 use Rattle.demands.specs.Lines as lines

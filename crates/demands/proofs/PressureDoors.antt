@@ -4,28 +4,28 @@ use mathlib.Core.Path.{_≡_, refl, sym, ap, subst, _∙_}
 use mathlib.Core.Bool.{Bool, true, false}
 use native.Mathlib.Omega.{arith}
 use lib.Ieee.{Float, binary64, eq, lt, le, ofBits, toBits}
-use Rattle.numeric.specs.declared.working.Worked.{Worked}
-use Rattle.numeric.specs.declared.working.Worked.the-variants.{Number, Failed}
-use Rattle.halving.specs.Halving.{NoCrossing, halve}
-use Rattle.halving.specs.declared.halving.Crossing.{Crossing}
-use Rattle.halving.specs.declared.halving.Crossing.the-variants.{At, Nowhere, Broke}
-use Rattle.halving.proofs.Halvings.{answer, nowhere, nowhere-back, breaks, breaks-back}
-use Rattle.formulas.specs.Formula.{num, _⊗_, work}
-use Rattle.state.specs.declared.state.Stated.{Stated}
-use Rattle.state.specs.declared.state.Stated.the-variants.{Known, Unknown}
-use Rattle.answers.specs.Answer.{passed, withPhase, settled, thenAnswer, either}
+use Rattle.num_working.specs.declared.Worked.{Worked}
+use Rattle.num_working.specs.declared.Worked.the-variants.{Number, Failed}
+use Rattle.num_halving.specs.Halving.{NoCrossing, halve}
+use Rattle.num_halving.specs.declared.Crossing.{Crossing}
+use Rattle.num_halving.specs.declared.Crossing.the-variants.{At, Nowhere, Broke}
+use Rattle.num_halving.proofs.Halvings.{answer, nowhere, nowhere-back, breaks, breaks-back}
+use Rattle.num_formulas.specs.Formula.{num, _⊗_, work}
+use Rattle.eos_state.specs.declared.Stated.{Stated}
+use Rattle.eos_state.specs.declared.Stated.the-variants.{Known, Unknown}
+use Rattle.door_answers.specs.Answer.{passed, withPhase, settled, thenAnswer, either}
 use Rattle.equation.specs.Equation.{Equation}
-use Rattle.pressure_door.specs.Search.{figure, found, searched}
-use Rattle.pressure_door.specs.PressureDoor.{vapour, liquid, beneath, entered, pressureDoor}
+use Rattle.door_pressure.specs.Search.{figure, found, searched}
+use Rattle.door_pressure.specs.PressureDoor.{vapour, liquid, beneath, entered, pressureDoor}
 use Rattle.demands.specs.Demands as demands
 use Rattle.demands.specs.Demands.{PastP, Ranged, supercritical, RefusesP, barred, line-fails, on-line, vapour-fails, vapour-end-fails, liquid-fails, liquid-end-fails, no-crossing, probe-fails, state-fails, Answered, Sane, PressureRefusals, PressureAnswers, NoCrossingExactly}
-use Rattle.checks.specs.declared.check.Check.{Check}
-use Rattle.limits.specs.declared.limits.Limits.{Limits}
-use Rattle.answers.specs.declared.answer.Phase.{Phase}
-use Rattle.answers.specs.declared.answer.Phase.the-variants.{Vapour, Liquid, Supercritical}
-use Rattle.answers.specs.declared.answer.State.{State}
-use Rattle.answers.specs.declared.answer.Answer.{Answer}
-use Rattle.answers.specs.declared.answer.Answer.the-variants as answer
+use Rattle.door_checks.specs.declared.Check.{Check}
+use Rattle.door_limits.specs.declared.Limits.{Limits}
+use Rattle.door_answers.specs.declared.Phase.{Phase}
+use Rattle.door_answers.specs.declared.Phase.the-variants.{Vapour, Liquid, Supercritical}
+use Rattle.door_answers.specs.declared.State.{State}
+use Rattle.door_answers.specs.declared.Answer.{Answer}
+use Rattle.door_answers.specs.declared.Answer.the-variants as answer
 use Rattle.demands.proofs.Checks.{stops, passes, finds, stops-back, passes-back}
 
 module _ (E : Equation) (L : Limits) (sane : Sane E L) (t p : Float) where

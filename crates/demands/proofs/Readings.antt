@@ -2,14 +2,14 @@
 use mathlib.Core.Path.{_≡_, refl, ap, _∙_}
 use mathlib.Core.List.{List, _++_, map}
 use lib.Ieee.{ofInt, round, div, lt}
-use Rattle.numeric.specs.Number.{whole, decimal, fraction}
-use Rattle.numeric.specs.declared.working.Worked.{Worked}
-use Rattle.formulas.specs.Readings as numerics
-use Rattle.formulas.proofs.Readings as numerics-read
-use Rattle.limits.specs.Limits.{document01}
-use Rattle.checks.specs.Check.{checks}
-use Rattle.pressure_door.specs.PressureDoor.{pressureDoor}
-use Rattle.weighing.specs.Weighing.{weighed, filled}
+use Rattle.num_working.specs.Number.{whole, decimal, fraction}
+use Rattle.num_working.specs.declared.Worked.{Worked}
+use Rattle.num_formulas.specs.Readings as numerics
+use Rattle.num_formulas.proofs.Readings as numerics-read
+use Rattle.door_limits.specs.Limits.{document01}
+use Rattle.door_checks.specs.Check.{checks}
+use Rattle.door_pressure.specs.PressureDoor.{pressureDoor}
+use Rattle.sheet_weigh.specs.Weighing.{weighed, filled}
 use Rattle.demands.specs.Readings.{Read, number, Starred, at, of-checks, of-lines, readings}
 
 abbrev worked : List Starred → List Read

@@ -11,21 +11,21 @@ use lib.Dec.{leb, ltb, eqb}
 use lib.ListN.{length, drop, getD}
 use lib.Seq.{getD-append-add, getD-drop}
 use borrow.Author.Tests.{eqb-true, eqb-false, ltb-true, ltb-false, leb-true, leb-false, ne-eqb, lt-ltb, le-ltb, le-leb, lt-leb}
-use Rattle.text.specs.declared.field.Field.{Field}
-use Rattle.lines.specs.declared.line.Line.{Line}
-use Rattle.sheet.specs.Form.{Bank, inForm}
-use Rattle.weighing.specs.Weighing.{weighed, Under}
-use Rattle.weighing.proofs.Weights.{weighed-under}
-use Rattle.writing.specs.Writing.{overlaid}
-use Rattle.writing.proofs.Writings.{long}
-use Rattle.report.specs.Report.{linesBytes, endingBytes, sentBack, ReportIs}
-use Rattle.report.specs.declared.report.Weighed.{Weighed}
-use Rattle.report.specs.declared.report.Written.{Written}
-use Rattle.verdict.specs.Verdict.{isNeed, when, needed, checked, ending, reached}
-use Rattle.score.specs.Score.{plus, total, mark, finished, report}
-use Rattle.verdict.specs.declared.verdict.Checked.{Checked}
-use Rattle.verdict.specs.declared.verdict.Summed.{Summed}
-use Rattle.score.proofs.score.score.Reads as score
+use Rattle.sheet_text.specs.declared.Field.{Field}
+use Rattle.sheet_line.specs.declared.line.Line.{Line}
+use Rattle.sheet_read.specs.Form.{Bank, inForm}
+use Rattle.sheet_weigh.specs.Weighing.{weighed, Under}
+use Rattle.sheet_weigh.proofs.Weights.{weighed-under}
+use Rattle.sheet_write.specs.Writing.{overlaid}
+use Rattle.sheet_write.proofs.Writings.{long}
+use Rattle.sheet_report.specs.Report.{linesBytes, endingBytes, sentBack, ReportIs}
+use Rattle.sheet_report.specs.declared.Weighed.{Weighed}
+use Rattle.sheet_report.specs.declared.Written.{Written}
+use Rattle.sheet_outcome.specs.Verdict.{isNeed, when, needed, checked, ending, reached}
+use Rattle.sheet_score.specs.Score.{plus, total, mark, finished, report}
+use Rattle.sheet_outcome.specs.declared.Checked.{Checked}
+use Rattle.sheet_outcome.specs.declared.Summed.{Summed}
+use Rattle.sheet_score.proofs.score.Reads as score
 use Rattle.demands.specs.Demands.{Exactly}
 use Rattle.demands.proofs.Ranges.{Outside, below-one, above-top, inside, outside, is-inside, is-outside}
 use Rattle.demands.specs.Sheets as sheets

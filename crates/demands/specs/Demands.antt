@@ -5,25 +5,25 @@ use mathlib.Core.Bool.{true, false, _&&_, not}
 use lib.Dec.{T}
 use lib.Ieee.{Float, binary64, eq, lt, le, ofBits, toBits}
 use lib.Ieee.Scale.{finite}
-use Rattle.numeric.specs.declared.working.Worked.the-variants.{Number, Failed}
-use Rattle.halving.specs.Halving.{Found, NoCrossing, Breaks, halve}
-use Rattle.halving.specs.declared.halving.Crossing.the-variants.{At}
-use Rattle.formulas.specs.Formula.{num, _⊗_, work}
-use Rattle.state.specs.declared.state.State as Eight
-use Rattle.state.specs.declared.state.Stated.the-variants.{Known, Unknown}
-use Rattle.answers.specs.Answer.{withPhase}
+use Rattle.num_working.specs.declared.Worked.the-variants.{Number, Failed}
+use Rattle.num_halving.specs.Halving.{Found, NoCrossing, Breaks, halve}
+use Rattle.num_halving.specs.declared.Crossing.the-variants.{At}
+use Rattle.num_formulas.specs.Formula.{num, _⊗_, work}
+use Rattle.eos_state.specs.declared.State as Eight
+use Rattle.eos_state.specs.declared.Stated.the-variants.{Known, Unknown}
+use Rattle.door_answers.specs.Answer.{withPhase}
 use Rattle.equation.specs.Equation.{Equation}
-use Rattle.limits.specs.Limits.{outside}
-use Rattle.pressure_door.specs.Search.{figure}
-use Rattle.limits.specs.declared.limits.Range.{Range}
-use Rattle.limits.specs.declared.limits.Limits.{Limits}
-use Rattle.answers.specs.declared.answer.Phase.{Phase}
-use Rattle.answers.specs.declared.answer.Phase.the-variants.{Vapour, Liquid, Supercritical}
-use Rattle.answers.specs.declared.answer.State.{State}
-use Rattle.answers.specs.declared.answer.Answer.{Answer}
-use Rattle.answers.specs.declared.answer.Answer.the-variants as answer
-use Rattle.pressure_door.specs.PressureDoor.{pressureDoor}
-use Rattle.density_door.specs.DensityDoor.{densityDoor}
+use Rattle.door_limits.specs.Limits.{outside}
+use Rattle.door_pressure.specs.Search.{figure}
+use Rattle.door_limits.specs.declared.Range.{Range}
+use Rattle.door_limits.specs.declared.Limits.{Limits}
+use Rattle.door_answers.specs.declared.Phase.{Phase}
+use Rattle.door_answers.specs.declared.Phase.the-variants.{Vapour, Liquid, Supercritical}
+use Rattle.door_answers.specs.declared.State.{State}
+use Rattle.door_answers.specs.declared.Answer.{Answer}
+use Rattle.door_answers.specs.declared.Answer.the-variants as answer
+use Rattle.door_pressure.specs.PressureDoor.{pressureDoor}
+use Rattle.door_density.specs.DensityDoor.{densityDoor}
 
 -- ---- the checks on the inputs: 3, 4, 5, 6, each only where none before it holds
 module _ (L : Limits) (asked critical : Range) (t x : Float) where

@@ -2,7 +2,7 @@
 use Prim.Native.Nat.{ℕ, zero, suc}
 use Prim.Native.String.{String}
 use mathlib.Core.List.{List, [], _∷_, _++_}
-use Rattle.writing.specs.Writing.{ascii}
+use Rattle.sheet_write.specs.Writing.{ascii}
 
 pub record Example : Type 0 where
   pub text : List ℕ

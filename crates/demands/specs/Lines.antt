@@ -2,18 +2,18 @@
 use Prim.Native.Nat.{ℕ, _≤_, _<_}
 use mathlib.Core.Path.{_≡_}
 use lib.Ieee.{Float, binary64, div, mul}
-use Rattle.numeric.specs.Number.{whole}
-use Rattle.text.specs.declared.field.Field.{Field}
-use Rattle.lines.specs.declared.cylinder.Kind.{Kind}
-use Rattle.lines.specs.declared.cylinder.Cylinder.{Cylinder}
-use Rattle.limits.specs.Limits.{document01}
-use Rattle.answers.specs.declared.answer.State.{State}
-use Rattle.answers.specs.declared.answer.Answer.{Answer}
+use Rattle.num_working.specs.Number.{whole}
+use Rattle.sheet_text.specs.declared.Field.{Field}
+use Rattle.sheet_line.specs.declared.cylinder.Kind.{Kind}
+use Rattle.sheet_line.specs.declared.cylinder.Cylinder.{Cylinder}
+use Rattle.door_limits.specs.Limits.{document01}
+use Rattle.door_answers.specs.declared.State.{State}
+use Rattle.door_answers.specs.declared.Answer.{Answer}
 use Rattle.equation.specs.Equation.{of1996}
-use Rattle.pressure_door.specs.PressureDoor.{pressureDoor}
-use Rattle.density_door.specs.DensityDoor.{densityDoor}
-use Rattle.whole.specs.Whole.{wholeBelow}
-use Rattle.whole.specs.declared.whole.Below.{Below}
+use Rattle.door_pressure.specs.PressureDoor.{pressureDoor}
+use Rattle.door_density.specs.DensityDoor.{densityDoor}
+use Rattle.num_whole.specs.Whole.{wholeBelow}
+use Rattle.num_whole.specs.declared.Below.{Below}
 
 -- "a field of the line is blank (cylinder number, temperature, value, volume)": `-` in the place of one of them
 pub data Dashed (c : Cylinder) : Type 0 where

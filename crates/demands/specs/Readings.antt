@@ -2,20 +2,20 @@
 use Prim.Native.Nat.{ℕ}
 use mathlib.Core.List.{List, [], _∷_, _++_, map}
 use lib.Ieee.{binary64, div}
-use Rattle.numeric.specs.Number.{whole}
-use Rattle.numeric.specs.declared.working.Worked.{Worked}
-use Rattle.formulas.specs.Readings as numerics
-use Rattle.limits.specs.Limits.{document01}
-use Rattle.checks.specs.Check.{checks}
-use Rattle.checks.specs.declared.check.Check.{Check}
-use Rattle.checks.specs.declared.check.Check.the-variants.{Passed}
-use Rattle.text.specs.declared.field.Field.the-variants.{Number}
-use Rattle.lines.specs.Line.{lineOf}
-use Rattle.lines.specs.declared.cylinder.Cylinder.{Cylinder}
-use Rattle.lines.specs.declared.cylinder.Kind.the-variants.{Pressure}
-use Rattle.weighing.specs.Weighing.{weighed}
-use Rattle.report.specs.declared.report.Weighed.{Weighed}
-use Rattle.report.specs.declared.report.Weighed.the-variants.{Refused}
+use Rattle.num_working.specs.Number.{whole}
+use Rattle.num_working.specs.declared.Worked.{Worked}
+use Rattle.num_formulas.specs.Readings as numerics
+use Rattle.door_limits.specs.Limits.{document01}
+use Rattle.door_checks.specs.Check.{checks}
+use Rattle.door_checks.specs.declared.Check.{Check}
+use Rattle.door_checks.specs.declared.Check.the-variants.{Passed}
+use Rattle.sheet_text.specs.declared.Field.the-variants.{Number}
+use Rattle.sheet_line.specs.Line.{lineOf}
+use Rattle.sheet_line.specs.declared.cylinder.Cylinder.{Cylinder}
+use Rattle.sheet_line.specs.declared.cylinder.Kind.the-variants.{Pressure}
+use Rattle.sheet_weigh.specs.Weighing.{weighed}
+use Rattle.sheet_report.specs.declared.Weighed.{Weighed}
+use Rattle.sheet_report.specs.declared.Weighed.the-variants.{Refused}
 
 -- what a reading is of: a number that is worked, the checks on the inputs, or a line
 pub data Read : Type 0 where

@@ -5,16 +5,16 @@ use mathlib.Core.List.{List, [], _∷_, _++_, map}
 use mathlib.Core.Option.{none, some}
 use denote.Ref.{RefT, now}
 use lib.ListN.{length, getD}
-use Rattle.text.specs.declared.field.Field.{Field}
-use Rattle.lines.specs.Line.{lineOf}
-use Rattle.lines.specs.declared.line.Line.{Line}
-use Rattle.sheet.specs.Form.{Bank, inForm}
-use Rattle.weighing.specs.Weighing.{weighed}
-use Rattle.report.specs.Report.{linesBytes, endingBytes, sentBack}
-use Rattle.report.specs.declared.report.Weighed.{Weighed}
-use Rattle.report.specs.declared.report.Ending.{Ending}
-use Rattle.report.specs.declared.report.Written.{Written}
-use Rattle.score.specs.Score.{mark}
+use Rattle.sheet_text.specs.declared.Field.{Field}
+use Rattle.sheet_line.specs.Line.{lineOf}
+use Rattle.sheet_line.specs.declared.line.Line.{Line}
+use Rattle.sheet_read.specs.Form.{Bank, inForm}
+use Rattle.sheet_weigh.specs.Weighing.{weighed}
+use Rattle.sheet_report.specs.Report.{linesBytes, endingBytes, sentBack}
+use Rattle.sheet_report.specs.declared.Weighed.{Weighed}
+use Rattle.sheet_report.specs.declared.Ending.{Ending}
+use Rattle.sheet_report.specs.declared.Written.{Written}
+use Rattle.sheet_score.specs.Score.{mark}
 
 abbrev pub lines : Bank → List Line
 lines b = map lineOf (b .cylinders)

@@ -1,12 +1,12 @@
 -- What a door needs of an equation of state, and the one of 1996. Definitions only.
 use lib.Ieee.{Float}
-use Rattle.numeric.specs.Constant.{spanWagner}
-use Rattle.numeric.specs.declared.working.Worked.{Worked}
-use Rattle.saturation.specs.Saturation as saturation
-use Rattle.densities.specs.Density as density
-use Rattle.pressure.specs.Pressure as pressure
-use Rattle.state.specs.State as state
-use Rattle.state.specs.declared.state.Stated.{Stated}
+use Rattle.eos_constants.specs.Constant.{spanWagner}
+use Rattle.num_working.specs.declared.Worked.{Worked}
+use Rattle.eos_saturation.specs.Saturation as saturation
+use Rattle.eos_densities.specs.Density as density
+use Rattle.eos_pressure.specs.Pressure as pressure
+use Rattle.eos_state.specs.State as state
+use Rattle.eos_state.specs.declared.Stated.{Stated}
 
 pub record Equation : Type 0 where
   pub critical : Float

@@ -6,10 +6,10 @@ use native.Mathlib.Omega.{arith}
 use lib.ListN.{length, set}
 use lib.Ieee.{Float}
 use borrow.Author.Tests.{lt-ltb, le-ltb}
-use Rattle.answers.specs.declared.answer.State.{State}
-use Rattle.answers.specs.declared.answer.Answer.{Answer}
-use Rattle.report.specs.Report.{ReportIs}
-use Rattle.report.specs.declared.report.Written.{Written}
+use Rattle.door_answers.specs.declared.State.{State}
+use Rattle.door_answers.specs.declared.Answer.{Answer}
+use Rattle.sheet_report.specs.Report.{ReportIs}
+use Rattle.sheet_report.specs.declared.Written.{Written}
 use Rattle.interface.specs.Interface.{laid, told, held, Handed, ReportedIn}
 
 pub laid-over : (l : List Float) (s : State) → 8 ≤ length l

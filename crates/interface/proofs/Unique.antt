@@ -5,7 +5,7 @@ use mathlib.Core.List.{List}
 use contract.Lifetimes.{Lfts}
 use denote.Ref.{RefT, now}
 use lib.Ieee.{Float}
-use Rattle.numeric.proofs.Unique.{by-equation}
+use Rattle.num_working.proofs.Unique.{by-equation}
 use Rattle.interface.proofs.makhroeng_from_pressure.Reads as from-pressure
 use Rattle.interface.proofs.makhroeng_from_density.Reads as from-density
 use Rattle.interface.proofs.makhroeng_report.Reads as report

@@ -6,10 +6,10 @@ use mathlib.Core.List.{List, [], _∷_, _++_}
 use lib.Dec.{ltb}
 use lib.ListN.{length, drop}
 use lib.Ieee.{Float}
-use Rattle.answers.specs.declared.answer.Phase.{Phase}
-use Rattle.answers.specs.declared.answer.State.{State}
-use Rattle.answers.specs.declared.answer.Answer.{Answer}
-use Rattle.writing.specs.Writing.{overlaid}
+use Rattle.door_answers.specs.declared.Phase.{Phase}
+use Rattle.door_answers.specs.declared.State.{State}
+use Rattle.door_answers.specs.declared.Answer.{Answer}
+use Rattle.sheet_write.specs.Writing.{overlaid}
 
 -- vapour, liquid, supercritical: above every refusal number
 abbrev pub phaseNumber : Phase → ℕ

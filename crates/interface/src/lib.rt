@@ -3,20 +3,20 @@
 ghost use mathlib.Core.Path.{_≡_};
 ghost use Prim.Native.Nat.{_≤_};
 ghost use lib.ListN.{length};
-ghost use Rattle.limits.specs.Limits.{document01};
+ghost use Rattle.door_limits.specs.Limits.{document01};
 ghost use Rattle.equation.specs.Equation.{of1996};
-ghost use Rattle.pressure_door.specs.PressureDoor.{pressureDoor};
-ghost use Rattle.density_door.specs.DensityDoor.{densityDoor};
-ghost use Rattle.sheet.specs.Form.{inForm};
-ghost use Rattle.score.specs.Score.{report};
+ghost use Rattle.door_pressure.specs.PressureDoor.{pressureDoor};
+ghost use Rattle.door_density.specs.DensityDoor.{densityDoor};
+ghost use Rattle.sheet_read.specs.Form.{inForm};
+ghost use Rattle.sheet_score.specs.Score.{report};
 ghost use Rattle.interface.specs.Interface.{phaseNumber, laid, Handed, ReportedIn};
-use answers::answer::Answer;
-use answers::answer::Phase;
-use answers::answer::State;
-use density_door::density_door::from_density;
-use pressure_door::pressure_door::from_pressure;
-use report::report::Written;
-use score::score::score;
+use door_answers::Answer;
+use door_answers::Phase;
+use door_answers::State;
+use door_density::from_density;
+use door_pressure::from_pressure;
+use sheet_report::Written;
+use sheet_score::score;
 
 fn phase_number(phase: Phase) -> u32
     ensures { λ r. ⌜ r ≡ phaseNumber phase ⌝ }

@@ -3,9 +3,9 @@ use Prim.Native.Nat.{ℕ, _≤_, _<_}
 use mathlib.Core.Path.{_≡_}
 use mathlib.Core.List.{List}
 use lib.ListN.{length, take}
-use Rattle.writing.specs.Writing.{ascii, Wrote}
-use Rattle.sheet.specs.Form.{inForm}
-use Rattle.score.specs.Score.{report}
+use Rattle.sheet_write.specs.Writing.{ascii, Wrote}
+use Rattle.sheet_read.specs.Form.{inForm}
+use Rattle.sheet_score.specs.Score.{report}
 use Rattle.scorer.specs.declared.arguments.Asked.{Asked}
 use Rattle.scorer.specs.declared.Read.{Read}
 use Rattle.scorer.specs.declared.Scored.{Scored}

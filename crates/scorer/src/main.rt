@@ -10,8 +10,8 @@ use arguments::asked_by;
 use libc::STDERR_FILENO;
 use libc::STDIN_FILENO;
 use libc::STDOUT_FILENO;
-use report::report::Written;
-use score::score::score;
+use sheet_report::Written;
+use sheet_score::score;
 use words::explain;
 use words::help;
 

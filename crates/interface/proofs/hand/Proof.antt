@@ -2,7 +2,7 @@
 use mathlib.Core.Path.{sym, ap, _∙_}
 use borrow.Author.Needs.{needs}
 use denote.Ref.{now}
-use Rattle.answers.specs.declared.answer.Answer.{Answer}
+use Rattle.door_answers.specs.declared.Answer.{Answer}
 use Rattle.interface.specs.Interface.{told, held}
 use Rattle.interface.proofs.Interfaces.{too-few, enough}
 use Rattle.interface.proofs.hand.Statement.{statement}

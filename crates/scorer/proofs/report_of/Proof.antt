@@ -3,7 +3,7 @@ use mathlib.Core.Path.{_≡_}
 use native.Mathlib.Omega.{arith}
 use lib.ListN.{length}
 use denote.Ref.{now}
-use Rattle.writing.proofs.Writings.{inside}
+use Rattle.sheet_write.proofs.Writings.{inside}
 use borrow.Author.Needs.{needs}
 use Rattle.scorer.proofs.report_of.Statement.{statement}
 use Rattle.scorer.proofs.report_of.Tie as tie

@@ -1,2 +1,0 @@
-// What a door answers.
-pub mod answer;

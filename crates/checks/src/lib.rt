@@ -1,2 +1,0 @@
-// The checks on what a door is asked.
-pub mod check;

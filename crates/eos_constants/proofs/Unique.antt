@@ -1,0 +1,12 @@
+-- No second answer meets a public function's promise. Assumes nothing.
+use Rattle.num_working.proofs.Unique.{OneAnswer, by-equation}
+use Rattle.num_roots.specs.declared.root.Exponent.{Exponent}
+use Rattle.eos_constants.specs.declared.Constants.{Constants}
+use Rattle.eos_constants.proofs.span_wagner.Reads as span-wagner
+use Rattle.eos_constants.proofs.worked_as.Reads as worked-as
+
+pub worked-as-once : OneAnswer Exponent (worked-as.Post tt)
+worked-as-once a r s x y = by-equation
+
+pub span-wagner-once : OneAnswer Constants (span-wagner.Post tt)
+span-wagner-once a r s x y = by-equation

@@ -1,0 +1,32 @@
+-- Each part is what its function ensures, and the sum is the formula's, operation by operation. Assumes nothing.
+use Rattle.num_formulas.specs.Formula.{value}
+use Rattle.eos_densities.specs.Density.{liquidSum}
+use borrow.Author.Needs.{needs}
+use Rattle.eos_densities.proofs.liquid_sum.Statement.{statement}
+use Rattle.eos_densities.proofs.liquid_sum.Tie as tie
+
+returns : tie.Need-returns
+unfolding liquidSum value
+returns c =
+    simp (
+      c .before .before .before .before .before .before .before .before .before .before .liquid-coefficients .ensures,
+      c .before .before .before .before .before .before .before .before .to .ensures,
+      c .before .before .before .before .before .before .before .before .before .worked-as .ensures,
+      c .before .before .before .before .before .to2 .ensures,
+      c .before .before .before .before .before .before .worked-as2 .ensures,
+      c .before .before .before .to3 .ensures,
+      c .before .to4 .ensures,
+    )
+
+pub liquid-sum-spec : {M : Type 1} → statement M
+liquid-sum-spec =
+    tie.close
+    (tie.spec
+    (λ c κs. search needs)
+    (λ c κs. search needs)
+    (λ c κs. search needs)
+    (λ c κs. search needs)
+    (λ c κs. search needs)
+    (λ c κs. search needs)
+    (λ c κs. search needs)
+    returns)

@@ -1,0 +1,229 @@
+// The sums of the residual part over all 42 rows in row order: all five, or the first, which a pressure needs. Each
+// row's term is worked once for all that are asked for, in plain f64, and each sum is tested once, at its end. What hangs
+// on the temperature comes with the isotherm.
+ghost use mathlib.Core.Path.{_≡_};
+ghost use mathlib.Core.Bool.{true};
+ghost use Rattle.num_working.specs.Working.{checked};
+ghost use Rattle.num_formulas.specs.Formula.{num, value};
+ghost use Rattle.eos_brackets.specs.Derivative.{Delta, of, five};
+ghost use Rattle.eos_non_analytic.specs.Parts.{critical};
+ghost use Rattle.eos_non_analytic.specs.Figures.{nonAnalyticFigures};
+ghost use Rattle.eos_residual.specs.Term.{point, polynomialBracket, exponentialBracket, gaussianBracket};
+ghost use Rattle.eos_residual.specs.Sum.{onto, total, Meet, polynomialFigures, exponentialFigures, gaussianFigures, residual, allFive, fiveSums};
+use crate::term::Point;
+use crate::term::at_density;
+use eos_brackets::Five;
+use eos_brackets::first;
+use eos_brackets::grow;
+use eos_isotherm::Isotherm;
+use eos_non_analytic::figures::add_figures;
+use eos_non_analytic::figures::add_slope;
+use eos_non_analytic::parts::Critical;
+use eos_non_analytic::parts::at_critical;
+use eos_rows::Exponential;
+use eos_rows::Gaussian;
+use eos_rows::Polynomial;
+use eos_rows::exponential_row;
+use eos_rows::gaussian_row;
+use eos_rows::non_analytics;
+use eos_rows::polynomial_row;
+use num_working::Worked;
+use num_working::checked;
+
+pub enum Sums {
+    Summed(Five),
+    Broken,
+}
+
+fn polynomial_brackets(r: Polynomial) -> Five
+    ensures { λ v. ⌜ v ≡ five (λ k. value (polynomialBracket r k)) ⌝ }
+{
+    let d = r.d as f64;
+    let t = r.q as f64 / 4.0;
+    Five {
+        d,
+        dd: d * (d - 1.0),
+        t,
+        tt: t * (t - 1.0),
+        dt: t * d,
+    }
+}
+
+// z is δᶜ.
+fn exponential_brackets(r: Exponential, z: f64) -> Five
+    ensures { λ v. ⌜ v ≡ five (λ k. value (exponentialBracket (num z) r k)) ⌝ }
+{
+    let d = r.d as f64;
+    let t = r.q as f64 / 4.0;
+    let c = r.c as f64;
+    let g = c * z;
+    Five {
+        d: d - g,
+        dd: (d - g) * (d - 1.0 - g) - c * g,
+        t,
+        tt: t * (t - 1.0),
+        dt: t * (d - g),
+    }
+}
+
+fn gaussian_brackets(r: Gaussian, delta: f64, tau: f64) -> Five
+    ensures { λ v. ⌜ v ≡ five (λ k. value (gaussianBracket delta tau r k)) ⌝ }
+{
+    let d = r.d as f64;
+    let t = r.q as f64 / 4.0;
+    let b = d - 2.0 * r.alpha * delta * (delta - r.epsilon);
+    let s = t - 2.0 * r.beta * tau * (tau - r.gamma);
+    Five {
+        d: b,
+        dd: b * b - d - 2.0 * r.alpha * (delta * delta),
+        t: s,
+        tt: s * s - t - 2.0 * r.beta * (tau * tau),
+        dt: b * s,
+    }
+}
+
+// Rows 1 to 7, from the first.
+fn polynomial_sums(all: bool, iso: Isotherm, p: Point) -> Five
+    requires { ⌜ p ≡ point iso (p .delta) ⌝ }
+    ensures { λ v. ⌜ Meet all v (λ k. total (polynomialFigures iso (p .delta) k)) ⌝ }
+{
+    let ds = p.powers;
+    let ys = iso.powers;
+    let row = polynomial_row(0);
+    let mut s = first(row.n * ds[1] * ys[0], polynomial_brackets(row));
+    let mut i = 1;
+    while i < 7 {
+        let r = polynomial_row(i);
+        let d = r.d as usize;
+        s = grow(all, s, r.n * ds[d] * ys[i], polynomial_brackets(r));
+        i += 1;
+    }
+    s
+}
+
+// Rows 8 to 34 onto the sums so far.
+fn exponential_sums(all: bool, start: Five, iso: Isotherm, p: Point) -> Five
+    requires { ⌜ p ≡ point iso (p .delta) ⌝ }
+    ensures { λ v. ⌜ Meet all v (λ k. onto (checked (of start k)) (exponentialFigures iso (p .delta) k)) ⌝ }
+{
+    let ds = p.powers;
+    let es = p.decays;
+    let ys = iso.powers;
+    let mut s = start;
+    let mut i = 0;
+    while i < 27 {
+        let r = exponential_row(i);
+        let d = r.d as usize;
+        let c = r.c as usize;
+        let term = r.n * ds[d] * ys[7 + i] * es[c - 1];
+        s = grow(all, s, term, exponential_brackets(r, ds[c]));
+        i += 1;
+    }
+    s
+}
+
+// Rows 35 to 39.
+fn gaussian_sums(all: bool, start: Five, iso: Isotherm, p: Point) -> Five
+    requires { ⌜ p ≡ point iso (p .delta) ⌝ }
+    ensures { λ v. ⌜ Meet all v (λ k. onto (checked (of start k)) (gaussianFigures iso (p .delta) k)) ⌝ }
+{
+    let ds = p.powers;
+    let bs = p.bells;
+    let ys = iso.powers;
+    let mut s = start;
+    let mut i = 0;
+    while i < 5 {
+        let r = gaussian_row(i);
+        let d = r.d as usize;
+        let term = r.n * ds[d] * ys[34 + i] * bs[i];
+        s = grow(all, s, term, gaussian_brackets(r, p.delta, iso.tau));
+        i += 1;
+    }
+    s
+}
+
+// Rows 40 to 42, of all five sums.
+fn non_analytic_sums(start: Five, iso: Isotherm, p: Point, c: Critical) -> Five
+    requires { ⌜ p ≡ point iso (p .delta) ⌝ }
+    requires { ⌜ c ≡ critical iso (p .delta) ⌝ }
+    ensures { λ v. ⌜ Meet true v (λ k. onto (checked (of start k)) (nonAnalyticFigures iso (p .delta) k)) ⌝ }
+{
+    let rows = non_analytics();
+    let d = p.delta;
+    let t = iso.tau;
+    let z = p.psis;
+    let s40 = add_figures(start, rows[0], c.near, c.first, z[0], d, t);
+    let s41 = add_figures(s40, rows[1], c.near, c.second, z[0], d, t);
+    add_figures(s41, rows[2], c.near, c.third, z[1], d, t)
+}
+
+// Of the first alone.
+fn non_analytic_slope(start: f64, iso: Isotherm, p: Point, c: Critical) -> f64
+    requires { ⌜ p ≡ point iso (p .delta) ⌝ }
+    requires { ⌜ c ≡ critical iso (p .delta) ⌝ }
+    ensures { λ v. ⌜ checked v ≡ onto (checked start) (nonAnalyticFigures iso (p .delta) Delta) ⌝ }
+{
+    let rows = non_analytics();
+    let d = p.delta;
+    let t = iso.tau;
+    let z = p.psis;
+    let s40 = add_slope(start, rows[0], c.near, c.first, z[0], d, t);
+    let s41 = add_slope(s40, rows[1], c.near, c.second, z[0], d, t);
+    add_slope(s41, rows[2], c.near, c.third, z[1], d, t)
+}
+
+// All 42, in plain f64. Rows 40 to 42 wait longest for their roots, so these are begun before the sums.
+fn sums_at(all: bool, iso: Isotherm, delta: f64) -> Five
+    ensures { λ v. ⌜ Meet all v (λ k. residual iso delta k) ⌝ }
+{
+    let p = at_density(iso, delta);
+    let c = at_critical(iso, delta);
+    let s7 = polynomial_sums(all, iso, p);
+    let s34 = exponential_sums(all, s7, iso, p);
+    let s39 = gaussian_sums(all, s34, iso, p);
+    if all {
+        return non_analytic_sums(s39, iso, p, c);
+    }
+    Five {
+        d: non_analytic_slope(s39.d, iso, p, c),
+        dd: s39.dd,
+        t: s39.t,
+        tt: s39.tt,
+        dt: s39.dt,
+    }
+}
+
+// δφ_δ, which a pressure needs.
+pub fn slope_at(iso: Isotherm, delta: f64) -> Worked
+    ensures { λ v. ⌜ v ≡ residual iso delta Delta ⌝ }
+{
+    checked(sums_at(false, iso, delta).d)
+}
+
+// Each of the five, tested.
+fn all_five(s: Five) -> Sums
+    ensures { λ v. ⌜ v ≡ allFive (λ k. checked (of s k)) ⌝ }
+{
+    let Worked::Number(d) = checked(s.d) else {
+        return Sums::Broken;
+    };
+    let Worked::Number(dd) = checked(s.dd) else {
+        return Sums::Broken;
+    };
+    let Worked::Number(t) = checked(s.t) else {
+        return Sums::Broken;
+    };
+    let Worked::Number(tt) = checked(s.tt) else {
+        return Sums::Broken;
+    };
+    let Worked::Number(dt) = checked(s.dt) else {
+        return Sums::Broken;
+    };
+    Sums::Summed(Five { d, dd, t, tt, dt })
+}
+
+pub fn five_sums(iso: Isotherm, delta: f64) -> Sums
+    ensures { λ v. ⌜ v ≡ fiveSums iso delta ⌝ }
+{
+    all_five(sums_at(true, iso, delta))
+}

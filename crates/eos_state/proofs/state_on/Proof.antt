@@ -1,0 +1,46 @@
+-- Each step is the definition's. Assumes nothing.
+use mathlib.Core.Path.{_≡_, sym, _∙_}
+use Rattle.eos_pressure.specs.Pressure.{deltaOf}
+use Rattle.eos_pressure.proofs.Pressures.{delta-worked}
+use Rattle.eos_state.specs.State.{stateOn}
+use borrow.Author.Needs.{needs}
+use Rattle.eos_state.proofs.state_on.Statement.{statement}
+use Rattle.eos_state.proofs.state_on.Tie as tie
+
+delta-is : (c : tie.After-checked) → deltaOf (c .before .before .before .args .rho) ≡ c .checked .result
+delta-is c = sym (c .checked .ensures ∙ rw (c .before .before .span-wagner .ensures) (delta-worked (c .before .before .before .args .rho)))
+
+returns : tie.Need-returns
+unfolding stateOn
+returns c = simp (stateOn, delta-is (c .before .before) ∙ c .enum-told .given .1)
+
+returns-2 : tie.Need-returns-2
+unfolding stateOn
+returns-2 c =
+    let m = c .before .before in
+    let n = m .before .before in
+    simp (stateOn, delta-is (n .before .before) ∙ n .delta .given .1, sym (m .five-sums .ensures) ∙ c .enum-told2 .given .1)
+
+returns-3 : tie.Need-returns-3
+unfolding stateOn
+returns-3 c =
+    let l = c .before .before in
+    let m = l .before .before in
+    let n = m .before .before in
+    c .state-ideal .ensures ∙ simp (stateOn, delta-is (n .before .before) ∙ n .delta .given .1, sym (m .five-sums .ensures) ∙ l .s .given .1)
+
+pub state-on-spec : {M : Type 1} → statement M
+state-on-spec =
+    tie.close
+    (tie.spec
+    (λ c κs. search needs)
+    (λ c κs. search needs)
+    (λ c. search needs)
+    (λ c. search needs)
+    returns
+    (λ c κs. search needs)
+    (λ c. search needs)
+    (λ c. search needs)
+    returns-2
+    (λ c κs. search needs)
+    returns-3)

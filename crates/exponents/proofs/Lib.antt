@@ -1,2 +1,0 @@
-pub mod Exponents
-pub mod Unique

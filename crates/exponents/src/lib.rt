@@ -1,2 +1,0 @@
-// The exponents of roots (document 01, "Root").
-pub mod exponent;

@@ -1,2 +1,0 @@
-// The ideal-gas part of the Helmholtz energy (004, section 6.1).
-pub mod ideal;

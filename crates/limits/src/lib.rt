@@ -1,2 +1,0 @@
-// The limits that document 01 sets.
-pub mod limits;

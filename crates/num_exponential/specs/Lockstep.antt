@@ -1,0 +1,37 @@
+-- What code inside works twelve exponentials by: 01's series and squarings again, in plain f64 and step by step. No public promise cites it. Definitions only.
+use Prim.Native.Nat.{ℕ, zero, suc}
+use lib.Ieee as Ieee
+use lib.Ieee.{Float, binary64}
+use Rattle.num_working.specs.Number.{whole}
+use Rattle.num_exponential.specs.declared.decay.Twelve.{Twelve}
+
+-- "s = 1 − (y/k)·s", with q·h for y/k
+unfoldable pub turn : Float → Float → Float → Float
+turn h q s = Ieee.sub binary64 (whole 1) (Ieee.mul binary64 (Ieee.mul binary64 q h) s)
+
+-- "for k = 14 down to 1, s = 1 − (y/k)·s"
+unfoldable pub chain : Float → ℕ → Float → Float
+chain y zero s = s
+chain y (suc k) s = chain y k (Ieee.sub binary64 (whole 1) (Ieee.mul binary64 (Ieee.div binary64 y (whole (suc k))) s))
+
+-- "then s = s·s ten times"
+unfoldable pub powers : ℕ → Float → Float
+powers zero s = s
+powers (suc n) s = powers n (Ieee.mul binary64 s s)
+
+-- twelve pairs at once
+unfoldable pub pairs : (Float → Float → Float) → Twelve → Twelve → Twelve
+pairs f x y = record {
+  a = f (x .a) (y .a);
+  b = f (x .b) (y .b);
+  c = f (x .c) (y .c);
+  d = f (x .d) (y .d);
+  e = f (x .e) (y .e);
+  f = f (x .f) (y .f);
+  g = f (x .g) (y .g);
+  h = f (x .h) (y .h);
+  i = f (x .i) (y .i);
+  j = f (x .j) (y .j);
+  k = f (x .k) (y .k);
+  l = f (x .l) (y .l);
+}

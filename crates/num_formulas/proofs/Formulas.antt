@@ -1,0 +1,213 @@
+-- A formula worked in plain f64 and tested once at its end is the formula worked with a test of every number. Assumes nothing.
+use Prim.Native.Nat.{ℕ, zero, suc, _*_}
+use mathlib.Core.Path.{_≡_, refl, sym, ap, _∙_}
+use mathlib.Core.Bool.{Bool, true, false, not, cond}
+use lib.Dec.{T, ltb}
+use lib.IntN.{ℤ}
+use lib.Ieee as Ieee
+use lib.Ieee.{Float, nan, inf, fin, binary64}
+use lib.Ieee.Scale.{finite}
+use Rattle.num_working.specs.Number.{whole}
+use Rattle.num_working.specs.Working.{checked, over, plain, then, pick, both, _+ᵂ_, _-ᵂ_, _*ᵂ_, _/ᵂ_}
+use Rattle.num_powers.specs.Power.{_^ᵂ_}
+use Rattle.num_exponential.specs.Exponential.{exponential, falling, squared, series}
+use Rattle.num_roots.specs.Root as Root
+use Rattle.num_roots.specs.Root.{rootBits, rootOf, searched}
+use Rattle.num_formulas.specs.Formula.{Formula, num, _⊕_, _⊖_, _⊗_, _⊘_, _^^_, minus, size, e^, root, absolute, value, work}
+use Rattle.num_working.specs.declared.Worked.{Worked}
+use Rattle.num_working.specs.declared.Worked.the-variants.{Number, Failed}
+use Rattle.num_halving.specs.declared.Crossing.{Crossing}
+use Rattle.num_halving.specs.declared.Crossing.the-variants.{At, Nowhere, Broke}
+use Rattle.num_roots.specs.declared.root.Exponent.{Exponent}
+use Rattle.num_working.proofs.Workings.{checked-add, checked-sub, checked-mul, checked-div}
+use Rattle.num_powers.proofs.Powers.{checked-power}
+use Rattle.num_laws.proofs.Orders.{bits-finite}
+use Rattle.num_roots.proofs.Roots.{crossing-below}
+
+-- ---- what was worked is finite
+abbrev pub sound : Worked → Bool
+sound (Number x) = finite x
+sound Failed = true
+
+checked-sound : (x : Float) → T (sound (checked x))
+checked-sound nan = tt
+checked-sound (inf s) = tt
+checked-sound (fin s m e) = tt
+
+pub both-sound : (op : Float → Float → Float) (v w : Worked) → T (sound (both op v w))
+both-sound op Failed w = tt
+both-sound op (Number x) Failed = tt
+both-sound op (Number x) (Number y) = checked-sound (op x y)
+
+pick-sound : (b : Bool) (v w : Worked) → T (sound v) → T (sound w) → T (sound (pick b v w))
+pick-sound true v w p q = p
+pick-sound false v w p q = q
+
+squared-sound : (n : ℕ) (s : Worked) → T (sound (squared (suc n) s))
+unfolding squared _*ᵂ_
+squared-sound zero s = both-sound (Ieee.mul binary64) s s
+squared-sound (suc n) s = squared-sound n (s *ᵂ s)
+
+falling-sound : (x : Float) → T (sound (falling x))
+unfolding falling
+falling-sound x = squared-sound 9 (series (checked (Ieee.neg x) /ᵂ checked (whole 1024)) 14 (checked (whole 1)))
+
+pub exponential-sound : (x : Float) → T (sound (exponential x))
+unfolding exponential whole Ieee.ofInt _/ᵂ_
+exponential-sound x =
+    pick-sound (finite x) _ Failed
+    (pick-sound (Ieee.lt x (Ieee.neg (whole 700))) _ _ tt
+    (pick-sound (Ieee.lt (whole 700) x) _ _ tt
+    (pick-sound (Ieee.le x (whole 0)) _ _ (falling-sound x) (both-sound (Ieee.div binary64) (checked (whole 1)) (falling (Ieee.neg x)))))) tt
+
+found-sound : (k : ℕ) (t : Float) (c : Crossing) → rootBits k t ≡ c → T (sound (rootOf c))
+found-sound k t (At b) e = bits-finite b (crossing-below k t b e)
+found-sound k t Nowhere e = tt
+found-sound k t Broke e = tt
+
+searched-sound : (m k : ℕ) (x : Float) → T (sound (searched m k x))
+unfolding searched
+searched-sound m k x = go (checked x ^ᵂ m)
+  where
+    go : (w : Worked) → T (sound (then w (λ t. rootOf (rootBits k t))))
+    go Failed = tt
+    go (Number t) = found-sound k t (rootBits k t) refl
+
+pub root-sound : (e : Exponent) (x : Float) → T (sound (Root.root e x))
+unfolding Root.root whole Ieee.ofInt
+root-sound e x =
+    pick-sound (ltb (e .m) (2 * e .k)) _ Failed
+    (pick-sound (finite x) _ Failed
+    (pick-sound (Ieee.lt x (whole 0)) _ _ tt
+    (pick-sound (Ieee.eq x (whole 0)) _ _ tt (searched-sound (e .m) (e .k) x))) tt) tt
+
+-- ---- an operation of one number
+pub checked-plain : (w : Worked) → T (sound w) → checked (plain w) ≡ w
+checked-plain Failed s = refl
+checked-plain (Number nan) s = absurd s
+checked-plain (Number (inf b)) s = absurd s
+checked-plain (Number (fin b m e)) s = refl
+
+checked-neg : (x : Float) → checked (Ieee.neg x) ≡ then (checked x) (λ y. Number (Ieee.neg y))
+unfolding Ieee.neg
+checked-neg nan = refl
+checked-neg (inf s) = refl
+checked-neg (fin s m e) = refl
+
+either-finite : (b s : Bool) (m : ℕ) (e : ℤ) → checked (cond b (fin (not s) m e) (fin s m e)) ≡ Number (cond b (fin (not s) m e) (fin s m e))
+either-finite true s m e = refl
+either-finite false s m e = refl
+
+checked-absolute : (x : Float) → checked (absolute x) ≡ then (checked x) (λ y. Number (absolute y))
+unfolding absolute Ieee.lt Ieee.neg whole Ieee.ofInt
+checked-absolute nan = refl
+checked-absolute (inf true) = refl
+checked-absolute (inf false) = refl
+checked-absolute (fin s m e) = either-finite (Ieee.lt (fin s m e) (whole 0)) s m e
+
+-- an operation that refuses what is not finite, and whose answers are finite
+checked-refusing : (f : Float → Worked) → ((x : Float) → T (sound (f x))) → f nan ≡ Failed → ((s : Bool) → f (inf s) ≡ Failed) → (x : Float) → checked (plain (f x)) ≡ then (checked x) f
+checked-refusing f s n i nan = ap (λ (w : Worked). checked (plain w)) n
+checked-refusing f s n i (inf b) = ap (λ (w : Worked). checked (plain w)) (i b)
+checked-refusing f s n i (fin b m e) = checked-plain (f (fin b m e)) (s (fin b m e))
+
+checked-exponential : (x : Float) → checked (plain (exponential x)) ≡ then (checked x) exponential
+unfolding exponential
+checked-exponential = checked-refusing exponential exponential-sound refl (λ s. refl)
+
+either-failed : (b : Bool) → pick b Failed Failed ≡ Failed
+either-failed true = refl
+either-failed false = refl
+
+refused : (e : Exponent) → Root.root e nan ≡ Failed
+unfolding Root.root
+refused e = either-failed (ltb (e .m) (2 * e .k))
+
+refused-infinite : (e : Exponent) (s : Bool) → Root.root e (inf s) ≡ Failed
+unfolding Root.root
+refused-infinite e s = either-failed (ltb (e .m) (2 * e .k))
+
+checked-root : (e : Exponent) (x : Float) → checked (plain (Root.root e x)) ≡ then (checked x) (Root.root e)
+checked-root e = checked-refusing (Root.root e) (root-sound e) (refused e) (refused-infinite e)
+
+-- ---- a quotient
+over-failed : (w : Worked) → Failed ≡ w /ᵂ Failed
+unfolding _/ᵂ_
+over-failed Failed = refl
+over-failed (Number x) = refl
+
+by-nan : (x : Float) → checked (Ieee.div binary64 x nan) ≡ Failed
+unfolding Ieee.div
+by-nan nan = refl
+by-nan (inf s) = refl
+by-nan (fin s m e) = refl
+
+checked-over : (x y : Float) → checked (over x y) ≡ checked x /ᵂ checked y
+checked-over x nan = by-nan x ∙ over-failed (checked x)
+checked-over x (inf s) = by-nan x ∙ over-failed (checked x)
+checked-over x (fin s m e) = checked-div x (fin s m e) tt
+
+-- ---- so one test, of the last number, stands for all
+pub once : (e : Formula) → checked (value e) ≡ work e
+unfolding value work
+once (num x) = refl
+once (a ⊕ b) = checked-add (value a) (value b) ∙ ap (λ (w : Worked). w +ᵂ checked (value b)) (once a) ∙ ap (λ (w : Worked). work a +ᵂ w) (once b)
+once (a ⊖ b) = checked-sub (value a) (value b) ∙ ap (λ (w : Worked). w -ᵂ checked (value b)) (once a) ∙ ap (λ (w : Worked). work a -ᵂ w) (once b)
+once (a ⊗ b) = checked-mul (value a) (value b) ∙ ap (λ (w : Worked). w *ᵂ checked (value b)) (once a) ∙ ap (λ (w : Worked). work a *ᵂ w) (once b)
+once (a ⊘ b) = checked-over (value a) (value b) ∙ ap (λ (w : Worked). w /ᵂ checked (value b)) (once a) ∙ ap (λ (w : Worked). work a /ᵂ w) (once b)
+once (a ^^ n) = checked-power (value a) n ∙ ap (λ (w : Worked). w ^ᵂ n) (once a)
+once (minus a) = checked-neg (value a) ∙ ap (λ (w : Worked). then w (λ x. Number (Ieee.neg x))) (once a)
+once (size a) = checked-absolute (value a) ∙ ap (λ (w : Worked). then w (λ x. Number (absolute x))) (once a)
+once (e^ a) = checked-exponential (value a) ∙ ap (λ (w : Worked). then w exponential) (once a)
+once (root e a) = checked-root e (value a) ∙ ap (λ (w : Worked). then w (Root.root e)) (once a)
+
+-- an exponential or a root of a formula, as code calls it
+pub once-e^ : (a : Formula) → exponential (value a) ≡ work (e^ a)
+unfolding value
+once-e^ a = sym (checked-plain (exponential (value a)) (exponential-sound (value a))) ∙ once (e^ a)
+
+pub once-root : (e : Exponent) (a : Formula) → Root.root e (value a) ≡ work (root e a)
+unfolding value
+once-root e a = sym (checked-plain (Root.root e (value a)) (root-sound e (value a))) ∙ once (root e a)
+
+-- ---- what a formula is worked to is finite
+pub then-sound : (w : Worked) (f : Float → Worked) → ((x : Float) → T (sound (f x))) → T (sound (then w f))
+then-sound Failed f h = tt
+then-sound (Number x) f h = h x
+
+power-sound : (w : Worked) (n : ℕ) → T (sound w) → T (sound (w ^ᵂ n))
+unfolding _^ᵂ_ _*ᵂ_
+power-sound w zero s = checked-sound (whole 1)
+power-sound w (suc zero) s = s
+power-sound w (suc (suc n)) s = both-sound (Ieee.mul binary64) (w ^ᵂ suc n) w
+
+neg-sound : (w : Worked) → T (sound w) → T (sound (then w (λ x. Number (Ieee.neg x))))
+unfolding Ieee.neg
+neg-sound Failed s = tt
+neg-sound (Number nan) s = s
+neg-sound (Number (inf b)) s = s
+neg-sound (Number (fin b m e)) s = tt
+
+either-finite-sound : (b s : Bool) (m : ℕ) (e : ℤ) → T (finite (cond b (fin (not s) m e) (fin s m e)))
+either-finite-sound true s m e = tt
+either-finite-sound false s m e = tt
+
+size-sound : (w : Worked) → T (sound w) → T (sound (then w (λ x. Number (absolute x))))
+unfolding absolute Ieee.neg
+size-sound Failed s = tt
+size-sound (Number nan) s = absurd s
+size-sound (Number (inf b)) s = absurd s
+size-sound (Number (fin b m e)) s = either-finite-sound (Ieee.lt (fin b m e) (whole 0)) b m e
+
+pub work-sound : (f : Formula) → T (sound (work f))
+unfolding work _+ᵂ_ _-ᵂ_ _*ᵂ_ _/ᵂ_
+work-sound (num x) = checked-sound x
+work-sound (a ⊕ b) = both-sound (Ieee.add binary64) (work a) (work b)
+work-sound (a ⊖ b) = both-sound (Ieee.sub binary64) (work a) (work b)
+work-sound (a ⊗ b) = both-sound (Ieee.mul binary64) (work a) (work b)
+work-sound (a ⊘ b) = both-sound (Ieee.div binary64) (work a) (work b)
+work-sound (a ^^ n) = power-sound (work a) n (work-sound a)
+work-sound (minus a) = neg-sound (work a) (work-sound a)
+work-sound (size a) = size-sound (work a) (work-sound a)
+work-sound (e^ a) = then-sound (work a) exponential exponential-sound
+work-sound (root e a) = then-sound (work a) (Root.root e) (root-sound e)

@@ -1,0 +1,35 @@
+-- Document 01, "Readings on each side of a boundary": the starred ones of the numerics, as one table. Definitions only.
+use mathlib.Core.List.{List, [], _∷_}
+use lib.Ieee as Ieee
+use Rattle.num_working.specs.Number.{whole}
+use Rattle.num_powers.specs.Power.{power}
+use Rattle.num_exponential.specs.Exponential.{exponential}
+use Rattle.num_roots.specs.Root.{root}
+use Rattle.num_formulas.specs.Formula.{num, size, work}
+use Rattle.num_working.specs.declared.Worked.{Worked}
+use Rattle.num_working.specs.declared.Worked.the-variants.{Number}
+use Rattle.num_roots.specs.declared.root.Exponent.{Exponent}
+
+pub record Starred : Type 0 where
+  pub worked : Worked
+  pub reads : Worked
+
+infix 4 _gives_
+abbrev pub _gives_ : Worked → Worked → Starred
+w gives r = record { worked = w; reads = r }
+
+abbrev square-root : Exponent
+square-root = record { m = 1; k = 2 }
+
+unfoldable pub readings : List Starred
+readings =
+    (exponential (whole 0) gives Number (whole 1))
+    ∷ (exponential (Ieee.neg (whole 701)) gives Number (whole 0))
+    ∷ (Number (power (whole 2) 10) gives Number (whole 1024))
+    ∷ (root square-root (whole 0) gives Number (whole 0))
+    ∷ (root square-root (whole 1) gives Number (whole 1))
+    ∷ []
+
+-- |−1| and |1|, which no reading of 01 names
+unfoldable pub sizes : List Starred
+sizes = (work (size (num (Ieee.neg (whole 1)))) gives Number (whole 1)) ∷ (work (size (num (whole 1))) gives Number (whole 1)) ∷ []

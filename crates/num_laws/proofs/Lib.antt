@@ -1,0 +1,4 @@
+pub mod Orders
+pub mod Halves
+pub mod Units
+pub mod Parts

@@ -1,0 +1,44 @@
+-- Document 01: "Root x^(m/k), for m/k below 2." Definitions only.
+use Prim.Native.Nat.{ℕ, _*_}
+use lib.Dec.{ltb}
+use lib.Ieee as Ieee
+use lib.Ieee.{Float, binary64}
+use lib.Ieee.Scale.{finite}
+use Rattle.num_working.specs.Number.{whole}
+use Rattle.num_working.specs.Working.{checked, then, pick}
+use Rattle.num_powers.specs.Power.{_^ᵂ_}
+use Rattle.num_halving.specs.Halving.{Figure, halve}
+use Rattle.num_working.specs.declared.Worked.{Worked}
+use Rattle.num_working.specs.declared.Worked.the-variants.{Number, Failed}
+use Rattle.num_halving.specs.declared.Crossing.{Crossing}
+use Rattle.num_halving.specs.declared.Crossing.the-variants.{At, Nowhere, Broke}
+use Rattle.num_roots.specs.declared.root.Exponent.{Exponent}
+
+-- the k-th whole power of the float with the bits b
+unfoldable pub powerAt : ℕ → Figure
+powerAt k b = checked (Ieee.ofBits binary64 b) ^ᵂ k
+
+-- "halve over the floats' bits taken as whole numbers, from the bits of 0 to those of 2²⁰, looking for the place where the k-th whole power passes" t
+unfoldable pub rootBits : ℕ → Float → Crossing
+rootBits k t = halve (powerAt k) t (Ieee.toBits binary64 (whole 0)) (Ieee.toBits binary64 (whole 1048576))
+
+-- "In a root, no crossing counts as 7."
+abbrev pub rootOf : Crossing → Worked
+rootOf (At b) = Number (Ieee.ofBits binary64 b)
+rootOf Nowhere = Failed
+rootOf Broke = Failed
+
+-- "looking for the place where the k-th whole power passes the m-th whole power of x"
+unfoldable pub searched : ℕ → ℕ → Float → Worked
+searched m k x = then (checked x ^ᵂ m) (λ t. rootOf (rootBits k t))
+
+-- "x negative or not finite: refused. x = 0: 0. Otherwise halve". An m/k that is not below 2 is refused too.
+unfoldable pub root : Exponent → Float → Worked
+root e x =
+    let rest = searched (e .m) (e .k) x in
+    pick (ltb (e .m) (2 * e .k))
+    (pick (finite x)
+    (pick (Ieee.lt x (whole 0)) Failed
+    (pick (Ieee.eq x (whole 0)) (Number (whole 0)) rest))
+    Failed)
+    Failed

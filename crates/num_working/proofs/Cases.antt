@@ -1,0 +1,16 @@
+-- What holds of both cases of a choice holds of the choice: of `cond`, and of `orElse`. Assumes nothing.
+use mathlib.Core.Path.{_≡_, refl}
+use mathlib.Core.Bool.{Bool, true, false, cond}
+use lib.Ieee.{Float}
+use Rattle.num_working.specs.Working.{orElse}
+use Rattle.num_working.specs.declared.Worked.{Worked}
+use Rattle.num_working.specs.declared.Worked.the-variants.{Number, Failed}
+
+module _ {A : Type 0} (P : A → Type 0) where
+  pub by-test : (b : Bool) (x y : A) → (b ≡ true → P x) → (b ≡ false → P y) → P (cond b x y)
+  by-test true x y f g = f refl
+  by-test false x y f g = g refl
+
+  pub by-working : (w : Worked) (z : A) (f : Float → A) → (w ≡ Failed → P z) → ((x : Float) → w ≡ Number x → P (f x)) → P (orElse w z f)
+  by-working Failed z f g h = g refl
+  by-working (Number x) z f g h = h x refl

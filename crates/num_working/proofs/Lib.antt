@@ -1,0 +1,4 @@
+pub mod Workings
+pub mod Numbers
+pub mod Unique
+pub mod Cases

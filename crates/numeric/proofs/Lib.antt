@@ -1,3 +1,0 @@
-pub mod Workings
-pub mod Numbers
-pub mod Unique

@@ -1,3 +1,0 @@
-pub mod Number
-pub mod Constant
-pub mod Working

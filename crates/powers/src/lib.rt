@@ -1,2 +1,0 @@
-// Whole powers (document 01, "How a number is worked").
-pub mod power;

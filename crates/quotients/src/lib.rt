@@ -1,1 +1,0 @@
-// Quotients by small numbers as products, bit for bit: laws, no code.

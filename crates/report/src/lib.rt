@@ -1,2 +1,0 @@
-// The report of a sheet, written into a lent output.
-pub mod report;

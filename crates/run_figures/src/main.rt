@@ -1,0 +1,259 @@
+// The saturation figures at temperatures, I₁ and I₂ of the ideal part at values of τ, and pressures and states; their
+// bits were worked elsewhere (crosscheck/equation.py). One figure a line.
+use eos_brackets::Five;
+use eos_densities::liquid_density;
+use eos_densities::vapour_density;
+use eos_ideal::ideal_part;
+use eos_isotherm::at_temperature;
+use eos_non_analytic::figures::add_figures;
+use eos_non_analytic::parts::at_critical;
+use eos_pressure::pressure_at;
+use eos_residual::term::at_density;
+use eos_rows::non_analytics;
+use eos_saturation::vapour_pressure;
+use eos_state::State;
+use eos_state::Stated;
+use eos_state::state_at;
+use num_working::Worked;
+use num_working::checked;
+use run_print::bits::figure;
+use run_print::bits::say;
+use run_print::bits::show;
+use run_print::bits::tell;
+
+// The start of a line of a temperature and a density.
+fn at(name: &[u8], t: f64, rho: f64) {
+    say(name);
+    show(t);
+    also(rho);
+}
+
+fn pressure(t: f64, rho: f64) {
+    at(b"pressure at ", t, rho);
+    tell(pressure_at(t, rho));
+}
+
+// The eight numbers, or that there is no state.
+fn state(t: f64, rho: f64) {
+    pressure(t, rho);
+    at(b"state at ", t, rho);
+    say(b" is");
+    match state_at(t, rho) {
+        Stated::Known(s) => eight(s),
+        Stated::Unknown => say(b" refused"),
+    }
+    say(b"\n");
+}
+
+fn also(x: f64) {
+    say(b" ");
+    show(x);
+}
+
+fn eight(s: State) {
+    also(s.t);
+    also(s.p);
+    also(s.rho);
+    also(s.u);
+    also(s.h);
+    also(s.cv);
+    also(s.cp);
+    also(s.w);
+}
+
+fn saturated(t: f64) {
+    figure(b"vapour pressure at ", t, vapour_pressure(t));
+    figure(b"liquid density at ", t, liquid_density(t));
+    figure(b"vapour density at ", t, vapour_density(t));
+}
+
+fn ideal_gas(tau: f64) {
+    let i = ideal_part(tau);
+    let first = i.first;
+    let second = i.second;
+    figure(b"I1 at ", tau, first);
+    figure(b"I2 at ", tau, second);
+}
+
+fn each(ideal: bool, xs: &[f64]) {
+    let mut i = 0;
+    while i < xs.len() {
+        if ideal {
+            ideal_gas(xs[i]);
+        } else {
+            saturated(xs[i]);
+        }
+        i += 1;
+    }
+}
+
+// From the triple point to the critical one, and where a pressure is 0, a density is not above 0, or a working fails.
+fn saturations() {
+    each(
+        false,
+        &[
+            216.592,
+            220.0,
+            233.15,
+            250.0,
+            273.15,
+            280.0,
+            295.5,
+            300.0,
+            303.5,
+            304.1,
+            304.12,
+            304.12819999999994,
+            304.1282,
+            250.29,
+            267.1,
+            217.64,
+            298.53,
+            271.99,
+            305.0,
+            50.0,
+            20.0,
+            3.1,
+            2.9,
+            1.0,
+            0.4,
+            1e-300,
+            0.0,
+            -0.0,
+            -5.0,
+            -1000.0,
+            1e300,
+            1.0 / 0.0,
+            -1.0 / 0.0,
+            0.0 / 0.0,
+        ],
+    );
+}
+
+// From 524 K down to the triple point, and where an exponential is 0 or refused, a divisor is 0 or not finite, or one of
+// the two fails alone.
+fn ideal_gases() {
+    each(
+        true,
+        &[
+            0.58,
+            0.8,
+            1.0,
+            1.2,
+            1.4,
+            1.4041,
+            200.0,
+            230.0,
+            1e160,
+            1e200,
+            1e300,
+            3e-17,
+            1e-17,
+            1e-154,
+            1e-160,
+            1e-200,
+            0.0,
+            -0.0,
+            -1.0,
+            -13.0,
+            -20.0,
+            -25.7,
+            -25.85,
+            -30.0,
+            1.0 / 0.0,
+            -1.0 / 0.0,
+            0.0 / 0.0,
+        ],
+    );
+}
+
+fn of_a_row(x: f64) {
+    say(b"rows 40 to 42");
+    tell(checked(x));
+}
+
+fn three(a: f64, b: f64, c: f64) {
+    of_a_row(a);
+    of_a_row(b);
+    of_a_row(c);
+}
+
+// The figures of the non-analytic rows by themselves, which are small in the sums: δφ_δ of each row, δ²φ_δδ, and so on.
+// Added to −0 a number is itself.
+fn sharp(t: f64, rho: f64) {
+    let iso = at_temperature(t);
+    let tau = iso.tau;
+    let delta = rho / 467.6;
+    let rows = non_analytics();
+    let c = at_critical(iso, delta);
+    let none = Five {
+        d: -0.0,
+        dd: -0.0,
+        t: -0.0,
+        tt: -0.0,
+        dt: -0.0,
+    };
+    let psis = at_density(iso, delta).psis;
+    let r40 = add_figures(none, rows[0], c.near, c.first, psis[0], delta, tau);
+    let r41 = add_figures(none, rows[1], c.near, c.second, psis[0], delta, tau);
+    let r42 = add_figures(none, rows[2], c.near, c.third, psis[1], delta, tau);
+    three(r40.d, r41.d, r42.d);
+    three(r40.dd, r41.dd, r42.dd);
+    three(r40.t, r41.t, r42.t);
+    three(r40.tt, r41.tt, r42.tt);
+    three(r40.dt, r41.dt, r42.dt);
+}
+
+// Vapour, liquid, supercritical, near the critical point, at δ = 1, and at the corners of the ranges.
+fn states() {
+    state(216.592, 0.1);
+    state(216.592, 1178.46);
+    state(250.0, 1058.86);
+    state(250.0, 46.644);
+    state(273.15, 500.0);
+    state(300.0, 128.4);
+    state(300.0, 1300.0);
+    state(303.9, 420.3);
+    state(304.1282, 467.5);
+    state(304.2, 467.6);
+    state(305.0, 467.6);
+    state(306.5, 530.25);
+    state(330.0, 701.2);
+    state(400.0, 72.804);
+    state(450.0, 467.6);
+    state(523.0, 0.05);
+    state(523.0, 1400.0);
+    state(327.6, 596.9);
+    state(321.9, 282.0);
+    state(316.0, 725.1);
+    state(305.5, 668.7);
+    state(304.11, 490.7);
+    state(311.1, 522.1);
+}
+
+// δ = τ = 1, where the working fails, and densities and temperatures that are no state's: some are answered all the same,
+// since what is a state is not for the equation to say.
+fn no_states() {
+    state(304.1282, 467.6);
+    state(300.0, 0.0);
+    state(300.0, -1.0);
+    state(0.0, 100.0);
+    state(-300.0, 100.0);
+    state(1e-300, 100.0);
+    state(300.0, 1e300);
+    state(300.0, 1.0 / 0.0);
+    state(1.0 / 0.0, 100.0);
+    state(0.0 / 0.0, 100.0);
+    state(300.0, 0.0 / 0.0);
+}
+
+fn main() {
+    saturations();
+    ideal_gases();
+    states();
+    no_states();
+    sharp(290.1, 567.9);
+    sharp(295.4, 588.8);
+    sharp(312.2, 580.6);
+    sharp(290.4, 404.2);
+}

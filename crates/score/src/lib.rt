@@ -1,2 +1,0 @@
-// From a sheet's text to its report.
-pub mod score;

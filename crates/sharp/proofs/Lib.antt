@@ -1,2 +1,0 @@
-pub mod Sharps
-pub mod Unique

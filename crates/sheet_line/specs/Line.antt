@@ -1,0 +1,50 @@
+-- What a cylinder's line says (document 01, "The sheet"). Definitions only.
+use Prim.Native.Nat.{ℕ}
+use mathlib.Core.Path.{_≡_}
+use mathlib.Core.List.{List}
+use mathlib.Core.Option.{Option, none}
+use lib.Ieee.{Float, binary64, div}
+use Rattle.num_working.specs.Number.{whole}
+use Rattle.sheet_text.specs.Parse.{Parser, _>>=_, give}
+use Rattle.sheet_text.specs.Place.{Leaves}
+use Rattle.sheet_text.specs.declared.Field.{Field}
+use Rattle.sheet_line.specs.Cylinder.{cylinder}
+use Rattle.sheet_line.specs.declared.cylinder.Kind.{Kind}
+use Rattle.sheet_line.specs.declared.cylinder.Cylinder.{Cylinder}
+use Rattle.sheet_line.specs.declared.line.Temperature.{Temperature}
+use Rattle.sheet_line.specs.declared.line.Reading.{Reading}
+use Rattle.sheet_line.specs.declared.line.Line.{Line}
+use Rattle.sheet_line.specs.declared.line.LineAt.{LineAt}
+
+-- "one division each"
+abbrev pub divided : ℕ → ℕ → Float
+divided n d = div binary64 (whole n) (whole d)
+
+-- "Temperature is the number over 10000"
+abbrev pub temperatureOf : Field → Temperature
+temperatureOf Field.Blank = Temperature.Blank
+temperatureOf (Field.Number n) = Temperature.Kelvin (divided n 10000)
+
+-- "A reading is blank, a pressure, or a density, and keeps its figure with its kind"; "density the number over 1000"
+abbrev pub readingOf : Kind → Field → Reading
+readingOf k Field.Blank = Reading.Blank
+readingOf Kind.Pressure (Field.Number n) = Reading.Pressure (whole n)
+readingOf Kind.Density (Field.Number n) = Reading.Density (divided n 1000)
+
+abbrev pub lineOf : Cylinder → Line
+lineOf c = record { number = c .number; temperature = temperatureOf (c .temperature); reading = readingOf (c .kind) (c .value); volume = c .volume }
+
+-- where a sheet has no line
+abbrev pub blankLine : Line
+blankLine = record { number = Field.Blank; temperature = Temperature.Blank; reading = Reading.Blank; volume = Field.Blank }
+
+-- the line of the cylinder at the front of a text
+unfoldable pub line : Parser Line
+line = do
+  c ← cylinder
+  give (lineOf c)
+
+-- what the code's answer says of a text s
+abbrev pub LineIs : List ℕ → ℕ → Option (Line × List ℕ) → LineAt → Type 0
+LineIs s at p LineAt.Bad = p ≡ none
+LineIs s at p (LineAt.Found l n) = Leaves s at p l n

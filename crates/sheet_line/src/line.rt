@@ -1,0 +1,89 @@
+// What a cylinder's line says: its figures, in K, Pa and kg/m³ (document 01, "The sheet"). A blank has no figure to misread.
+ghost use mathlib.Core.Path.{_≡_};
+ghost use lib.ListN.{drop};
+ghost use Rattle.sheet_text.specs.Field.{Small};
+ghost use Rattle.sheet_line.specs.Cylinder.{AllSmall};
+ghost use Rattle.sheet_line.specs.Line.{temperatureOf, readingOf, lineOf, line, LineIs};
+use crate::cylinder::Cylinder;
+use crate::cylinder::CylinderAt;
+use crate::cylinder::Kind;
+use crate::cylinder::read_cylinder;
+use sheet_text::Field;
+
+pub enum Temperature {
+    Blank,
+    Kelvin(f64),
+}
+
+// With its kind.
+pub enum Reading {
+    Blank,
+    Pressure(f64),
+    Density(f64),
+}
+
+pub struct Line {
+    pub number: Field,
+    pub temperature: Temperature,
+    pub reading: Reading,
+    pub volume: Field,
+}
+
+// A line and the place after it.
+pub enum LineAt {
+    Bad,
+    Found(Line, usize),
+}
+
+// From 0.1 mK.
+fn temperature_of(f: Field) -> Temperature
+    requires { ⌜ Small f ⌝ }
+    ensures { λ r. ⌜ r ≡ temperatureOf f ⌝ }
+{
+    match f {
+        Field::Blank => Temperature::Blank,
+        Field::Number(n) => Temperature::Kelvin(n as f64 / 10000.0),
+    }
+}
+
+// From Pa, or g/m³.
+fn reading_of(k: Kind, f: Field) -> Reading
+    requires { ⌜ Small f ⌝ }
+    ensures { λ r. ⌜ r ≡ readingOf k f ⌝ }
+{
+    match f {
+        Field::Blank => Reading::Blank,
+        Field::Number(n) => match k {
+            Kind::Pressure => Reading::Pressure(n as f64),
+            Kind::Density => Reading::Density(n as f64 / 1000.0),
+        },
+    }
+}
+
+fn line_of(c: Cylinder) -> Line
+    requires { ⌜ AllSmall c ⌝ }
+    ensures { λ r. ⌜ r ≡ lineOf c ⌝ }
+{
+    let number = c.number;
+    let temperature = c.temperature;
+    let kind = c.kind;
+    let value = c.value;
+    let volume = c.volume;
+    let kelvin = temperature_of(temperature);
+    let reading = reading_of(kind, value);
+    Line {
+        number: number,
+        temperature: kelvin,
+        reading: reading,
+        volume: volume,
+    }
+}
+
+pub fn read_line(s: &[u8], at: usize) -> LineAt
+    ensures { λ r. ⌜ LineIs (now (s .entry)) at (line (drop at (now (s .entry)))) r ⌝ }
+{
+    let CylinderAt::Found(c, next) = read_cylinder(s, at) else {
+        return LineAt::Bad;
+    };
+    LineAt::Found(line_of(c), next)
+}

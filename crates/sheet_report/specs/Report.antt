@@ -1,0 +1,51 @@
+-- Document 01, "The sheet": the report as bytes. "Lines end in LF, one space between parts". Definitions only.
+use Prim.Native.Nat.{ℕ, _+_, _≤_, _<_}
+use mathlib.Core.Path.{_≡_}
+use mathlib.Core.List.{List, [], _∷_, _++_}
+use lib.ListN.{length, take}
+use Rattle.sheet_text.specs.Decimal.{decimal}
+use Rattle.sheet_write.specs.Writing.{ascii, Wrote}
+use Rattle.sheet_report.specs.declared.Weighed.{Weighed}
+use Rattle.sheet_report.specs.declared.Mark.{Mark}
+use Rattle.sheet_report.specs.declared.Marks.{Marks}
+use Rattle.sheet_report.specs.declared.Ending.{Ending}
+use Rattle.sheet_report.specs.declared.Written.{Written}
+
+-- "`M mg`" or "`R no`", and the line's end
+unfoldable pub weighedBytes : Weighed → List ℕ
+weighedBytes (Weighed.Mass mg) = ascii "M " ++ decimal mg ++ ascii "\n"
+weighedBytes (Weighed.Refused number) = ascii "R " ++ decimal number ++ ascii "\n"
+
+-- "for each line `L i M mg` or `L i R no`"
+unfoldable pub lineBytes : ℕ → Weighed → List ℕ
+lineBytes i w = ascii "L " ++ decimal i ++ ascii " " ++ weighedBytes w
+
+-- a line for each of the marks, counted from i
+unfoldable pub linesBytes : ℕ → List Mark → List ℕ
+linesBytes i [] = []
+linesBytes i (m ∷ ms) = lineBytes i (m .weighed) ++ linesBytes (i + 1) ms
+
+-- "Lines on a sheet 1 to 32": of the 32 marks the first `count` are the sheet's lines
+abbrev pub marksOf : Marks → List Mark
+marksOf m = take (m .count) (m .marks)
+
+-- "then `TOTAL mg COVERED` .. else `TOTAL mg SHORT`; with refusal 13 `SENT BACK 13` instead"
+unfoldable pub endingBytes : Ending → List ℕ
+endingBytes (Ending.Covered mg) = ascii "TOTAL " ++ decimal mg ++ ascii " COVERED\n"
+endingBytes (Ending.Short mg) = ascii "TOTAL " ++ decimal mg ++ ascii " SHORT\n"
+endingBytes (Ending.SentBack number) = ascii "SENT BACK " ++ decimal number ++ ascii "\n"
+
+-- "with 10, 11, 12 or 14 the report is `SENT BACK` and that number, one line alone"
+abbrev pub sentBack : ℕ → List ℕ
+sentBack number = endingBytes (Ending.SentBack number)
+
+-- "i counts the cylinder lines from 1"
+unfoldable pub reportBytes : Marks → Ending → List ℕ
+reportBytes m e = linesBytes 1 (marksOf m) ++ endingBytes e
+
+-- what a function ensures that writes the report bs into the lent output o, which becomes xs
+-- 15, "report longer than the lent output", "leaves the output's every byte; otherwise bytes after the report's length are unchanged"
+-- no report is longer than 32 lines of 46 bytes and an ending of 40
+abbrev pub ReportIs : List ℕ → List ℕ → List ℕ → Written → Type 0
+ReportIs o xs bs (Written.Bytes r) = Wrote o xs r bs × (length bs ≤ length o)
+ReportIs o xs bs (Written.Refused n) = (n ≡ 15) × (xs ≡ o) × (length o < length bs) × (length bs ≤ 1512)

@@ -1,2 +1,0 @@
-// Reading a text: bytes, and fields that are blank or a whole number.
-pub mod field;

@@ -1,2 +1,0 @@
-// What a sheet comes to.
-pub mod verdict;

@@ -1,2 +1,0 @@
-// The whole number at or below a float.
-pub mod whole;

@@ -1,2 +1,0 @@
-// Bytes and whole numbers, written into a lent output.
-pub mod writing;

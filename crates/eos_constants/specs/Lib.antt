@@ -1,2 +1,3 @@
 pub mod Exponent
 pub mod Constant
+pub mod Reduced

@@ -1,9 +1,12 @@
-// The constants of the equation of 1996 (document 01, "Constants and ranges"), each the f64 nearest to what is printed, and the
-// exponents of its roots that 004 prints in another way than as the fraction that document 01 works.
+// The constants of the equation of 1996 (document 01, "Constants and ranges"), each the f64 nearest to what is printed; the reduced
+// variables δ and τ (004, section 2.1); and the exponents of its roots that 004 prints in another way than as the fraction that document 01 works.
 ghost use mathlib.Core.Path.{_≡_};
 ghost use Rattle.eos_constants.specs.Constant.{spanWagner};
 ghost use Rattle.eos_constants.specs.Exponent.{workedAs};
+ghost use Rattle.eos_constants.specs.Reduced.{delta, tau};
+ghost use Rattle.num_formulas.specs.Formula.{value};
 use num_roots::root::Exponent;
+use num_working::over;
 
 pub struct Constants {
     // the critical temperature, K
@@ -25,6 +28,20 @@ pub fn span_wagner() -> Constants
         gas: 188.9241,
         pressure: 7377300.0,
     }
+}
+
+// δ = ρ/ρ_c, in plain f64.
+pub fn delta_at(rho: f64) -> f64
+    ensures { λ r. ⌜ r ≡ value (delta rho) ⌝ }
+{
+    rho / span_wagner().density
+}
+
+// τ = T_c/T, in plain f64.
+pub fn tau_at(t: f64) -> f64
+    ensures { λ r. ⌜ r ≡ value (tau t) ⌝ }
+{
+    over(span_wagner().temperature, t)
 }
 
 // 0.34 and 10/6 of the saturated densities, and b = 0.875 and 0.925 of the non-analytic terms.

@@ -24,8 +24,9 @@ pub fn theta_at(t: f64) -> Worked
 fn pressure_sum(theta: f64) -> f64
     ensures { λ r. ⌜ r ≡ value (pressureSum (num theta)) ⌝ }
 {
-    ((-7.0602087 * theta + 1.9391218 * plain(root(theta, Exponent { m: 3, k: 2 })))
-        + -1.6463597 * whole_power(theta, 2))
+    -7.0602087 * theta
+        + 1.9391218 * plain(root(theta, Exponent { m: 3, k: 2 }))
+        + -1.6463597 * whole_power(theta, 2)
         + -3.2995634 * whole_power(theta, 4)
 }
 

@@ -24,7 +24,8 @@ pub vapour-of-theta : OfTheta vapourSum
 unfolding vapourSum work
 vapour-of-theta a b h = rw h
 
-pub density-from : (sum : Formula → Formula) → OfTheta sum → (t x : Float) → x ≡ value (sum (num (plain (work (theta t))))) → densityOf (num x) ≡ densityOf (sum (theta t))
+pub density-from : (sum : Formula → Formula) → OfTheta sum →
+    (t x : Float) → x ≡ value (sum (num (plain (work (theta t))))) → densityOf (num x) ≡ densityOf (sum (theta t))
 unfolding work
 density-from sum of t x h =
     let θ = num (plain (work (theta t))) in

@@ -9,27 +9,23 @@ use Rattle.num_working.specs.declared.Worked.the-variants.{Number, Failed}
 use Rattle.num_formulas.specs.Formula.{Formula, num, _⊕_, _⊗_, _^^_, e^, root, work}
 use Rattle.eos_constants.specs.Constant.{spanWagner}
 use Rattle.eos_constants.specs.Exponent.{workedAs}
-use Rattle.eos_constants.specs.declared.Printed.{Printed}
 use Rattle.eos_constants.specs.declared.Printed.the-variants.{Of0_34, Of10_6}
 use Rattle.eos_saturation.specs.Saturation.{theta, to}
 
--- θ to an exponent that is printed in another way: "0.34 is 17/50", "10/6 is 5/3"
-abbrev pub toPrinted : Formula → Printed → Formula
-toPrinted θ printed = root (workedAs printed) θ
-
--- eq. (3.14), t₁ = 0.34, t₂ = 1/2, t₃ = 10/6, t₄ = 11/6: "a₁ = 1.9245108, a₂ = −0.62385555, a₃ = −0.32731127, a₄ = 0.39245142"
+-- eq. (3.14), t₁ = 0.34, t₂ = 1/2, t₃ = 10/6, t₄ = 11/6 ("0.34 is 17/50", "10/6 is 5/3"):
+-- "a₁ = 1.9245108, a₂ = −0.62385555, a₃ = −0.32731127, a₄ = 0.39245142"
 unfoldable pub liquidSum : Formula → Formula
 liquidSum θ =
-    num (decimal 19245108 7) ⊗ toPrinted θ Of0_34
+    num (decimal 19245108 7) ⊗ root (workedAs Of0_34) θ
     ⊕ num (Ieee.neg (decimal 62385555 8)) ⊗ to θ 1 2
-    ⊕ num (Ieee.neg (decimal 32731127 8)) ⊗ toPrinted θ Of10_6
+    ⊕ num (Ieee.neg (decimal 32731127 8)) ⊗ root (workedAs Of10_6) θ
     ⊕ num (decimal 39245142 8) ⊗ to θ 11 6
 
--- eq. (3.15), t₁ = 0.340, t₂ = 1/2, t₃ = 1, t₄ = 7/3, t₅ = 14/3: "a₁ = −1.7074879, a₂ = −0.82274670, a₃ = −4.6008549,
--- a₄ = −10.111178, a₅ = −29.742252". "7/3 is x² times x^(1/3), 14/3 is x⁴ times x^(2/3)."
+-- eq. (3.15), t₁ = 0.340, t₂ = 1/2, t₃ = 1, t₄ = 7/3, t₅ = 14/3 ("7/3 is x² times x^(1/3), 14/3 is x⁴ times x^(2/3)"):
+-- "a₁ = −1.7074879, a₂ = −0.82274670, a₃ = −4.6008549, a₄ = −10.111178, a₅ = −29.742252"
 unfoldable pub vapourSum : Formula → Formula
 vapourSum θ =
-    num (Ieee.neg (decimal 17074879 7)) ⊗ toPrinted θ Of0_34
+    num (Ieee.neg (decimal 17074879 7)) ⊗ root (workedAs Of0_34) θ
     ⊕ num (Ieee.neg (decimal 82274670 8)) ⊗ to θ 1 2
     ⊕ num (Ieee.neg (decimal 46008549 7)) ⊗ θ
     ⊕ num (Ieee.neg (decimal 10111178 6)) ⊗ (θ ^^ 2 ⊗ to θ 1 3)

@@ -25,8 +25,8 @@ unfolding vapourSum work
 vapour-of-theta a b h = rw h
 
 pub density-from : (sum : Formula → Formula) → OfTheta sum →
-    (t x : Float) → x ≡ value (sum (num (plain (work (theta t))))) → densityOf (num x) ≡ densityOf (sum (theta t))
+    (t : Float) {x : Float} → x ≡ value (sum (num (plain (work (theta t))))) → densityOf (num x) ≡ densityOf (sum (theta t))
 unfolding work
-density-from sum of t x h =
+density-from sum of t h =
     let θ = num (plain (work (theta t))) in
     ap (λ (y : Float). densityOf (num y)) h ∙ by-sum (num (value (sum θ))) (sum (theta t)) (once (sum θ) ∙ of θ (theta t) (tested t))

@@ -12,14 +12,12 @@ returns : tie.Need-returns
 unfolding densityOf value
 returns c =
     let sum = c .before .before .before .before .before .before .args .sum in
-    c .above-zero .ensures
-    ∙ ap aboveZero
-    ((simp (
+    let worked = simp (
       c .before .before .before .plain .ensures,
       c .before .before .before .before .exponential .ensures,
       c .before .before .before .before .before .span-wagner .ensures,
-    ) at (c .before .checked .ensures))
-    ∙ once (num (spanWagner .density) ⊗ e^ (num sum)))
+    ) at (c .before .checked .ensures) in
+    c .above-zero .ensures ∙ ap aboveZero (worked ∙ once (num (spanWagner .density) ⊗ e^ (num sum)))
 
 pub density-of-spec : {M : Type 1} → statement M
 density-of-spec =

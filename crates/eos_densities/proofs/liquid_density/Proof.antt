@@ -9,9 +9,9 @@ use Rattle.eos_densities.proofs.liquid_density.Tie as tie
 returns : tie.Need-returns
 unfolding liquidDensity
 returns c =
-    c .density-of .ensures
-    ∙ density-from liquidSum liquid-of-theta (c .before .before .before .before .args .t) (c .before .liquid-sum .result)
-    (simp (c .before .before .plain .ensures, c .before .before .before .theta-at .ensures) at (c .before .liquid-sum .ensures))
+    let t = c .before .before .before .before .args .t in
+    let summed = simp (c .before .before .plain .ensures, c .before .before .before .theta-at .ensures) at (c .before .liquid-sum .ensures) in
+    c .density-of .ensures ∙ density-from liquidSum liquid-of-theta t summed
 
 pub liquid-density-spec : {M : Type 1} → statement M
 liquid-density-spec =

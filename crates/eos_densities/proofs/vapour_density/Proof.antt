@@ -9,9 +9,9 @@ use Rattle.eos_densities.proofs.vapour_density.Tie as tie
 returns : tie.Need-returns
 unfolding vapourDensity
 returns c =
-    c .density-of .ensures
-    ∙ density-from vapourSum vapour-of-theta (c .before .before .before .before .args .t) (c .before .vapour-sum .result)
-    (simp (c .before .before .plain .ensures, c .before .before .before .theta-at .ensures) at (c .before .vapour-sum .ensures))
+    let t = c .before .before .before .before .args .t in
+    let summed = simp (c .before .before .plain .ensures, c .before .before .before .theta-at .ensures) at (c .before .vapour-sum .ensures) in
+    c .density-of .ensures ∙ density-from vapourSum vapour-of-theta t summed
 
 pub vapour-density-spec : {M : Type 1} → statement M
 vapour-density-spec =

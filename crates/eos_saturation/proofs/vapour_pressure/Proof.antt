@@ -11,6 +11,7 @@ use borrow.Author.Needs.{needs}
 use Rattle.eos_saturation.proofs.vapour_pressure.Statement.{statement}
 use Rattle.eos_saturation.proofs.vapour_pressure.Tie as tie
 
+-- eq. (3.13), of any τ and θ
 abbrev pressure : Formula → Formula → Formula
 pressure τ θ = num (spanWagner .pressure) ⊗ e^ (τ ⊗ pressureSum θ)
 
@@ -24,7 +25,7 @@ returns c =
     let summed = c .before .before .before .before .before .before in
     let t = summed .before .before .before .args .t in
     let θ = num (plain (work (theta t))) in
-    (simp (
+    let worked = simp (
       c .before .before .plain2 .ensures,
       c .before .before .before .exponential .ensures,
       c .before .before .before .before .tau-at .ensures,
@@ -32,9 +33,8 @@ returns c =
       summed .pressure-sum .ensures,
       summed .before .plain .ensures,
       summed .before .before .theta-at .ensures,
-    ) at (c .checked .ensures))
-    ∙ once (pressure (tau t) θ)
-    ∙ by-theta (tau t) θ (theta t) (tested t)
+    ) at (c .checked .ensures) in
+    worked ∙ once (pressure (tau t) θ) ∙ by-theta (tau t) θ (theta t) (tested t)
 
 pub vapour-pressure-spec : {M : Type 1} → statement M
 vapour-pressure-spec =

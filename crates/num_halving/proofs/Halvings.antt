@@ -10,7 +10,11 @@ use borrow.Author.Tests.{eqb-true, eqb-false, eq-eqb, ne-eqb, leb-true, leb-fals
 use lib.Ieee.{Float, lt, ofInt}
 use lib.Ieee.Scale.{finite}
 use Rattle.num_working.specs.Number.{whole}
-use Rattle.num_halving.specs.Halving.{Figure, Side, low, high, broken, side, ifC, ends, middle, narrow, halve, NotAbove, Above, Worthy, worthy, Unworthy, failed, unbounded, Found, NoCrossing, met, first-above, second-not-above, Halves, ended, upper, lower, broke, Breaks, at-first, at-second, at-middle}
+use Rattle.num_halving.specs.Halving.{Figure, Side, low, high, broken, side, ends, middle, narrow, halve}
+use Rattle.num_halving.specs.Halving.{NotAbove, Above, Worthy, worthy, Unworthy, failed, unbounded, Found}
+use Rattle.num_halving.specs.Halving.{NoCrossing, met, first-above, second-not-above, Halves, ended, upper, lower, broke}
+use Rattle.num_halving.specs.Halving.{Breaks, at-first, at-second, at-middle}
+use Rattle.num_working.proofs.Cases.{by-test}
 use Rattle.num_working.specs.declared.Worked.{Worked}
 use Rattle.num_working.specs.declared.Worked.the-variants.{Number, Failed}
 use Rattle.num_halving.specs.declared.Crossing.{Crossing}
@@ -159,11 +163,15 @@ module _ (f : Figure) (t : Float) where
   same-halving {lo} {hi} (upper ne a r) n h w =
       let k = one-more n lo hi h w ne in
       let v : hi - lo ≤ 2 ^ suc (k .0) = rw (k .1) at w in
-      ap (λ (i : ℕ). narrow f t i lo hi) (k .1) ∙ narrow-upper (k .0) lo hi ne a ∙ same-halving r (k .0) (between lo hi h ne .below) (upper-width lo hi (k .0) h v)
+      ap (λ (i : ℕ). narrow f t i lo hi) (k .1)
+      ∙ narrow-upper (k .0) lo hi ne a
+      ∙ same-halving r (k .0) (between lo hi h ne .below) (upper-width lo hi (k .0) h v)
   same-halving {lo} {hi} (lower ne a r) n h w =
       let k = one-more n lo hi h w ne in
       let v : hi - lo ≤ 2 ^ suc (k .0) = rw (k .1) at w in
-      ap (λ (i : ℕ). narrow f t i lo hi) (k .1) ∙ narrow-lower (k .0) lo hi ne a ∙ same-halving r (k .0) (between lo hi h ne .above) (lower-width lo hi (k .0) v)
+      ap (λ (i : ℕ). narrow f t i lo hi) (k .1)
+      ∙ narrow-lower (k .0) lo hi ne a
+      ∙ same-halving r (k .0) (between lo hi h ne .above) (lower-width lo hi (k .0) v)
   same-halving {lo} {hi} (broke ne e) n h w =
       let k = one-more n lo hi h w ne in
       ap (λ (i : ℕ). narrow f t i lo hi) (k .1) ∙ narrow-broke (k .0) lo hi ne e
@@ -198,9 +206,8 @@ any-low : (b : Bool) (c : Crossing) → ends (cond b high low) low c ≡ Nowhere
 any-low true c = refl
 any-low false c = refl
 
-either-nowhere : (b : Bool) → ifC b Nowhere Nowhere ≡ Nowhere
-either-nowhere true = refl
-either-nowhere false = refl
+either-nowhere : (b : Bool) → cond b Nowhere Nowhere ≡ Nowhere
+either-nowhere b = by-test (λ (c : Crossing). c ≡ Nowhere) b Nowhere Nowhere (λ _. refl) (λ _. refl)
 
 -- ---- THE SHARED FACT
 module _ (f : Figure) (t : Float) where
@@ -218,7 +225,7 @@ module _ (f : Figure) (t : Float) where
       by h high broken p q k = let z : _≡_ {A = ℕ} 0 1 = cc in absurd (omega arith)
       by h broken b p q k = let z : _≡_ {A = ℕ} 0 1 = cc in absurd (omega arith)
 
-      go : (x : Bool) → leb hi lo ≡ x → ifC x Nowhere (ends (side t (f lo)) (side t (f hi)) (narrow f t 63 lo hi)) ≡ At r → Found f t lo hi r
+      go : (x : Bool) → leb hi lo ≡ x → cond x Nowhere (ends (side t (f lo)) (side t (f hi)) (narrow f t 63 lo hi)) ≡ At r → Found f t lo hi r
       go true p k = let z : _≡_ {A = ℕ} 0 1 = cc in absurd (omega arith)
       go false p k = by (leb-false hi lo p) (side t (f lo)) (side t (f hi)) refl refl k
 
@@ -236,7 +243,7 @@ module _ (f : Figure) (t : Float) where
       by h high broken p q k = let z : _≡_ {A = ℕ} 0 1 = cc in absurd (omega arith)
       by h broken b p q k = let z : _≡_ {A = ℕ} 0 1 = cc in absurd (omega arith)
 
-      go : (x : Bool) → leb hi lo ≡ x → ifC x Nowhere (ends (side t (f lo)) (side t (f hi)) (narrow f t 63 lo hi)) ≡ Nowhere → NoCrossing f t lo hi
+      go : (x : Bool) → leb hi lo ≡ x → cond x Nowhere (ends (side t (f lo)) (side t (f hi)) (narrow f t 63 lo hi)) ≡ Nowhere → NoCrossing f t lo hi
       go true p k = met (leb-true hi lo p)
       go false p k = by (leb-false hi lo p) (side t (f lo)) (side t (f hi)) refl refl k
 
@@ -265,7 +272,7 @@ module _ (f : Figure) (t : Float) where
       by h high broken p q k = at-second (is-unworthy f t hi q)
       by h broken b p q k = at-first (is-unworthy f t lo p)
 
-      go : (x : Bool) → leb hi lo ≡ x → ifC x Nowhere (ends (side t (f lo)) (side t (f hi)) (narrow f t 63 lo hi)) ≡ Broke → (lo < hi) × Breaks f t lo hi
+      go : (x : Bool) → leb hi lo ≡ x → cond x Nowhere (ends (side t (f lo)) (side t (f hi)) (narrow f t 63 lo hi)) ≡ Broke → (lo < hi) × Breaks f t lo hi
       go true p k = let z : _≡_ {A = ℕ} 0 1 = cc in absurd (omega arith)
       go false p k = let h = leb-false hi lo p in (h, by h (side t (f lo)) (side t (f hi)) refl refl k)
 
@@ -306,10 +313,20 @@ module _ (f : Figure) (t : Float) where
       next = r .same ∙ ap (λ (n : ℕ). narrow f t n lo hi) (turn .1)
 
       pub to-upper : NotAbove f t (middle lo hi) → Narrowing asked (middle lo hi) hi
-      to-upper a = record { fuel = turn .0; apart = between lo hi (r .apart) ne .below; wide = upper-width lo hi (turn .0) (r .apart) width; same = next ∙ narrow-upper f t (turn .0) lo hi ne a }
+      to-upper a = record {
+        fuel = turn .0;
+        apart = between lo hi (r .apart) ne .below;
+        wide = upper-width lo hi (turn .0) (r .apart) width;
+        same = next ∙ narrow-upper f t (turn .0) lo hi ne a;
+      }
 
       pub to-lower : Above f t (middle lo hi) → Narrowing asked lo (middle lo hi)
-      to-lower a = record { fuel = turn .0; apart = between lo hi (r .apart) ne .above; wide = lower-width lo hi (turn .0) width; same = next ∙ narrow-lower f t (turn .0) lo hi ne a }
+      to-lower a = record {
+        fuel = turn .0;
+        apart = between lo hi (r .apart) ne .above;
+        wide = lower-width lo hi (turn .0) width;
+        same = next ∙ narrow-lower f t (turn .0) lo hi ne a;
+      }
 
       pub to-broke : Unworthy f (middle lo hi) → asked ≡ Broke
       to-broke e = next ∙ narrow-broke f t (turn .0) lo hi ne e

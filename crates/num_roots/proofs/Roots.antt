@@ -11,12 +11,13 @@ use Rattle.num_working.specs.declared.Worked.{Worked}
 use Rattle.num_working.specs.declared.Worked.the-variants.{Number, Failed}
 use Rattle.num_halving.specs.declared.Crossing.the-variants.{At, Nowhere, Broke}
 use Rattle.num_working.specs.Number.{whole, nonneg}
-use Rattle.num_working.specs.Working.{checked, then}
+use Rattle.num_working.specs.Working.{checked}
 use Rattle.num_powers.specs.Power.{power, _^ᵂ_}
 use Rattle.num_halving.specs.Halving.{halve, NotAbove, Above, worthy, failed, second-not-above, at-second}
 use Rattle.num_roots.specs.Root.{powerAt, rootBits, rootOf, searched}
 use Rattle.num_exponential.proofs.Tables.{at}
 use Rattle.num_working.proofs.Numbers.{infinity}
+use Rattle.num_working.proofs.Cases.{by-working}
 use Rattle.num_working.proofs.Workings.{checked-number}
 use Rattle.num_powers.proofs.Powers.{power-next, checked-power}
 use Rattle.num_halving.proofs.Halvings.{Rises, answer, nowhere-back, breaks-back, unique-crossing}
@@ -139,8 +140,4 @@ crossing-below k t b e = let h = answer (powerAt k) t 0 top b (omega arith) (sym
 -- past k = 51 the search fails, whatever x is
 pub search-fails : (m k : ℕ) (x : Float) → 52 ≤ k → searched m k x ≡ Failed
 unfolding searched
-search-fails m k x h = go (checked x ^ᵂ m)
-  where
-    go : (w : Worked) → then w (λ t. rootOf (rootBits k t)) ≡ Failed
-    go Failed = refl
-    go (Number t) = ap rootOf (fails k t h)
+search-fails m k x h = by-working (λ (w : Worked). w ≡ Failed) (checked x ^ᵂ m) Failed _ (λ _. refl) (λ t _. ap rootOf (fails k t h))

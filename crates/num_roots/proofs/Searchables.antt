@@ -7,9 +7,9 @@ use lib.Dec.{T, ltb, ltb→lt}
 use lib.Ieee.{Float, binary64, ofBits, lt, le, eq}
 use lib.Ieee.Scale.{finite}
 use Rattle.num_working.specs.Number.{whole, nonneg}
-use Rattle.num_working.specs.Working.{checked, then}
+use Rattle.num_working.specs.Working.{checked, orElse}
 use Rattle.num_working.specs.declared.Worked.{Worked}
-use Rattle.num_working.specs.declared.Worked.the-variants.{Number}
+use Rattle.num_working.specs.declared.Worked.the-variants.{Number, Failed}
 use Rattle.num_halving.specs.declared.Crossing.the-variants.{At}
 use Rattle.num_roots.specs.declared.root.Exponent.{Exponent}
 use Rattle.num_powers.specs.Power.{power}
@@ -57,7 +57,7 @@ module _ (e : Exponent) (x : Float) (u : T (searchable e x)) where
     unfolding searched
     told r n b =
         searched-for
-        ∙ ap (λ (w : Worked). then w (λ s. rootOf (rootBits (e .k) s))) (sym (checked-power x (e .m)) ∙ ap checked (sym p) ∙ nonneg-checked t n)
+        ∙ ap (λ (w : Worked). orElse w Failed (λ s. rootOf (rootBits (e .k) s))) (sym (checked-power x (e .m)) ∙ ap checked (sym p) ∙ nonneg-checked t n)
         ∙ ap rootOf b
 
     module _ (at : ℕ) (below here above : Float) (some : 0 < at) (less : at < top) (powers : PowersAbout at (e .k) below here above) where

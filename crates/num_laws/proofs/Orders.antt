@@ -1,7 +1,7 @@
 -- Floats with no minus sign: their order is that of their bits, and a product and a whole power keep it. Assumes nothing.
 use mathlib.Core.Path.{_≡_, refl, sym, ap, _∙_, subst}
 use mathlib.Core.Logic.{inl, inr}
-use Prim.Native.Nat.{ℕ, zero, suc, _+_, _-_, _*_, _/_, _%_, _^_, _≤_, _<_}
+use Prim.Native.Nat.{ℕ, zero, suc, _+_, _*_, _/_, _%_, _^_, _≤_, _<_}
 use native.Mathlib.Nat.{le-trans, le-of-eq, le-of-lt, mul-le-mul, mul-mul-mul-comm, mul-pos, mul-assoc, mul-le-mul-right, mul-le-mul-left, pow-succ', mod-eq-of-lt, eq-or-lt-of-le, mul-one, le-of-suc-le-suc, not-le-of-lt}
 use native.Mathlib.Omega.{arith}
 use mathlib.Core.Bool.{Bool, true, false, not, _&&_, _||_, cond, true≢false, Bool·beq}

@@ -6,7 +6,7 @@ use native.Mathlib.Nat.{le-trans, le-of-eq, le-of-lt, le-div-iff-mul-le, div-lt-
 use native.Mathlib.Nat.{mul-one, mul-right-comm, zero-mul, zero-div, eq-zero-or-pos, mul-pos}
 use mathlib.Core.Logic.{inl, inr}
 use native.Mathlib.Omega.{arith}
-use lib.Dec.{T, lt→ltb, le→leb, ltb, eqb, ltb→lt, eqb→eq}
+use lib.Dec.{T, lt→ltb, ltb, eqb, ltb→lt, eqb→eq}
 use lib.IntN.{ℤ, pos}
 use lib.Ieee.{Float, nan, inf, fin, binary64, up, down, lt, le, ofInt, ofBits, toUnsigned}
 use lib.Ieee.Back.{round-whole}

@@ -2,12 +2,11 @@
 use mathlib.Core.Path.{_≡_, sym, ap, _∙_}
 use mathlib.Core.Bool.{true, false}
 use Prim.Native.Nat.{_^_}
-use borrow.Author.Needs.{needs}
 use borrow.Author.Tests.{not-true, not-false}
 use lib.Ieee.{Float, le}
 use Rattle.num_working.specs.Number.{whole}
 use Rattle.num_whole.specs.Whole.{wholeBelow}
-use Rattle.num_whole.proofs.Wholes.{zero-bits, top-bits, below-zero, past-the-top, Truncated, truncated}
+use Rattle.num_whole.proofs.Wholes.{zero-bits, top-bits, below-zero, past-the-top, truncated}
 use Rattle.num_whole.proofs.whole_below.Statement.{statement}
 use Rattle.num_whole.proofs.whole_below.Tie as tie
 

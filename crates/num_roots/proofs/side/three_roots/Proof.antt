@@ -2,7 +2,6 @@
 use mathlib.Core.Path.{refl, sym, _∙_}
 use Prim.Native.Nat.{ℕ, _<_}
 use lib.Dec.{T}
-use borrow.Author.Needs.{needs}
 use Rattle.num_roots.specs.Side.{searchable}
 use Rattle.num_roots.proofs.Searchables.{unsigned, bounds}
 use Rattle.num_roots.proofs.side.three_roots.Statement.{statement}

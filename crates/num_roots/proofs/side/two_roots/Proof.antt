@@ -1,7 +1,6 @@
 -- Each is told from the powers about its guess where all are searchable and guessed, and else is the root. Assumes nothing.
 use mathlib.Core.Path.{refl, sym, _∙_}
 use lib.Dec.{T}
-use borrow.Author.Needs.{needs}
 use Rattle.num_roots.specs.Side.{searchable}
 use Rattle.num_roots.proofs.Searchables.{unsigned, bounds}
 use Rattle.num_roots.proofs.side.two_roots.Statement.{statement}

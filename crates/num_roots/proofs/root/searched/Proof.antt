@@ -23,15 +23,18 @@ use Rattle.num_roots.proofs.root.searched.Tie as tie
 abbrev lookedFor : ℕ → Worked → Worked
 lookedFor k w = orElse w Failed (λ t. rootOf (rootBits k t))
 
+abbrev asked : tie.Start → Worked
+asked s = searched (s .args .m) (s .args .k) (s .args .x)
+
 -- the power, as it was worked
-raised : (c : tie.After-checked) → searched (c .before .before .args .m) (c .before .before .args .k) (c .before .before .args .x) ≡ lookedFor (c .before .before .args .k) (c .checked .result)
+raised : (c : tie.After-checked) → asked (c .before .before) ≡ lookedFor (c .before .before .args .k) (c .checked .result)
 unfolding searched
 raised c =
     let a = c .before .before .args in
     ap (lookedFor (a .k)) (sym (checked-power (a .x) (a .m)) ∙ sym (ap checked (c .before .whole-power .ensures)) ∙ sym (c .checked .ensures))
 
 -- and the crossing, as it was found
-told : (c : tie.After-crossing) → rootOf (c .crossing .result) ≡ searched (c .before .before .before .before .before .before .before .before .args .m) (c .before .before .before .before .before .before .before .before .args .k) (c .before .before .before .before .before .before .before .before .args .x)
+told : (c : tie.After-crossing) → rootOf (c .crossing .result) ≡ asked (c .before .before .before .before .before .before .before .before)
 told c =
     let t = c .before .before .before .before in
     ap rootOf (c .crossing .ensures) ∙ sym (raised (t .before .before) ∙ ap (lookedFor _) (t .t .given .1))

@@ -14,7 +14,7 @@ use Rattle.num_halving.specs.Halving.{Figure, Side, low, high, broken, s
 use Rattle.num_halving.specs.Halving.{NotAbove, Above, Worthy, worthy, Unworthy, failed, unbounded, Found}
 use Rattle.num_halving.specs.Halving.{NoCrossing, met, first-above, second-not-above, Halves, ended, upper, lower, broke}
 use Rattle.num_halving.specs.Halving.{Breaks, at-first, at-second, at-middle}
-use Rattle.num_working.proofs.Cases.{by-test}
+use Rattle.num_working.proofs.Cases.{by-test, never}
 use Rattle.num_working.specs.declared.Worked.{Worked}
 use Rattle.num_working.specs.declared.Worked.the-variants.{Number, Failed}
 use Rattle.num_halving.specs.declared.Crossing.{Crossing}
@@ -57,17 +57,17 @@ stands f t k = go (f k) refl
 
 not-above-of : (f : Figure) (t : Float) (k : ℕ) (s : Side) → Stands f t k s → s ≡ low → NotAbove f t k
 not-above-of f t k low (is-low a) e = a
-not-above-of f t k high (is-high a) e = let z : _≡_ {A = ℕ} 0 1 = cc in absurd (omega arith)
-not-above-of f t k broken (is-broken a) e = let z : _≡_ {A = ℕ} 0 1 = cc in absurd (omega arith)
+not-above-of f t k high (is-high a) e = never (cc)
+not-above-of f t k broken (is-broken a) e = never (cc)
 
 is-above-of : (f : Figure) (t : Float) (k : ℕ) (s : Side) → Stands f t k s → s ≡ high → Above f t k
-is-above-of f t k low (is-low a) e = let z : _≡_ {A = ℕ} 0 1 = cc in absurd (omega arith)
+is-above-of f t k low (is-low a) e = never (cc)
 is-above-of f t k high (is-high a) e = a
-is-above-of f t k broken (is-broken a) e = let z : _≡_ {A = ℕ} 0 1 = cc in absurd (omega arith)
+is-above-of f t k broken (is-broken a) e = never (cc)
 
 is-unworthy-of : (f : Figure) (t : Float) (k : ℕ) (s : Side) → Stands f t k s → s ≡ broken → Unworthy f k
-is-unworthy-of f t k low (is-low a) e = let z : _≡_ {A = ℕ} 0 1 = cc in absurd (omega arith)
-is-unworthy-of f t k high (is-high a) e = let z : _≡_ {A = ℕ} 0 1 = cc in absurd (omega arith)
+is-unworthy-of f t k low (is-low a) e = never (cc)
+is-unworthy-of f t k high (is-high a) e = never (cc)
 is-unworthy-of f t k broken (is-broken a) e = a
 
 not-above : (f : Figure) (t : Float) (k : ℕ) → side t (f k) ≡ low → NotAbove f t k
@@ -190,13 +190,13 @@ module _ (f : Figure) (t : Float) where
       let m = between lo hi h ne in
       let i = found g r (m .above) a x q in
       record { from = i .from; to = omega arith; here = i .here; next = i .next }
-  found (broke ne e) r h a b q = let z : _≡_ {A = ℕ} 0 1 = cc in absurd (omega arith)
+  found (broke ne e) r h a b q = never (cc)
 
   somewhere : {lo hi m : ℕ} {c : Crossing} → Halves f t lo hi m c → c ≡ Nowhere → ⊥
-  somewhere (ended e) q = let z : _≡_ {A = ℕ} 0 1 = cc in omega arith
+  somewhere (ended e) q = never (cc)
   somewhere (upper ne x g) q = somewhere g q
   somewhere (lower ne x g) q = somewhere g q
-  somewhere (broke ne e) q = let z : _≡_ {A = ℕ} 0 1 = cc in omega arith
+  somewhere (broke ne e) q = never (cc)
 
 high-any : (b : Bool) (c : Crossing) → ends high (cond b high low) c ≡ Nowhere
 high-any true c = refl
@@ -217,16 +217,16 @@ module _ (f : Figure) (t : Float) where
   answer lo hi r w e = go (leb hi lo) refl e
     where
       by : lo < hi → (a b : Side) → side t (f lo) ≡ a → side t (f hi) ≡ b → ends a b (narrow f t 63 lo hi) ≡ At r → Found f t lo hi r
-      by h low low p q k = let z : _≡_ {A = ℕ} 0 1 = cc in absurd (omega arith)
+      by h low low p q k = never (cc)
       by h low high p q k = found f t (at-most-63 f t lo hi h w .2) r h (not-above f t lo p) (is-above f t hi q) k
-      by h low broken p q k = let z : _≡_ {A = ℕ} 0 1 = cc in absurd (omega arith)
-      by h high low p q k = let z : _≡_ {A = ℕ} 0 1 = cc in absurd (omega arith)
-      by h high high p q k = let z : _≡_ {A = ℕ} 0 1 = cc in absurd (omega arith)
-      by h high broken p q k = let z : _≡_ {A = ℕ} 0 1 = cc in absurd (omega arith)
-      by h broken b p q k = let z : _≡_ {A = ℕ} 0 1 = cc in absurd (omega arith)
+      by h low broken p q k = never (cc)
+      by h high low p q k = never (cc)
+      by h high high p q k = never (cc)
+      by h high broken p q k = never (cc)
+      by h broken b p q k = never (cc)
 
       go : (x : Bool) → leb hi lo ≡ x → cond x Nowhere (ends (side t (f lo)) (side t (f hi)) (narrow f t 63 lo hi)) ≡ At r → Found f t lo hi r
-      go true p k = let z : _≡_ {A = ℕ} 0 1 = cc in absurd (omega arith)
+      go true p k = never (cc)
       go false p k = by (leb-false hi lo p) (side t (f lo)) (side t (f hi)) refl refl k
 
   -- no crossing exactly where there is none to be found
@@ -237,11 +237,11 @@ module _ (f : Figure) (t : Float) where
       by : lo < hi → (a b : Side) → side t (f lo) ≡ a → side t (f hi) ≡ b → ends a b (narrow f t 63 lo hi) ≡ Nowhere → NoCrossing f t lo hi
       by h low low p q k = second-not-above (worthy-low f t lo (not-above f t lo p)) (not-above f t hi q)
       by h low high p q k = absurd (somewhere f t (at-most-63 f t lo hi h w .2) k)
-      by h low broken p q k = let z : _≡_ {A = ℕ} 0 1 = cc in absurd (omega arith)
+      by h low broken p q k = never (cc)
       by h high low p q k = second-not-above (worthy-high f t lo (is-above f t lo p)) (not-above f t hi q)
       by h high high p q k = first-above (is-above f t lo p) (worthy-high f t hi (is-above f t hi q))
-      by h high broken p q k = let z : _≡_ {A = ℕ} 0 1 = cc in absurd (omega arith)
-      by h broken b p q k = let z : _≡_ {A = ℕ} 0 1 = cc in absurd (omega arith)
+      by h high broken p q k = never (cc)
+      by h broken b p q k = never (cc)
 
       go : (x : Bool) → leb hi lo ≡ x → cond x Nowhere (ends (side t (f lo)) (side t (f hi)) (narrow f t 63 lo hi)) ≡ Nowhere → NoCrossing f t lo hi
       go true p k = met (leb-true hi lo p)
@@ -264,16 +264,16 @@ module _ (f : Figure) (t : Float) where
   breaks lo hi w e = go (leb hi lo) refl e
     where
       by : lo < hi → (a b : Side) → side t (f lo) ≡ a → side t (f hi) ≡ b → ends a b (narrow f t 63 lo hi) ≡ Broke → Breaks f t lo hi
-      by h low low p q k = let z : _≡_ {A = ℕ} 0 1 = cc in absurd (omega arith)
+      by h low low p q k = never (cc)
       by h low high p q k = let r = at-most-63 f t lo hi h w in at-middle (r .0) (not-above f t lo p) (is-above f t hi q) (rw k at (r .2))
       by h low broken p q k = at-second (is-unworthy f t hi q)
-      by h high low p q k = let z : _≡_ {A = ℕ} 0 1 = cc in absurd (omega arith)
-      by h high high p q k = let z : _≡_ {A = ℕ} 0 1 = cc in absurd (omega arith)
+      by h high low p q k = never (cc)
+      by h high high p q k = never (cc)
       by h high broken p q k = at-second (is-unworthy f t hi q)
       by h broken b p q k = at-first (is-unworthy f t lo p)
 
       go : (x : Bool) → leb hi lo ≡ x → cond x Nowhere (ends (side t (f lo)) (side t (f hi)) (narrow f t 63 lo hi)) ≡ Broke → (lo < hi) × Breaks f t lo hi
-      go true p k = let z : _≡_ {A = ℕ} 0 1 = cc in absurd (omega arith)
+      go true p k = never (cc)
       go false p k = let h = leb-false hi lo p in (h, by h (side t (f lo)) (side t (f hi)) refl refl k)
 
   pub breaks-back : (lo hi : ℕ) → lo < hi → hi ≤ 2 ^ 63 → Breaks f t lo hi → halve f t lo hi ≡ Broke
@@ -339,7 +339,7 @@ abbrev pub Works : Figure → ℕ → ℕ → Type 0
 Works f lo hi = (k : ℕ) → lo ≤ k → k ≤ hi → Worthy f k
 
 not-both : (f : Figure) (k : ℕ) → Worthy f k → Unworthy f k → ⊥
-not-both f k (worthy x e h) (failed g) = let z : _≡_ {A = ℕ} 0 1 = cc in omega arith
+not-both f k (worthy x e h) (failed g) = never (cc)
 not-both f k (worthy x e h) (unbounded y g l) = let s : x ≡ y = cc in true≢false (sym h ∙ ap finite s ∙ l)
 
 module _ (f : Figure) (t : Float) where

@@ -1,6 +1,8 @@
--- What holds of both cases of a choice holds of the choice: of `cond`, and of `orElse`. Assumes nothing.
+-- What holds of both cases of a choice holds of the choice: of `cond`, and of `orElse`; and a case that can't be. Assumes nothing.
 use mathlib.Core.Path.{_≡_, refl}
 use mathlib.Core.Bool.{Bool, true, false, cond}
+use Prim.Native.Nat.{ℕ}
+use native.Mathlib.Omega.{arith}
 use lib.Ieee.{Float}
 use Rattle.num_working.specs.Working.{orElse}
 use Rattle.num_working.specs.declared.Worked.{Worked}
@@ -14,3 +16,7 @@ module _ {A : Type 0} (P : A → Type 0) where
   pub by-working : (w : Worked) (z : A) (f : Float → A) → (w ≡ Failed → P z) → ((x : Float) → w ≡ Number x → P (f x)) → P (orElse w z f)
   by-working Failed z f g h = g refl
   by-working (Number x) z f g h = h x refl
+
+-- where two constructors would be one: `never (cc)`
+pub never : {A : Type 0} → _≡_ {A = ℕ} 0 1 → A
+never z = absurd (omega arith)

@@ -38,6 +38,4 @@ pub record Guessed (e : Exponent) (x t : Float) (at : ℕ) : Type 0 where
 -- the k-th whole powers of the float with the bits `at` and of its neighbours
 abbrev pub PowersAbout : ℕ → ℕ → Float → Float → Float → Type 0
 PowersAbout at k below here above =
-    (below ≡ power (Ieee.ofBits binary64 (at - 1)) k)
-    × (here ≡ power (Ieee.ofBits binary64 at) k)
-    × (above ≡ power (Ieee.ofBits binary64 (at + 1)) k)
+    (below ≡ power (Ieee.ofBits binary64 (at - 1)) k) × (here ≡ power (Ieee.ofBits binary64 at) k) × (above ≡ power (Ieee.ofBits binary64 (at + 1)) k)

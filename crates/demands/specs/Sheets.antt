@@ -76,7 +76,7 @@ module _ (L : Limits) where
     too-long : {bs : List ℕ} → Reported t bs → length old < length bs → new ≡ old → Delivered t old new (Written.Refused 15)
 
 -- whatever meets the promise of a function from limits, a text and a lent output (`Post`, its own `ensures`) delivers
-abbrev pub Delivers : {S T U V : Type 0} → (Limits × (RefT (List ℕ) × (RefT (List ℕ) × S)) → Written → T × (U × (RefT (List ℕ) × V)) → Type 0) → Type 0
-Delivers {S} {T} {U} {V} Post =
-    (a : Limits × (RefT (List ℕ) × (RefT (List ℕ) × S))) (r : Written) (x : T × (U × (RefT (List ℕ) × V))) → Post a r x
+abbrev pub Delivers : {S T U W : Type 0} → (Limits × (RefT (List ℕ) × (RefT (List ℕ) × S)) → Written → T × (U × (RefT (List ℕ) × W)) → Type 0) → Type 0
+Delivers {S} {T} {U} {W} Post =
+    (a : Limits × (RefT (List ℕ) × (RefT (List ℕ) × S))) (r : Written) (x : T × (U × (RefT (List ℕ) × W))) → Post a r x
     → Delivered (a .0) (now (a .1 .0)) (now (a .1 .1 .0)) (now (x .1 .1 .0)) r

@@ -13,6 +13,14 @@ of-five f Tau = refl
 of-five f TauTau = refl
 of-five f DeltaTau = refl
 
+-- of all five each is asked for
+pub all-asked : (k : Derivative) → T (asked true k)
+all-asked Delta = tt
+all-asked DeltaDelta = tt
+all-asked Tau = tt
+all-asked TauTau = tt
+all-asked DeltaTau = tt
+
 taken : (b : Bool) (x y : Float) → T b → cond b x y ≡ x
 taken true x y h = refl
 taken false x y h = absurd h

@@ -41,8 +41,8 @@ unfoldable pub psiTau : Float → NonAnalytic → Formula
 psiTau tau r = let f = num tau ⊖ one in num (r .kd) ⊗ (f ⊗ f)
 
 -- row 37 has the α, β, γ and ε of row 36 (Table 31), so that five rows have four bells: that of row 35 + i stands at place `bellAt i`
-unfoldable pub bells : Float → List Float
-bells tau = map (λ (r : Gaussian). value (bellTau tau r)) (take 2 gaussians ++ drop 3 gaussians)
+unfoldable pub fourBells : Float → List Float
+fourBells tau = map (λ (r : Gaussian). value (bellTau tau r)) (take 2 gaussians ++ drop 3 gaussians)
 
 abbrev pub bellAt : ℕ → ℕ
 bellAt i = cond (ltb i 2) i (i - 1)
@@ -55,6 +55,6 @@ isotherm t =
       t = t;
       tau = tau;
       powers = tauPowers tau (value (quarterOf t));
-      bell = bells tau;
+      bell = fourBells tau;
       psi = value (psiTau tau row40);
     }

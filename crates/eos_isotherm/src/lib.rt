@@ -5,7 +5,7 @@ ghost use Rattle.num_working.specs.Working.{plain};
 ghost use Rattle.num_roots.specs.Root.{root};
 ghost use Rattle.num_formulas.specs.Formula.{value};
 ghost use Rattle.eos_rows.specs.Row.{row39};
-ghost use Rattle.eos_isotherm.specs.Isotherm.{half, quarters, tauPowers, bellTau, bells, psiTau, isotherm};
+ghost use Rattle.eos_isotherm.specs.Isotherm.{half, quarters, tauPowers, bellTau, fourBells, psiTau, isotherm};
 use eos_constants::tau_at;
 use eos_powers::powers_to_3;
 use eos_powers::powers_to_28;
@@ -74,7 +74,7 @@ fn bell_of(row: Gaussian, tau: f64) -> f64
 
 // Of rows 35, 36 and 37, 38, 39.
 fn four_bells(tau: f64) -> [f64; 4]
-    ensures { λ r. ⌜ r ≡ bells tau ⌝ }
+    ensures { λ r. ⌜ r ≡ fourBells tau ⌝ }
 {
     [
         bell_of(gaussian_row(0), tau),

@@ -1,4 +1,4 @@
-pub mod Psis
+pub mod Points
 pub mod Sums
 pub mod Figures
 pub mod Totals

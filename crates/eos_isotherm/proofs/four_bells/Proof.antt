@@ -2,12 +2,12 @@
 use mathlib.Core.Path.{refl}
 use borrow.Author.Needs.{needs}
 use Rattle.eos_rows.specs.Row.{gaussians}
-use Rattle.eos_isotherm.specs.Isotherm.{bells}
+use Rattle.eos_isotherm.specs.Isotherm.{fourBells}
 use Rattle.eos_isotherm.proofs.four_bells.Statement.{statement}
 use Rattle.eos_isotherm.proofs.four_bells.Tie as tie
 
 returns : tie.Need-returns
-unfolding bells gaussians
+unfolding fourBells gaussians
 returns c =
     let d = c .before .before in
     let e = d .before .before in

@@ -1,42 +1,35 @@
 -- The three rows one after the other. Assumes nothing.
-use mathlib.Core.Path.{_≡_, ap, _∙_}
-use mathlib.Core.List.{List}
-use Prim.Native.Nat.{ℕ}
-use lib.ListN.{getD}
-use Rattle.num_working.specs.Working.{_+ᵂ_}
-use Rattle.num_working.specs.declared.Worked.{Worked}
-use Rattle.eos_rows.specs.Row.{nonAnalytics}
-use Rattle.eos_rows.specs.declared.NonAnalytic.{NonAnalytic}
-use Rattle.eos_non_analytic.specs.Parts.{around, parts, psi, blank, row, critical}
-use Rattle.eos_non_analytic.specs.declared.parts.Critical.{Critical}
-use Rattle.eos_non_analytic.specs.Figures.{nonAnalyticFigure, nonAnalyticFigures}
-use Rattle.eos_non_analytic.proofs.Rows.{figures-added}
-use Rattle.eos_residual.specs.Sum.{onto}
-use Rattle.eos_residual.proofs.Psis.{psi-first, psi-other}
+use mathlib.Core.Path.{_≡_, ap}
 use borrow.Author.Needs.{needs}
+use Rattle.eos_rows.specs.Row.{nonAnalytics, row40, row41, row42}
+use Rattle.eos_non_analytic.specs.Parts.{critical}
+use Rattle.eos_non_analytic.specs.declared.parts.Critical.{Critical}
+use Rattle.eos_non_analytic.proofs.Rows.{figures-added}
+use Rattle.eos_residual.proofs.Totals.{three-rows}
+use Rattle.eos_residual.proofs.Points.{first-psi, other-psi}
 use Rattle.eos_residual.proofs.sum.non_analytic_sums.Statement.{statement}
 use Rattle.eos_residual.proofs.sum.non_analytic_sums.Tie as tie
 
 returns : tie.Need-returns
-unfolding onto nonAnalyticFigures nonAnalytics critical
+unfolding nonAnalytics critical
 returns c =
     let c2 = c .before .before in
     let c1 = c2 .before .before in
-    let t = c1 .before .before .before in
-    let s = t .before in
+    let s = c1 .before .before .before in
     let a = s .args in
     let d = a .p .delta in
-    let n = around d in
+    let psi = first-psi (a .iso) (a .p) (s .pre .0) in
     let e = s .pre .1 in
-    let first = psi-first (a .iso) (a .p) (s .pre .0) in
-    let its : (i : ℕ) → getD (t .non-analytics .result) i blank ≡ row i = λ i. ap (λ (l : List NonAnalytic). getD l i blank) (t .non-analytics .ensures) in
     let near = ap (λ (x : Critical). x .near) e in
     λ k h.
-    figures-added _ (row 2) _ n _ (parts (row 2) n (a .iso .tau)) _ (psi (row 2) n (a .iso .psi)) d (a .iso .tau) (c2 .add-figures2 .result) (c .add-figures3 .result) k (its 2) near (ap (λ (x : Critical). x .third) e) (psi-other (a .iso) (a .p) (s .pre .0)) (c .add-figures3 .ensures)
-    ∙ ap (λ (u : Worked). u +ᵂ nonAnalyticFigure (a .iso) d k (row 2))
-    (figures-added _ (row 1) _ n _ (parts (row 1) n (a .iso .tau)) _ (psi (row 1) n (a .iso .psi)) d (a .iso .tau) (c1 .add-figures .result) (c2 .add-figures2 .result) k (its 1) near (ap (λ (x : Critical). x .second) e) first (c2 .add-figures2 .ensures)
-    ∙ ap (λ (u : Worked). u +ᵂ nonAnalyticFigure (a .iso) d k (row 1))
-    (figures-added _ (row 0) _ n _ (parts (row 0) n (a .iso .tau)) _ (psi (row 0) n (a .iso .psi)) d (a .iso .tau) (a .start) (c1 .add-figures .result) k (its 0) near (ap (λ (x : Critical). x .first) e) first (c1 .add-figures .ensures)))
+    three-rows (a .iso) d k _ _ _ _
+    (figures-added (a .all) (a .iso) d row40 (a .start) (c1 .add-figures .result)
+    (c1 .before .non-analytic-row .ensures) near (ap (λ (x : Critical). x .first) e) psi (c1 .add-figures .ensures) k h)
+    (figures-added (a .all) (a .iso) d row41 (c1 .add-figures .result) (c2 .add-figures2 .result)
+    (c2 .before .non-analytic-row2 .ensures) near (ap (λ (x : Critical). x .second) e) psi (c2 .add-figures2 .ensures) k h)
+    (figures-added (a .all) (a .iso) d row42 (c2 .add-figures2 .result) (c .add-figures3 .result)
+    (c .before .non-analytic-row3 .ensures) near (ap (λ (x : Critical). x .third) e) (other-psi (a .iso) (a .p) (s .pre .0))
+    (c .add-figures3 .ensures) k h)
 
 pub non-analytic-sums-spec : {M : Type 1} → statement M
 non-analytic-sums-spec =
@@ -44,12 +37,11 @@ non-analytic-sums-spec =
     (tie.spec
     (λ c κs. search needs)
     (λ c. search needs)
-    (λ c. search needs)
+    (λ c κs. search needs)
     (λ c κs. search needs)
     (λ c. search needs)
-    (λ c. search needs)
     (λ c κs. search needs)
-    (λ c. search needs)
+    (λ c κs. search needs)
     (λ c. search needs)
     (λ c κs. search needs)
     returns)

@@ -1,16 +1,14 @@
--- A sum that is asked for grows by its row's figure, tested. Assumes nothing.
+-- A sum grows by its row's figure, tested. Assumes nothing.
 use mathlib.Core.Path.{_≡_, refl, ap, _∙_}
-use mathlib.Core.Bool.{Bool}
-use lib.Dec.{T}
 use lib.Ieee.{Float}
 use Rattle.num_working.specs.Working.{checked, _+ᵂ_}
 use Rattle.num_working.specs.declared.Worked.{Worked}
 use Rattle.num_working.proofs.Workings.{checked-add}
-use Rattle.num_formulas.specs.Formula.{Formula, num, _⊗_, value}
+use Rattle.num_formulas.specs.Formula.{num, _⊕_, _⊗_, value}
 use Rattle.num_formulas.proofs.Formulas.{once}
-use Rattle.eos_brackets.specs.Derivative.{Derivative, Delta, DeltaDelta, Tau, TauTau, DeltaTau, of, grown, asked}
+use Rattle.eos_brackets.specs.Derivative.{Derivative, Delta, DeltaDelta, Tau, TauTau, DeltaTau, of, five}
 use Rattle.eos_brackets.specs.declared.Five.{Five}
-use Rattle.eos_brackets.proofs.Derivatives.{of-grown}
+use Rattle.eos_brackets.proofs.Derivatives.{of-five}
 use Rattle.eos_rows.specs.declared.NonAnalytic.{NonAnalytic}
 use Rattle.eos_isotherm.specs.declared.Isotherm.{Isotherm}
 use Rattle.eos_non_analytic.specs.Parts.{Around, Parts, around, parts, psi, near, edge, heldNear, heldEdge}
@@ -28,18 +26,27 @@ held row n p delta tau Tau = refl
 held row n p delta tau TauTau = refl
 held row n p delta tau DeltaTau = refl
 
-module _ (all : Bool) (iso : Isotherm) (delta : Float) (row : NonAnalytic) where
-  abbrev bracket : NonAnalytic → Near → Edge → Derivative → Float
-  bracket w x y k = value (nonAnalyticBracket w (heldNear x) (heldEdge y) delta (iso .tau) k)
+-- ---- from what code has of a row: of each of the five sums alike
+module _ (iso : Isotherm) (delta : Float) (w : NonAnalytic) (x : Near) (y : Edge) (z : Float) where
+  abbrev sum : Float → Derivative → Float
+  sum s k = value (num s ⊕ nonAnalyticTerm w delta (num z) ⊗ nonAnalyticBracket w (heldNear x) (heldEdge y) delta (iso .tau) k)
 
-  -- from what code has of the row
-  pub figures-added : (s v : Five) {w : NonAnalytic} {x : Near} {y : Edge} {z : Float}
+  abbrev pub Added : Derivative → Float → Float → Type 0
+  Added k s v = v ≡ sum s k
+
+  abbrev pub AllAdded : Five → Five → Type 0
+  AllAdded s v = v ≡ five (λ k. sum (of s k) k)
+
+  pub each-added : (k : Derivative) (s v : Five) → AllAdded s v → Added k (of s k) (of v k)
+  each-added k s v e = ap (λ (u : Five). of u k) e ∙ of-five (λ j. sum (of s j) j) k
+
+  pub figure-added : (k : Derivative) (row : NonAnalytic) (s v : Float)
       → w ≡ row → x ≡ near (around delta) → y ≡ edge (parts row (around delta) (iso .tau)) → z ≡ value (psi row (around delta) (iso .psi))
-      → v ≡ grown all s (value (nonAnalyticTerm w delta (num z))) (bracket w x y)
-      → (k : Derivative) → T (asked all k) → checked (of v k) ≡ checked (of s k) +ᵂ nonAnalyticFigure iso delta k row
+      → Added k s v → checked v ≡ checked s +ᵂ nonAnalyticFigure iso delta k row
   unfolding value
-  figures-added s v {w} {x} {y} {z} a b c d e k h =
+  figure-added k row s v a b c d e =
       let n = around delta in
-      let figure = nonAnalyticTerm row delta (psi row n (iso .psi)) ⊗ nonAnalyticBracket row n (parts row n (iso .tau)) delta (iso .tau) k in
-      rw (e, of-grown all s (value (nonAnalyticTerm w delta (num z))) (bracket w x y) k h, a, b, c, d, held row n (parts row n (iso .tau)) delta (iso .tau) k)
-      (checked-add (of s k) _ ∙ ap (λ (u : Worked). checked (of s k) +ᵂ u) (once figure))
+      let p = parts row n (iso .tau) in
+      rw (e, a, b, c, d, held row n p delta (iso .tau) k)
+      (checked-add s _ ∙ ap (λ (u : Worked). checked s +ᵂ u)
+      (once (nonAnalyticTerm row delta (psi row n (iso .psi)) ⊗ nonAnalyticBracket row n p delta (iso .tau) k)))

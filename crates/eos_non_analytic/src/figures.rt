@@ -1,8 +1,8 @@
 // The figures of rows 40 to 42, the term (n·δ)·Ψ times the bracket of each derivative (004, Table 32), added to the sums
 // so far: all five, or the first, which a pressure needs.
 ghost use mathlib.Core.Path.{_≡_};
-ghost use Rattle.num_formulas.specs.Formula.{num, value};
-ghost use Rattle.eos_brackets.specs.Derivative.{Delta, five, grown};
+ghost use Rattle.num_formulas.specs.Formula.{num, _⊕_, _⊗_, value};
+ghost use Rattle.eos_brackets.specs.Derivative.{Delta, of, five};
 ghost use Rattle.eos_non_analytic.specs.Parts.{heldNear, heldEdge};
 ghost use Rattle.eos_non_analytic.specs.Figures.{m, bracketsBy, nonAnalyticTerm, nonAnalyticBracket};
 use crate::parts::Edge;
@@ -19,7 +19,7 @@ fn m_of(row: NonAnalytic, n: Near, edge: Edge) -> f64
     row.ka * edge.theta * (20.0 / 3.0) * n.v + 2.0 * row.kb * row.a * edge.low
 }
 
-// The first bracket alone, which a pressure needs.
+// The first bracket alone.
 fn slope_bracket(row: NonAnalytic, n: Near, edge: Edge, delta: f64, tau: f64) -> f64
     ensures { λ r. ⌜ r ≡ value (nonAnalyticBracket row (heldNear n) (heldEdge edge) delta tau Delta) ⌝ }
 {
@@ -74,9 +74,8 @@ fn brackets(row: NonAnalytic, n: Near, edge: Edge, delta: f64, tau: f64) -> Five
     brackets_by(row, n, edge, m, p2, delta, tau)
 }
 
-// The sums so far, and a row's figures added to those that are asked for. psi is its Ψ.
+// The sums so far, and a row's figures added. psi is its Ψ.
 pub fn add_figures(
-    all: bool,
     s: Five,
     row: NonAnalytic,
     n: Near,
@@ -85,23 +84,27 @@ pub fn add_figures(
     delta: f64,
     tau: f64,
 ) -> Five
-    ensures { λ r. ⌜ r ≡ grown all s (value (nonAnalyticTerm row delta (num psi))) (λ k. value (nonAnalyticBracket row (heldNear n) (heldEdge edge) delta tau k)) ⌝ }
+    ensures { λ r. ⌜ r ≡ five (λ k. value (num (of s k) ⊕ nonAnalyticTerm row delta (num psi) ⊗ nonAnalyticBracket row (heldNear n) (heldEdge edge) delta tau k)) ⌝ }
 {
-    let term = row.n * delta * psi;
-    if all {
-        return grow(true, s, term, brackets(row, n, edge, delta, tau));
-    }
-    let d = slope_bracket(row, n, edge, delta, tau);
     grow(
-        false,
+        true,
         s,
-        term,
-        Five {
-            d,
-            dd: d,
-            t: d,
-            tt: d,
-            dt: d,
-        },
+        row.n * delta * psi,
+        brackets(row, n, edge, delta, tau),
     )
+}
+
+// The first sum so far, which a pressure needs, and the row's figure of it. Apart from the five, so that it stays short where it is worked.
+pub fn add_slope(
+    s: f64,
+    row: NonAnalytic,
+    n: Near,
+    edge: Edge,
+    psi: f64,
+    delta: f64,
+    tau: f64,
+) -> f64
+    ensures { λ r. ⌜ r ≡ value (num s ⊕ nonAnalyticTerm row delta (num psi) ⊗ nonAnalyticBracket row (heldNear n) (heldEdge edge) delta tau Delta) ⌝ }
+{
+    s + row.n * delta * psi * slope_bracket(row, n, edge, delta, tau)
 }

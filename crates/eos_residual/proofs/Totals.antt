@@ -5,13 +5,12 @@ use mathlib.Core.List.{List, _++_}
 use native.Mathlib.Omega.{arith}
 use lib.Ieee.{Float, nan, inf, fin}
 use lib.Ieee.Scale.{finite}
-use Rattle.num_working.specs.Working.{checked, _+ᵂ_}
+use Rattle.num_working.specs.Working.{checked}
 use Rattle.num_working.specs.declared.Worked.{Worked}
 use Rattle.eos_brackets.specs.Derivative.{Derivative, Delta, DeltaDelta, Tau, TauTau, DeltaTau, of}
 use Rattle.eos_brackets.specs.declared.Five.{Five}
-use Rattle.eos_rows.specs.Row.{nonAnalytics, row40, row41, row42}
 use Rattle.eos_isotherm.specs.declared.Isotherm.{Isotherm}
-use Rattle.eos_non_analytic.specs.Figures.{nonAnalyticFigure, nonAnalyticFigures}
+use Rattle.eos_non_analytic.specs.Figures.{nonAnalyticFigures}
 use Rattle.eos_residual.specs.Sum.{onto, total, polynomialFigures, exponentialFigures, gaussianFigures, figures, residual, allFive}
 use Rattle.eos_residual.specs.declared.sum.Sums.{Sums}
 use Rattle.eos_residual.specs.declared.sum.Sums.the-variants.{Summed, Broken}
@@ -30,15 +29,6 @@ module _ (iso : Isotherm) (delta : Float) (k : Derivative) where
 
   abbrev N : List Worked
   N = nonAnalyticFigures iso delta k
-
-  -- rows 40 to 42, from what each adds
-  pub three-rows : (w x y z : Worked)
-      → x ≡ w +ᵂ nonAnalyticFigure iso delta k row40
-      → y ≡ x +ᵂ nonAnalyticFigure iso delta k row41
-      → z ≡ y +ᵂ nonAnalyticFigure iso delta k row42
-      → z ≡ onto w N
-  unfolding onto nonAnalyticFigures nonAnalytics
-  three-rows w x y z p q r = rw (r, q, p) refl
 
   -- all 42, from what each kind came to
   pub in-turn : (w x y z : Worked) → w ≡ total P → x ≡ onto w E → y ≡ onto x G → z ≡ onto y N → z ≡ residual iso delta k

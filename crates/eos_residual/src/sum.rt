@@ -2,7 +2,7 @@
 // row's term is worked once for all that are asked for, in plain f64, and each sum is tested once, at its end. What hangs
 // on the temperature comes with the isotherm.
 ghost use mathlib.Core.Path.{_≡_};
-ghost use mathlib.Core.Bool.{_&&_};
+ghost use mathlib.Core.Bool.{true, _&&_};
 ghost use lib.Ieee.Scale.{finite};
 ghost use Rattle.num_working.specs.Working.{checked};
 ghost use Rattle.num_formulas.specs.Formula.{num, value};
@@ -18,6 +18,7 @@ use eos_brackets::grow;
 use eos_brackets::times;
 use eos_isotherm::Isotherm;
 use eos_non_analytic::figures::add_figures;
+use eos_non_analytic::figures::add_slope;
 use eos_non_analytic::parts::Critical;
 use eos_non_analytic::parts::at_critical;
 use eos_rows::Exponential;
@@ -143,18 +144,50 @@ fn gaussian_sums(all: bool, start: Five, iso: Isotherm, p: Point) -> Five
     s
 }
 
-// Rows 40 to 42.
+// Rows 40 to 42, of all five sums.
+fn non_analytic_five(start: Five, iso: Isotherm, p: Point, c: Critical) -> Five
+    requires { ⌜ p ≡ point iso (p .delta) ⌝ }
+    requires { ⌜ c ≡ critical iso (p .delta) ⌝ }
+    ensures { λ v. ⌜ Meet true v (λ k. onto (checked (of start k)) (nonAnalyticFigures iso (p .delta) k)) ⌝ }
+{
+    let d = p.delta;
+    let t = iso.tau;
+    let z = p.psis;
+    let s40 = add_figures(start, non_analytic_row(0), c.near, c.first, z[0], d, t);
+    let s41 = add_figures(s40, non_analytic_row(1), c.near, c.second, z[0], d, t);
+    add_figures(s41, non_analytic_row(2), c.near, c.third, z[1], d, t)
+}
+
+// Of the first alone.
+fn non_analytic_slope(start: f64, iso: Isotherm, p: Point, c: Critical) -> f64
+    requires { ⌜ p ≡ point iso (p .delta) ⌝ }
+    requires { ⌜ c ≡ critical iso (p .delta) ⌝ }
+    ensures { λ v. ⌜ checked v ≡ onto (checked start) (nonAnalyticFigures iso (p .delta) Delta) ⌝ }
+{
+    let d = p.delta;
+    let t = iso.tau;
+    let z = p.psis;
+    let s40 = add_slope(start, non_analytic_row(0), c.near, c.first, z[0], d, t);
+    let s41 = add_slope(s40, non_analytic_row(1), c.near, c.second, z[0], d, t);
+    add_slope(s41, non_analytic_row(2), c.near, c.third, z[1], d, t)
+}
+
+// Of those that are asked for.
 fn non_analytic_sums(all: bool, start: Five, iso: Isotherm, p: Point, c: Critical) -> Five
     requires { ⌜ p ≡ point iso (p .delta) ⌝ }
     requires { ⌜ c ≡ critical iso (p .delta) ⌝ }
     ensures { λ v. ⌜ Meet all v (λ k. onto (checked (of start k)) (nonAnalyticFigures iso (p .delta) k)) ⌝ }
 {
-    let d = p.delta;
-    let t = iso.tau;
-    let z = p.psis;
-    let s40 = add_figures(all, start, non_analytic_row(0), c.near, c.first, z[0], d, t);
-    let s41 = add_figures(all, s40, non_analytic_row(1), c.near, c.second, z[0], d, t);
-    add_figures(all, s41, non_analytic_row(2), c.near, c.third, z[1], d, t)
+    if all {
+        return non_analytic_five(start, iso, p, c);
+    }
+    Five {
+        d: non_analytic_slope(start.d, iso, p, c),
+        dd: start.dd,
+        t: start.t,
+        tt: start.tt,
+        dt: start.dt,
+    }
 }
 
 // All 42, in plain f64. Rows 40 to 42 wait longest for their roots, so these are begun before the sums.

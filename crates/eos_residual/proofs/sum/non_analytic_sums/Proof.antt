@@ -1,47 +1,42 @@
--- The three rows one after the other. Assumes nothing.
-use mathlib.Core.Path.{_≡_, ap}
+-- Of the first alone no other is asked for. Assumes nothing.
+use mathlib.Core.Path.{_≡_, subst}
+use mathlib.Core.Bool.{Bool, false}
+use lib.Dec.{T}
+use lib.Ieee.{Float}
 use borrow.Author.Needs.{needs}
-use Rattle.eos_rows.specs.Row.{nonAnalytics, row40, row41, row42}
-use Rattle.eos_non_analytic.specs.Parts.{critical}
-use Rattle.eos_non_analytic.specs.declared.parts.Critical.{Critical}
-use Rattle.eos_non_analytic.proofs.Rows.{figures-added}
-use Rattle.eos_residual.proofs.Totals.{three-rows}
-use Rattle.eos_residual.proofs.Points.{first-psi, other-psi}
+use Rattle.num_working.specs.Working.{checked}
+use Rattle.num_working.specs.declared.Worked.{Worked}
+use Rattle.eos_brackets.specs.Derivative.{Derivative, Delta, DeltaDelta, Tau, TauTau, DeltaTau, asked, of}
+use Rattle.eos_brackets.specs.declared.Five.{Five}
+use Rattle.eos_brackets.proofs.Derivatives.{all-asked}
+use Rattle.eos_non_analytic.specs.Figures.{nonAnalyticFigures}
+use Rattle.eos_residual.specs.Sum.{onto, Meet}
 use Rattle.eos_residual.proofs.sum.non_analytic_sums.Statement.{statement}
 use Rattle.eos_residual.proofs.sum.non_analytic_sums.Tie as tie
 
+first-alone : (start : Five) (d : Float) (goal : Derivative → Worked) → checked d ≡ goal Delta
+    → Meet false (record { d = d; dd = start .dd; t = start .t; tt = start .tt; dt = start .dt }) goal
+first-alone start d goal e Delta h = e
+first-alone start d goal e DeltaDelta h = absurd h
+first-alone start d goal e Tau h = absurd h
+first-alone start d goal e TauTau h = absurd h
+first-alone start d goal e DeltaTau h = absurd h
+
 returns : tie.Need-returns
-unfolding nonAnalytics critical
-returns c =
-    let c2 = c .before .before in
-    let c1 = c2 .before .before in
-    let s = c1 .before .before .before in
-    let a = s .args in
-    let d = a .p .delta in
-    let psi = first-psi (a .iso) (a .p) (s .pre .0) in
-    let e = s .pre .1 in
-    let near = ap (λ (x : Critical). x .near) e in
-    λ k h.
-    three-rows (a .iso) d k _ _ _ _
-    (figures-added (a .all) (a .iso) d row40 (a .start) (c1 .add-figures .result)
-    (c1 .before .non-analytic-row .ensures) near (ap (λ (x : Critical). x .first) e) psi (c1 .add-figures .ensures) k h)
-    (figures-added (a .all) (a .iso) d row41 (c1 .add-figures .result) (c2 .add-figures2 .result)
-    (c2 .before .non-analytic-row2 .ensures) near (ap (λ (x : Critical). x .second) e) psi (c2 .add-figures2 .ensures) k h)
-    (figures-added (a .all) (a .iso) d row42 (c2 .add-figures2 .result) (c .add-figures3 .result)
-    (c .before .non-analytic-row3 .ensures) near (ap (λ (x : Critical). x .third) e) (other-psi (a .iso) (a .p) (s .pre .0))
-    (c .add-figures3 .ensures) k h)
+returns c = λ k h. c .non-analytic-five .ensures k (all-asked k)
+
+returns-2 : tie.Need-returns-2
+returns-2 c =
+    let a = c .before .before .args in
+    let goal : Derivative → Worked = λ k. onto (checked (of (a .start) k)) (nonAnalyticFigures (a .iso) (a .p .delta) k) in
+    λ k h. first-alone (a .start) (c .non-analytic-slope .result) goal (c .non-analytic-slope .ensures) k
+    (subst (λ (b : Bool). T (asked b k)) (c .before .if1 .left) h)
 
 pub non-analytic-sums-spec : {M : Type 1} → statement M
 non-analytic-sums-spec =
     tie.close
     (tie.spec
     (λ c κs. search needs)
-    (λ c. search needs)
+    returns
     (λ c κs. search needs)
-    (λ c κs. search needs)
-    (λ c. search needs)
-    (λ c κs. search needs)
-    (λ c κs. search needs)
-    (λ c. search needs)
-    (λ c κs. search needs)
-    returns)
+    returns-2)

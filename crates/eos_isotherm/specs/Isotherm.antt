@@ -1,4 +1,4 @@
--- What hangs on the temperature alone, in plain f64. Where τ or its quarter root fails, so does every sum (eos_residual, proofs/Failures.antt). Definitions only.
+-- What hangs on the temperature alone, in plain f64. Where τ or its quarter root fails, so does every sum (eos_residual, Failures). Definitions only.
 use Prim.Native.Nat.{ℕ, _-_, _/_, _%_}
 use mathlib.Core.Bool.{cond}
 use mathlib.Core.List.{List, _++_, map}

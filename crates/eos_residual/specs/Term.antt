@@ -1,4 +1,4 @@
--- The terms and brackets of rows 1 to 39 (docs/ARRANGEMENT.md, sections 2 to 5; 004, Tables 31 and 32), and what is worked once for a density. Definitions only.
+-- The terms and brackets of rows 1 to 39 (docs/ARRANGEMENT.md, sections 2 to 5; 004, Tables 31 and 32); what is worked once for a density. Definitions only.
 use Prim.Native.Nat.{ℕ, suc}
 use mathlib.Core.List.{List, [], _∷_, map}
 use lib.ListN.{getD}

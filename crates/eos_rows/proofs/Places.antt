@@ -1,4 +1,4 @@
--- A table by place: its last row stands at every place past the end, which is what the last arm of a match on the place returns; and a test over the whole table holds at each place. Assumes nothing.
+-- A table by place: its last row at every place past the end, as the last arm of a match has it; a test over the table holds at each. Assumes nothing.
 use mathlib.Core.Path.{_≡_, refl}
 use mathlib.Core.Bool.{Bool, true, _&&_}
 use mathlib.Core.List.{List, [], _∷_}

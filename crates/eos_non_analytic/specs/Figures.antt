@@ -64,7 +64,7 @@ module _ (row : NonAnalytic) (n : Around) (p : Parts) where
       (τ ^^ 2 ⊗ (Pττ ⊕ two ⊗ Pτ ⊗ ψτ ⊕ P₀ ⊗ ψττ))
       (τ ⊗ (P₀ ⊗ ψτ ⊗ g ⊕ l ⊗ ψτ ⊕ Pτ ⊗ g ⊕ δ ⊗ Pδτ))
 
-  -- P₂ = P₁/Δ
+  -- P₂ = P₁/Δ, which stands in the second derivatives alone
   abbrev pub nonAnalyticBracket : Float → Float → Derivative → Formula
   nonAnalyticBracket = bracketsBy m (p .P₁ ⊘ p .Δ)
 

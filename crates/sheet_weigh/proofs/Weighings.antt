@@ -10,9 +10,9 @@ use borrow.Author.Tests.{leb-true}
 use Rattle.num_working.specs.Number.{whole}
 use Rattle.num_whole.specs.Whole.{wholeBelow}
 use Rattle.num_whole.specs.declared.Below.{Below}
-use Rattle.sheet_report.specs.declared.Weighed.{Weighed}
-use Rattle.sheet_line.specs.declared.line.Reading.{Reading}
-use Rattle.sheet_weigh.specs.Weighing.{isVolume, milligrams, mass, asked, answered, filled}
+use Rattle.door_answers.specs.declared.Answer.{Answer}
+use Rattle.sheet_outcome.specs.declared.Weighed.{Weighed}
+use Rattle.sheet_weigh.specs.Weighing.{isVolume, mass, milligrams, answered, filled}
 
 pub in-float : (v : ℕ) → v ≤ 1_000_000 → T (inFloat binary64 (pos v))
 unfolding inFloat
@@ -30,10 +30,10 @@ pub mass-of : (rho : Float) (v : ℕ) (b : Below) → b ≡ wholeBelow (mul bina
 unfolding milligrams
 mass-of rho v b e = ap mass e
 
-pub out-of-range : (t : Float) (r : Reading) (v : ℕ) → isVolume v ≡ false → Weighed.Refused 2 ≡ filled t r v
+pub out-of-range : (v : ℕ) (a : Answer) → isVolume v ≡ false → Weighed.Refused 2 ≡ filled v a
 unfolding filled
-out-of-range t r v e = rw e refl
+out-of-range v a e = rw e refl
 
-pub in-range : (t : Float) (r : Reading) (v : ℕ) → isVolume v ≡ true → answered (asked t r) v ≡ filled t r v
+pub in-range : (v : ℕ) (a : Answer) → isVolume v ≡ true → answered a v ≡ filled v a
 unfolding filled
-in-range t r v e = rw e refl
+in-range v a e = rw e refl

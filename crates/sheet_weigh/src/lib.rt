@@ -109,7 +109,7 @@ pub fn weigh(l: Line) -> Weighed
     by_reading(temperature, v, reading)
 }
 
-// Each line's milligrams or refusal.
+// Each line's milligrams or refusal: "i counts the cylinder lines from 1".
 fn weigh_all(s: Sheet) -> Marks
     requires { ⌜ s .count ≤ 32 ⌝ }
     ensures { λ r. ⌜ r ≡ marksFor (marked document01 (take (s .count) (s .lines))) ⌝ }
@@ -119,11 +119,11 @@ fn weigh_all(s: Sheet) -> Marks
     };
     let mut marks = [none; 32];
     let n = s.count;
-    let mut i: usize = 0;
-    while i < n {
-        let l = s.lines[i];
+    let mut i: usize = 1;
+    while i <= n {
+        let l = s.lines[i - 1];
         let w = weigh(l);
-        marks[i] = Mark { weighed: w };
+        marks[i - 1] = Mark { weighed: w };
         i += 1;
     }
     Marks {

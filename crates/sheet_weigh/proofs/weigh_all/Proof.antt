@@ -1,6 +1,6 @@
 -- Before the i-th line the array holds the marks of those above it. Assumes nothing.
-use mathlib.Core.Path.{_≡_, refl, sym, _∙_}
-use Prim.Native.Nat.{_-_, _≤_}
+use mathlib.Core.Path.{_≡_, refl, ap, _∙_}
+use Prim.Native.Nat.{_+_, _-_, _≤_}
 use native.Mathlib.Omega.{arith}
 use borrow.Author.Needs.{needs}
 use lib.ListN.{length, take}
@@ -14,30 +14,32 @@ use Rattle.sheet_weigh.proofs.weigh_all.Statement.{statement}
 use Rattle.sheet_weigh.proofs.weigh_all.Tie as tie
 
 abbrev Inv-loop : tie.InvT-loop
-Inv-loop s marks₀ n i₀ marks i = (i ≤ n) × (marks ≡ held document01 (s .lines) i)
+Inv-loop s marks₀ n i₀ marks i = (1 ≤ i) × (i ≤ n + 1) × (marks ≡ held document01 (s .lines) (i - 1))
 
 abbrev μ-loop : tie.MeasureT-loop
-μ-loop s marks₀ n i₀ marks i = n - i
+μ-loop s marks₀ n i₀ marks i = n + 1 - i
 
 loop-holds : tie.Need-loop-holds Inv-loop μ-loop
 unfolding marksFor marked padded
-loop-holds c = (omega arith, refl)
+loop-holds c = (omega arith, omega arith, refl)
 
 loop-again : tie.Need-loop-again Inv-loop μ-loop
 loop-again c =
     let l = c .before .before .before in
     let ls = l .before .args .t1 .lines in
+    let i = l .loop .i in
     let size : length ls ≡ 32 = search (needs, unmapped) in
-    (omega arith, held-more document01 ls (l .loop .i) _ _ _ (omega arith) (omega arith) (c .weigh .ensures) (l .loop .inv .1))
+    let next : i - 1 + 1 ≡ i + 1 - 1 = omega arith in
+    (omega arith, omega arith, held-more document01 ls (i - 1) _ _ _ (omega arith) (omega arith) (c .weigh .ensures) (l .loop .inv .2) ∙ ap (held document01 ls) next)
 
 returns : tie.Need-returns Inv-loop μ-loop
 unfolding marksFor
 returns c =
     let s = c .before .before .args .t1 in
     let size : length (s .lines) ≡ 32 = search (needs, unmapped) in
-    let all : c .before .loop .i ≡ s .count = omega arith in
+    let all : c .before .loop .i - 1 ≡ s .count = omega arith in
     let many : length (marked document01 (take (s .count) (s .lines))) ≡ s .count = marked-length document01 _ ∙ length-take-le (s .count) (s .lines) (omega arith) in
-    rw (c .before .loop .inv .1, all, many)
+    rw (c .before .loop .inv .2, all, many)
 
 pub weigh-all-spec : {M : Type 1} → statement M
 weigh-all-spec =
@@ -48,7 +50,9 @@ weigh-all-spec =
     loop-holds
     (λ c. search needs)
     (λ c. search needs)
+    (λ c. search needs)
     (λ c κs. search needs)
+    (λ c. search needs)
     (λ c. search needs)
     (λ c. search needs)
     (λ c. search needs)

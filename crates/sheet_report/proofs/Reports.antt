@@ -29,8 +29,12 @@ number-of (Weighed.Refused number) = number
 
 pub line-size : (i : ℕ) (w : Weighed) → length (lineBytes i w) ≡ length (decimal i) + length (decimal (number-of w)) + 6
 unfolding weighedBytes
-line-size i (Weighed.Mass mg) = omega (arith, line-length i (Weighed.Mass mg), between-length (ascii "L ") i (ascii " "), between-length (ascii "M ") mg (ascii "\n"))
-line-size i (Weighed.Refused n) = omega (arith, line-length i (Weighed.Refused n), between-length (ascii "L ") i (ascii " "), between-length (ascii "R ") n (ascii "\n"))
+line-size i (Weighed.Mass mg) =
+    let front = between-length (ascii "L ") i (ascii " ") in
+    omega (arith, line-length i (Weighed.Mass mg), front, between-length (ascii "M ") mg (ascii "\n"))
+line-size i (Weighed.Refused n) =
+    let front = between-length (ascii "L ") i (ascii " ") in
+    omega (arith, line-length i (Weighed.Refused n), front, between-length (ascii "R ") n (ascii "\n"))
 
 -- ---- the marks of a sheet's lines
 

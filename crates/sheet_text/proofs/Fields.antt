@@ -42,7 +42,8 @@ module _ (s : List ℕ) (at : ℕ) where
     unfolding field
     field-bad n e = rw (front s at h, ne-eqb _ _ n, e)
 
-    pub field-digits : (getD s at 0 ≡ 45 → ⊥) → digit (getD s at 0) ≡ true → (v : ℕ) → v ≡ getD s at 0 - 48 → field (drop at s) ≡ digitsAfter v (drop (at + 1) s)
+    pub field-digits : (getD s at 0 ≡ 45 → ⊥) → digit (getD s at 0) ≡ true → (v : ℕ) → v ≡ getD s at 0 - 48
+        → field (drop at s) ≡ digitsAfter v (drop (at + 1) s)
     unfolding field
     field-digits n e v ev = rw (front s at h, ne-eqb _ _ n, e, ev)
 

@@ -25,7 +25,8 @@ returns c =
     let m = l .before .args .t1 in
     let size : length (m .marks) ≡ 32 = search (needs, unmapped) in
     let h = counted m size (omega arith) in
-    one-refused (marksOf m) (l .loop .sum) (l .loop .i) (l .loop .inv .2) pastEnd (omega (arith, h)) _ (mark-there m size (omega arith) (l .loop .i) _ (omega arith) (c .enum-told .given .1))
+    let w = mark-there m size (omega arith) (l .loop .i) _ (omega arith) (c .enum-told .given .1) in
+    one-refused (marksOf m) (l .loop .sum) (l .loop .i) (l .loop .inv .2) pastEnd (omega (arith, h)) _ w
 
 -- the milligrams that a turn comes to
 add-sum : tie.Need-add-sum Inv-loop μ-loop

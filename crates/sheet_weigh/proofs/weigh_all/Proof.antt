@@ -30,7 +30,8 @@ loop-again c =
     let i = l .loop .i in
     let size : length ls ≡ 32 = search (needs, unmapped) in
     let next : i - 1 + 1 ≡ i + 1 - 1 = omega arith in
-    (omega arith, omega arith, held-more document01 ls (i - 1) _ _ _ (omega arith) (omega arith) (c .weigh .ensures) (l .loop .inv .2) ∙ ap (held document01 ls) next)
+    let more = held-more document01 ls (i - 1) _ _ _ (omega arith) (omega arith) (c .weigh .ensures) (l .loop .inv .2) in
+    (omega arith, omega arith, more ∙ ap (held document01 ls) next)
 
 returns : tie.Need-returns Inv-loop μ-loop
 unfolding marksFor
@@ -38,7 +39,8 @@ returns c =
     let s = c .before .before .args .t1 in
     let size : length (s .lines) ≡ 32 = search (needs, unmapped) in
     let all : c .before .loop .i - 1 ≡ s .count = omega arith in
-    let many : length (marked document01 (take (s .count) (s .lines))) ≡ s .count = marked-length document01 _ ∙ length-take-le (s .count) (s .lines) (omega arith) in
+    let many : length (marked document01 (take (s .count) (s .lines))) ≡ s .count
+    = marked-length document01 _ ∙ length-take-le (s .count) (s .lines) (omega arith) in
     rw (c .before .loop .inv .2, all, many)
 
 pub weigh-all-spec : {M : Type 1} → statement M

@@ -1,7 +1,11 @@
 -- No second answer meets a public function's promise. Assumes nothing.
 use Rattle.num_working.proofs.Unique.{OneAnswer, by-equation}
 use Rattle.door_checks.specs.declared.Check.{Check}
-use Rattle.door_checks.proofs.check_inputs.Reads as check-inputs
+use Rattle.door_checks.proofs.in_range.Reads as in-range
+use Rattle.door_checks.proofs.out_of_box.Reads as out-of-box
 
-pub check-inputs-once : OneAnswer Check (check-inputs.Post tt)
-check-inputs-once a r s x y = by-equation
+pub in-range-once : OneAnswer Check (in-range.Post tt)
+in-range-once a r s x y = by-equation
+
+pub out-of-box-once : OneAnswer Check (out-of-box.Post tt)
+out-of-box-once a r s x y = by-equation

@@ -1,22 +1,20 @@
--- The checks on a door's inputs. Definitions only.
-use mathlib.Core.Bool.{Bool, true, false, _&&_, not}
+-- The checks on a door's inputs (document 01, "The doors, step by step"), x being the pressure or the density. Definitions only.
+use mathlib.Core.Bool.{cond, _&&_, not}
 use lib.Ieee.{Float}
 use lib.Ieee.Scale.{finite}
 use Rattle.door_limits.specs.Limits.{outside}
 use Rattle.door_limits.specs.declared.Range.{Range}
-use Rattle.door_limits.specs.declared.Limits.{Limits}
 use Rattle.door_checks.specs.declared.Check.{Check}
 use Rattle.door_checks.specs.declared.Check.the-variants.{Passed, No}
 
-abbrev pub if : Bool → Check → Check → Check
-if true a b = a
-if false a b = b
+-- "3 an input is infinite or not a number; 4 temperature out of range; 5 pressure or density out of range", in this order
+unfoldable pub ranged : Range → Range → Float → Float → Check
+ranged temperature value t x =
+    cond (not (finite t && finite x)) (No 3)
+    (cond (outside temperature t) (No 4)
+    (cond (outside value x) (No 5)
+    Passed))
 
--- "3 an input is infinite or not a number; 4 temperature out of range; 5 pressure or density out of range; 6 inside the critical box", in this order
-unfoldable pub checks : Limits → Range → Range → Float → Float → Check
-checks l asked critical t x =
-    if (not (finite t && finite x)) (No 3)
-    (if (outside (l .asked .temperature) t) (No 4)
-    (if (outside asked x) (No 5)
-    (if (not (outside (l .critical .temperature) t) && not (outside critical x)) (No 6)
-    Passed)))
+-- "6 inside the critical box"
+unfoldable pub boxed : Range → Range → Float → Float → Check
+boxed temperature value t x = cond (not (outside temperature t) && not (outside value x)) (No 6) Passed

@@ -1,9 +1,8 @@
-// The checks on a door's inputs, "3, 4, 5, 6 on its inputs" (document 01).
+// The checks on a door's inputs (document 01, "The doors, step by step"), in two pieces: 3, 4 and 5, and 6.
 ghost use mathlib.Core.Path.{_≡_};
 ghost use mathlib.Core.Bool.{_&&_};
 ghost use lib.Ieee.Scale.{finite};
-ghost use Rattle.door_checks.specs.Check.{checks};
-use door_limits::Limits;
+ghost use Rattle.door_checks.specs.Check.{boxed, ranged};
 use door_limits::Range;
 use door_limits::is_outside;
 use num_working::is_finite;
@@ -19,23 +18,30 @@ fn are_finite(x: f64, y: f64) -> bool
     if is_finite(x) { is_finite(y) } else { false }
 }
 
-// x is the pressure or the density, with its range and that of its critical box.
-pub fn check_inputs(l: Limits, asked: Range, critical: Range, t: f64, x: f64) -> Check
-    ensures { λ r. ⌜ r ≡ checks l asked critical t x ⌝ }
+// 3, 4 and 5: x is the pressure or the density, with its range.
+pub fn in_range(temperature: Range, value: Range, t: f64, x: f64) -> Check
+    ensures { λ r. ⌜ r ≡ ranged temperature value t x ⌝ }
 {
     if are_finite(t, x) {} else {
         return Check::No(3);
     }
-    if is_outside(l.asked.temperature, t) {
+    if is_outside(temperature, t) {
         return Check::No(4);
     }
-    if is_outside(asked, x) {
+    if is_outside(value, x) {
         return Check::No(5);
     }
-    if is_outside(l.critical.temperature, t) {
+    Check::Passed
+}
+
+// 6, with the ranges of the critical box.
+pub fn out_of_box(temperature: Range, value: Range, t: f64, x: f64) -> Check
+    ensures { λ r. ⌜ r ≡ boxed temperature value t x ⌝ }
+{
+    if is_outside(temperature, t) {
         return Check::Passed;
     }
-    if is_outside(critical, x) {
+    if is_outside(value, x) {
         return Check::Passed;
     }
     Check::No(6)

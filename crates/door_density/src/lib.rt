@@ -1,75 +1,81 @@
 // The density door: the state at a temperature and a density (document 01, "The doors, step by step"). A step of the
 // definition and a function of the same shape.
 ghost use mathlib.Core.Path.{_≡_};
-ghost use Rattle.door_limits.specs.Limits.{document01};
 ghost use Rattle.equation.specs.Equation.{of1996};
-ghost use Rattle.door_density.specs.DensityDoor.{inPhase, below, within, densityDoor};
+ghost use Rattle.door_density.specs.DensityDoor.{inPhase, below, within, unboxed, densityDoor};
 use door_answers::Answer;
-use door_answers::Phase;
-use door_answers::refusal;
-use door_answers::settle;
+use door_answers::answer_with;
 use door_checks::Check;
-use door_checks::check_inputs;
-use door_limits::document_01;
+use door_checks::in_range;
+use door_checks::out_of_box;
+use door_limits::Limits;
 use door_limits::is_outside;
-use eos_constants::span_wagner;
-use eos_densities::liquid_density;
-use eos_densities::vapour_density;
-use eos_isotherm::at_temperature;
-use eos_pressure::pressure_on;
-use eos_state::state_on;
+use eos_state::Phase;
+use equation::critical_temperature;
+use equation::curve_at;
+use equation::liquid_density;
+use equation::pressure_on;
+use equation::state_on;
+use equation::vapour_density;
 use num_working::Worked;
 
-fn in_phase(phase: Phase, t: f64, rho: f64) -> Answer
-    ensures { λ r. ⌜ r ≡ inPhase of1996 document01 phase t rho ⌝ }
+fn in_phase(l: Limits, phase: Phase, t: f64, rho: f64) -> Answer
+    ensures { λ r. ⌜ r ≡ inPhase of1996 l phase t rho ⌝ }
 {
-    let l = document_01();
-    let iso = at_temperature(t);
-    let Worked::Number(p) = pressure_on(iso, rho) else {
+    let curve = curve_at(t);
+    let Worked::Number(p) = pressure_on(curve, rho) else {
         return Answer::Refused(7);
     };
     if is_outside(l.asked.pressure, p) {
         return Answer::Refused(5);
     }
-    settle(phase, state_on(iso, rho))
+    answer_with(state_on(curve, phase, rho))
 }
 
 // Below the critical temperature.
-fn beneath(t: f64, rho: f64) -> Answer
-    ensures { λ r. ⌜ r ≡ below of1996 document01 t rho ⌝ }
+fn beneath(l: Limits, t: f64, rho: f64) -> Answer
+    ensures { λ r. ⌜ r ≡ below of1996 l t rho ⌝ }
 {
-    let Worked::Number(v) = vapour_density(t) else {
+    let Worked::Number(vapour) = vapour_density(t) else {
         return Answer::Refused(7);
     };
-    let Worked::Number(l) = liquid_density(t) else {
+    let Worked::Number(liquid) = liquid_density(t) else {
         return Answer::Refused(7);
     };
-    if v < rho {
-        if rho < l {
+    if vapour < rho {
+        if rho < liquid {
             return Answer::Refused(8);
         }
-        return in_phase(Phase::Liquid, t, rho);
+        return in_phase(l, Phase::Liquid, t, rho);
     }
-    in_phase(Phase::Vapour, t, rho)
+    in_phase(l, Phase::Vapour, t, rho)
 }
 
 // Past the checks.
-fn enter(t: f64, rho: f64) -> Answer
-    ensures { λ r. ⌜ r ≡ within of1996 document01 t rho ⌝ }
+fn enter(l: Limits, t: f64, rho: f64) -> Answer
+    ensures { λ r. ⌜ r ≡ within of1996 l t rho ⌝ }
 {
-    if span_wagner().temperature <= t {
-        return in_phase(Phase::Supercritical, t, rho);
+    if critical_temperature() <= t {
+        return in_phase(l, Phase::Supercritical, t, rho);
     }
-    beneath(t, rho)
+    beneath(l, t, rho)
 }
 
-pub fn from_density(t: f64, rho: f64) -> Answer
-    ensures { λ r. ⌜ r ≡ densityDoor of1996 document01 t rho ⌝ }
+// Past 3, 4 and 5.
+fn unbox(l: Limits, t: f64, rho: f64) -> Answer
+    ensures { λ r. ⌜ r ≡ unboxed of1996 l t rho ⌝ }
 {
-    let l = document_01();
-    let c = check_inputs(l, l.asked.density, l.critical.density, t, rho);
-    let Check::Passed = c else {
-        return refusal(c);
-    };
-    enter(t, rho)
+    match out_of_box(l.critical.temperature, l.critical.density, t, rho) {
+        Check::No(n) => Answer::Refused(n),
+        Check::Passed => enter(l, t, rho),
+    }
+}
+
+pub fn from_density(l: Limits, t: f64, rho: f64) -> Answer
+    ensures { λ r. ⌜ r ≡ densityDoor of1996 l t rho ⌝ }
+{
+    match in_range(l.asked.temperature, l.asked.density, t, rho) {
+        Check::No(n) => Answer::Refused(n),
+        Check::Passed => unbox(l, t, rho),
+    }
 }

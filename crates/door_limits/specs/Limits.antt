@@ -1,9 +1,10 @@
--- Document 01, "Constants and ranges". Definitions only.
+-- Document 01, "Constants and ranges": what may be asked, and the ends of a search. Definitions only.
 use mathlib.Core.Bool.{Bool, true, cond}
 use lib.Ieee.{Float, lt}
 use Rattle.num_working.specs.Number.{whole, decimal}
 use Rattle.door_limits.specs.declared.Range.{Range}
 use Rattle.door_limits.specs.declared.Limits.{Limits}
+use Rattle.door_limits.specs.declared.Ends.{Ends}
 
 abbrev pub range : Float → Float → Range
 range from to = record { from = from; to = to }
@@ -22,11 +23,11 @@ document01 = record {
     pressure = range (whole 7000000) (whole 8000000);
     density = range (decimal 3507 1) (decimal 5845 1);
   };
-  -- "range 0.05 to 1,400", "1.01 times saturated vapour density", "0.99 times saturated liquid density"
-  search = range (decimal 5 2) (whole 1400);
-  vapour = decimal 101 2;
-  liquid = decimal 99 2;
 }
+
+-- "range 0.05 to 1,400", "1.01 times saturated vapour density", "0.99 times saturated liquid density": whatever may be asked
+unfoldable pub searchEnds : Ends
+searchEnds = record { from = decimal 5 2; to = whole 1400; vapour = decimal 101 2; liquid = decimal 99 2 }
 
 -- "both allowed", "ends inside"
 abbrev pub outside : Range → Float → Bool

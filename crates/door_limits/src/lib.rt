@@ -1,6 +1,6 @@
-// Document 01, "Constants and ranges": ends are inside.
+// What may be asked of a door, and the ends of a search (document 01, "Constants and ranges"). Ends are inside.
 ghost use mathlib.Core.Path.{_≡_};
-ghost use Rattle.door_limits.specs.Limits.{outside, document01};
+ghost use Rattle.door_limits.specs.Limits.{outside, document01, searchEnds};
 
 pub struct Range {
     pub from: f64,
@@ -13,13 +13,18 @@ pub struct Region {
     pub density: Range,
 }
 
+// A client's: what may be asked, and the critical box, its temperatures with its pressures for the pressure door and with its
+// densities for the density door.
 pub struct Limits {
     pub asked: Region,
-    // the critical box: its temperatures with its pressures for the pressure door, with its densities for the density door
     pub critical: Region,
-    // the densities that a search runs over: of vapour up to 1.01 times the saturated vapour's, of liquid from 0.99 times
-    // the saturated liquid's
-    pub search: Range,
+}
+
+// Those of every search: its densities, of vapour up to so many times the saturated vapour's, of liquid from so many times
+// the saturated liquid's.
+pub struct Ends {
+    pub from: f64,
+    pub to: f64,
     pub vapour: f64,
     pub liquid: f64,
 }
@@ -53,18 +58,23 @@ const DOCUMENT_01: Limits = Limits {
             to: 584.5,
         },
     },
-    search: Range {
-        from: 0.05,
-        to: 1400.0,
-    },
-    vapour: 1.01,
-    liquid: 0.99,
 };
 
 pub fn document_01() -> Limits
     ensures { λ r. ⌜ r ≡ document01 ⌝ }
 {
     DOCUMENT_01
+}
+
+pub fn search_ends() -> Ends
+    ensures { λ r. ⌜ r ≡ searchEnds ⌝ }
+{
+    Ends {
+        from: 0.05,
+        to: 1400.0,
+        vapour: 1.01,
+        liquid: 0.99,
+    }
 }
 
 pub fn is_outside(r: Range, x: f64) -> bool

@@ -12,21 +12,21 @@ use Rattle.num_working.specs.Number.{nonneg}
 use Rattle.num_halving.specs.Halving.{NotAbove, Above, Worthy, worthy}
 use Rattle.num_working.specs.declared.Worked.the-variants.{Number}
 use Rattle.num_working.proofs.Numbers.{infinity}
-use Rattle.eos_isotherm.specs.declared.Isotherm.{Isotherm}
-use Rattle.eos_pressure.specs.Pressure.{pressureOn}
-use Rattle.eos_pressure.proofs.Pressures.{pressure-finite}
+use Rattle.equation.specs.declared.Curve.{Curve}
+use Rattle.equation.specs.Equation.{pressureOn}
+use Rattle.equation.proofs.Curves.{pressure-finite}
 use Rattle.door_pressure.specs.Search.{figure}
 
 -- ---- what a probe shows
-module _ (iso : Isotherm) (p : Float) (b : ℕ) (x : Float) (e : pressureOn iso (ofBits binary64 b) ≡ Number x) where
-  pub is-above : lt p x ≡ true → Above (figure (pressureOn iso)) p b
-  is-above h = record { number = x; worked = e; bounded = pressure-finite iso (ofBits binary64 b) x e; stands = h }
+module _ (curve : Curve) (p : Float) (b : ℕ) (x : Float) (e : pressureOn curve (ofBits binary64 b) ≡ Number x) where
+  pub is-above : lt p x ≡ true → Above (figure (pressureOn curve)) p b
+  is-above h = record { number = x; worked = e; bounded = pressure-finite curve (ofBits binary64 b) x e; stands = h }
 
-  pub is-not-above : lt p x ≡ false → NotAbove (figure (pressureOn iso)) p b
-  is-not-above h = record { number = x; worked = e; bounded = pressure-finite iso (ofBits binary64 b) x e; stands = h }
+  pub is-not-above : lt p x ≡ false → NotAbove (figure (pressureOn curve)) p b
+  is-not-above h = record { number = x; worked = e; bounded = pressure-finite curve (ofBits binary64 b) x e; stands = h }
 
-pub is-worthy : (iso : Isotherm) (b : ℕ) (x : Float) → pressureOn iso (ofBits binary64 b) ≡ Number x → Worthy (figure (pressureOn iso)) b
-is-worthy iso b x e = worthy x e (pressure-finite iso (ofBits binary64 b) x e)
+pub is-worthy : (curve : Curve) (b : ℕ) (x : Float) → pressureOn curve (ofBits binary64 b) ≡ Number x → Worthy (figure (pressureOn curve)) b
+is-worthy curve b x e = worthy x e (pressure-finite curve (ofBits binary64 b) x e)
 
 -- ---- bits
 not-minus : (x : Float) (a c : ℕ) → HasValue x true a c → T (nonneg x) → ⊥

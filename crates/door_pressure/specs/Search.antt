@@ -1,12 +1,11 @@
 -- The search for a density: "Halve with the worked pressure as the figure and the asked one as the target. Then work the state at the found density". Definitions only.
 use lib.Ieee.{Float, binary64, ofBits, toBits}
-use Rattle.num_halving.specs.Halving.{Figure, halve}
 use Rattle.num_working.specs.declared.Worked.{Worked}
+use Rattle.num_halving.specs.Halving.{Figure, halve}
 use Rattle.num_halving.specs.declared.Crossing.{Crossing}
 use Rattle.num_halving.specs.declared.Crossing.the-variants.{At, Nowhere, Broke}
 use Rattle.eos_state.specs.declared.Stated.{Stated}
-use Rattle.door_answers.specs.Answer.{settled}
-use Rattle.door_answers.specs.declared.Phase.{Phase}
+use Rattle.door_answers.specs.Answer.{answered}
 use Rattle.door_answers.specs.declared.Answer.{Answer}
 use Rattle.door_answers.specs.declared.Answer.the-variants as answer
 
@@ -15,11 +14,11 @@ abbrev pub figure : (Float → Worked) → Figure
 figure pressure b = pressure (ofBits binary64 b)
 
 -- "9: no crossing", "not finite: 7"
-abbrev pub found : (Float → Stated) → Phase → Crossing → Answer
-found state phase (At b) = settled phase (state (ofBits binary64 b))
-found state phase Nowhere = answer.Refused 9
-found state phase Broke = answer.Refused 7
+abbrev pub found : (Float → Stated) → Crossing → Answer
+found state (At b) = answered (state (ofBits binary64 b))
+found state Nowhere = answer.Refused 9
+found state Broke = answer.Refused 7
 
--- over the floats from one density to another, with the pressure and the state at a density on the temperature's isotherm
-unfoldable pub searched : (Float → Worked) → (Float → Stated) → Phase → Float → Float → Float → Answer
-searched pressure state phase from to p = found state phase (halve (figure pressure) p (toBits binary64 from) (toBits binary64 to))
+-- over the floats from one density to another, with the pressure and the state at a density on the temperature's curve
+unfoldable pub searched : (Float → Worked) → (Float → Stated) → Float → Float → Float → Answer
+searched pressure state from to p = found state (halve (figure pressure) p (toBits binary64 from) (toBits binary64 to))

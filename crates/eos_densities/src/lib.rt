@@ -1,11 +1,10 @@
 // The saturated densities at a temperature (004, eqs. (3.14) and (3.15); document 01, "How a number is worked", for the
 // roots). A working that fails is refusal 7.
 ghost use mathlib.Core.Path.{_≡_};
-ghost use Rattle.num_working.specs.Working.{checked, plain};
+ghost use Rattle.num_working.specs.Working.{plain};
 ghost use Rattle.num_roots.specs.Root as Root;
 ghost use Rattle.num_formulas.specs.Formula.{num, value};
-ghost use Rattle.eos_densities.specs.Density.{eq-3-14, eq-3-15, liquidSum, vapourSum, densityOf, aboveZero};
-ghost use Rattle.eos_densities.specs.Density.{liquidDensity, vapourDensity};
+ghost use Rattle.eos_densities.specs.Density.{liquidSum, vapourSum, aboveZero, densityOf, liquidDensity, vapourDensity};
 use eos_constants::Printed;
 use eos_constants::span_wagner;
 use eos_constants::worked_as;
@@ -18,46 +17,6 @@ use num_working::Worked;
 use num_working::checked;
 use num_working::plain;
 
-// The coefficients of eq. (3.14).
-struct Four {
-    a1: f64,
-    a2: f64,
-    a3: f64,
-    a4: f64,
-}
-
-// Those of eq. (3.15).
-struct Five {
-    a1: f64,
-    a2: f64,
-    a3: f64,
-    a4: f64,
-    a5: f64,
-}
-
-fn liquid_coefficients() -> Four
-    ensures { λ r. ⌜ r ≡ eq-3-14 ⌝ }
-{
-    Four {
-        a1: 1.9245108,
-        a2: -0.62385555,
-        a3: -0.32731127,
-        a4: 0.39245142,
-    }
-}
-
-fn vapour_coefficients() -> Five
-    ensures { λ r. ⌜ r ≡ eq-3-15 ⌝ }
-{
-    Five {
-        a1: -1.7074879,
-        a2: -0.82274670,
-        a3: -4.6008549,
-        a4: -10.111178,
-        a5: -29.742252,
-    }
-}
-
 // A root in a formula that is tested at its end.
 fn to(x: f64, e: Exponent) -> f64
     ensures { λ r. ⌜ r ≡ plain (Root.root e x) ⌝ }
@@ -65,32 +24,32 @@ fn to(x: f64, e: Exponent) -> f64
     plain(root(x, e))
 }
 
+// Eq. (3.14), in plain f64.
 fn liquid_sum(theta: f64) -> f64
-    ensures { λ r. ⌜ r ≡ value (liquidSum theta) ⌝ }
+    ensures { λ r. ⌜ r ≡ value (liquidSum (num theta)) ⌝ }
 {
-    let a = liquid_coefficients();
-    let first = a.a1 * to(theta, worked_as(Printed::Of0_34));
-    let e = worked_as(Printed::Of10_6);
-    let third = a.a3 * to(theta, e);
-    ((first + a.a2 * to(theta, Exponent { m: 1, k: 2 })) + third)
-        + a.a4 * to(theta, Exponent { m: 11, k: 6 })
+    1.9245108 * to(theta, worked_as(Printed::Of0_34))
+        + -0.62385555 * to(theta, Exponent { m: 1, k: 2 })
+        + -0.32731127 * to(theta, worked_as(Printed::Of10_6))
+        + 0.39245142 * to(theta, Exponent { m: 11, k: 6 })
 }
 
+// Eq. (3.15), in plain f64.
 fn vapour_sum(theta: f64) -> f64
-    ensures { λ r. ⌜ r ≡ value (vapourSum theta) ⌝ }
+    ensures { λ r. ⌜ r ≡ value (vapourSum (num theta)) ⌝ }
 {
-    let a = vapour_coefficients();
-    let first = a.a1 * to(theta, worked_as(Printed::Of0_34));
-    let fourth = a.a4 * (whole_power(theta, 2) * to(theta, Exponent { m: 1, k: 3 }));
-    let fifth = a.a5 * (whole_power(theta, 4) * to(theta, Exponent { m: 2, k: 3 }));
-    (((first + a.a2 * to(theta, Exponent { m: 1, k: 2 })) + a.a3 * theta) + fourth) + fifth
+    -1.7074879 * to(theta, worked_as(Printed::Of0_34))
+        + -0.82274670 * to(theta, Exponent { m: 1, k: 2 })
+        + -4.6008549 * theta
+        + -10.111178 * (whole_power(theta, 2) * to(theta, Exponent { m: 1, k: 3 }))
+        + -29.742252 * (whole_power(theta, 4) * to(theta, Exponent { m: 2, k: 3 }))
 }
 
-// The density whose logarithm over the critical density is the sum.
-fn density_of(sum: f64) -> Worked
-    ensures { λ r. ⌜ r ≡ aboveZero (checked (value (densityOf (num sum)))) ⌝ }
+// A saturated density that is not above 0 is refusal 7.
+fn above_zero(w: Worked) -> Worked
+    ensures { λ r. ⌜ r ≡ aboveZero w ⌝ }
 {
-    let Worked::Number(x) = checked(span_wagner().density * plain(exponential(sum))) else {
+    let Worked::Number(x) = w else {
         return Worked::Failed;
     };
     if 0.0 < x {
@@ -100,20 +59,21 @@ fn density_of(sum: f64) -> Worked
     }
 }
 
+// The density whose logarithm over the critical density is the sum. One test stands for all: what has failed on the way is a NaN.
+fn density_of(sum: f64) -> Worked
+    ensures { λ r. ⌜ r ≡ densityOf (num sum) ⌝ }
+{
+    above_zero(checked(span_wagner().density * plain(exponential(sum))))
+}
+
 pub fn liquid_density(t: f64) -> Worked
     ensures { λ r. ⌜ r ≡ liquidDensity t ⌝ }
 {
-    let Worked::Number(theta) = theta_at(t) else {
-        return Worked::Failed;
-    };
-    density_of(liquid_sum(theta))
+    density_of(liquid_sum(plain(theta_at(t))))
 }
 
 pub fn vapour_density(t: f64) -> Worked
     ensures { λ r. ⌜ r ≡ vapourDensity t ⌝ }
 {
-    let Worked::Number(theta) = theta_at(t) else {
-        return Worked::Failed;
-    };
-    density_of(vapour_sum(theta))
+    density_of(vapour_sum(plain(theta_at(t))))
 }

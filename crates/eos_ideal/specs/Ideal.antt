@@ -1,9 +1,9 @@
 -- 004, section 6.1: the ideal part's τφ°_τ and τ²φ°_ττ, in the order of docs/ARRANGEMENT.md, section 8. Definitions only.
-use mathlib.Core.List.{List, [], _∷_}
+use mathlib.Core.List.{List, [], _∷_, foldl}
 use lib.Ieee as Ieee
 use lib.Ieee.{Float}
-use Rattle.num_working.specs.Number.{decimal, whole}
-use Rattle.num_formulas.specs.Formula.{Formula, num, _⊕_, _⊖_, _⊗_, _⊘_, minus, e^, value, work}
+use Rattle.num_working.specs.Number.{decimal}
+use Rattle.num_formulas.specs.Formula.{Formula, one, num, _⊕_, _⊖_, _⊗_, _⊘_, minus, e^, value, work}
 use Rattle.eos_ideal.specs.declared.Row.{Row}
 use Rattle.eos_ideal.specs.declared.Table.{Table}
 use Rattle.eos_ideal.specs.declared.Sums.{Sums}
@@ -25,46 +25,38 @@ table27 = record {
 abbrev pub rows : List Row
 rows = table27 .i4 ∷ table27 .i5 ∷ table27 .i6 ∷ table27 .i7 ∷ table27 .i8 ∷ []
 
--- E = e^(−θτ), and o = 1 − E
-abbrev pub decay : Float → Row → Formula
-decay τ i = e^ (minus (num (i .theta) ⊗ num τ))
+-- Eᵢ = e^(−θᵢτ), and oᵢ = 1 − Eᵢ
+abbrev pub E : Float → Row → Formula
+E τ i = e^ (minus (num (i .theta) ⊗ num τ))
 
-abbrev pub rest : Float → Row → Formula
-rest τ i = num (whole 1) ⊖ decay τ i
+abbrev pub o : Float → Row → Formula
+o τ i = one ⊖ E τ i
 
--- Table 28, φ°_τ: aθ[(1 − e^(−θτ))⁻¹ − 1]
-unfoldable pub slope : Float → Row → Formula
-slope τ i = num (i .a) ⊗ num (i .theta) ⊗ (num (whole 1) ⊘ rest τ i ⊖ num (whole 1))
+-- Table 28, a row of φ°_τ: aθ[(1 − e^(−θτ))⁻¹ − 1]
+unfoldable pub row-τ : Float → Row → Formula
+row-τ τ i = num (i .a) ⊗ num (i .theta) ⊗ (one ⊘ o τ i ⊖ one)
 
--- Table 28, φ°_ττ: aθ²e^(−θτ)(1 − e^(−θτ))⁻²
-unfoldable pub bend : Float → Row → Formula
-bend τ i = num (i .a) ⊗ (num (i .theta) ⊗ num (i .theta)) ⊗ decay τ i ⊘ (rest τ i ⊗ rest τ i)
+-- Table 28, a row of φ°_ττ: aθ²e^(−θτ)(1 − e^(−θτ))⁻²
+unfoldable pub row-ττ : Float → Row → Formula
+row-ττ τ i = num (i .a) ⊗ (num (i .theta) ⊗ num (i .theta)) ⊗ E τ i ⊘ (o τ i ⊗ o τ i)
 
--- Table 28, before the sums: a₂ + a₃/τ, and −a₃/τ²
+-- Table 28, before the rows: a₂ + a₃/τ, and −a₃/τ²
 abbrev pub head-τ : Table → Float → Formula
 head-τ t τ = num (t .a2) ⊕ num (t .a3) ⊘ num τ
 
 abbrev pub head-ττ : Table → Float → Formula
 head-ττ t τ = minus (num (t .a3) ⊘ (num τ ⊗ num τ))
 
--- row by row, onto what stands before
-abbrev pub onto : (Formula → Row → Formula) → Formula → List Row → Formula
-onto step s [] = s
-onto step s (i ∷ is) = onto step (step s i) is
-
--- φ°_τ adds its rows, φ°_ττ subtracts them
+-- φ°_τ adds its rows one by one, φ°_ττ subtracts them
 unfoldable pub phi-τ : Float → Formula
-phi-τ τ = onto (λ s i. s ⊕ slope τ i) (head-τ table27 τ) rows
+phi-τ τ = foldl (λ s i. s ⊕ row-τ τ i) (head-τ table27 τ) rows
 
 unfoldable pub phi-ττ : Float → Formula
-phi-ττ τ = onto (λ s i. s ⊖ bend τ i) (head-ττ table27 τ) rows
+phi-ττ τ = foldl (λ s i. s ⊖ row-ττ τ i) (head-ττ table27 τ) rows
 
 -- τφ°_τ and τ²φ°_ττ, as Table 3 needs them
 unfoldable pub idealPart : Float → Ideal
-idealPart τ = record {
-  first = work (num τ ⊗ phi-τ τ);
-  second = work (num τ ⊗ num τ ⊗ phi-ττ τ);
-}
+idealPart τ = record { first = work (num τ ⊗ phi-τ τ); second = work (num τ ⊗ num τ ⊗ phi-ττ τ) }
 
 -- the two sums as code works them, in plain f64
 abbrev pub sums : Formula → Formula → Sums

@@ -2,7 +2,7 @@
 // refusal 7; each of the two is worked on its own, so that one can fail and the other not.
 ghost use mathlib.Core.Path.{_≡_};
 ghost use Rattle.num_formulas.specs.Formula.{num, _⊕_, _⊖_};
-ghost use Rattle.eos_ideal.specs.Ideal.{table27, head-τ, head-ττ, slope, bend, sums, idealPart};
+ghost use Rattle.eos_ideal.specs.Ideal.{table27, head-τ, head-ττ, row-τ, row-ττ, phi-τ, phi-ττ, sums, idealPart};
 use num_exponential::exponential::exponential;
 use num_working::Worked;
 use num_working::checked;
@@ -69,7 +69,7 @@ fn table_27() -> Table
 }
 
 // What stands before the rows.
-fn start(t: Table, tau: f64) -> Sums
+fn heads(t: Table, tau: f64) -> Sums
     ensures { λ r. ⌜ r ≡ sums (head-τ t tau) (head-ττ t tau) ⌝ }
 {
     Sums {
@@ -79,8 +79,8 @@ fn start(t: Table, tau: f64) -> Sums
 }
 
 // One row more; its exponential is worked once for both.
-fn onto(s: Sums, i: Row, tau: f64) -> Sums
-    ensures { λ r. ⌜ r ≡ sums (num (s .first) ⊕ slope tau i) (num (s .second) ⊖ bend tau i) ⌝ }
+fn with_row(s: Sums, i: Row, tau: f64) -> Sums
+    ensures { λ r. ⌜ r ≡ sums (num (s .first) ⊕ row-τ tau i) (num (s .second) ⊖ row-ττ tau i) ⌝ }
 {
     let a = i.a;
     let theta = i.theta;
@@ -92,18 +92,24 @@ fn onto(s: Sums, i: Row, tau: f64) -> Sums
     }
 }
 
+fn all_rows(tau: f64) -> Sums
+    ensures { λ r. ⌜ r ≡ sums (phi-τ tau) (phi-ττ tau) ⌝ }
+{
+    let t = table_27();
+    let s3 = heads(t, tau);
+    let s4 = with_row(s3, t.i4, tau);
+    let s5 = with_row(s4, t.i5, tau);
+    let s6 = with_row(s5, t.i6, tau);
+    let s7 = with_row(s6, t.i7, tau);
+    with_row(s7, t.i8, tau)
+}
+
 pub fn ideal_part(tau: f64) -> Ideal
     ensures { λ r. ⌜ r ≡ idealPart tau ⌝ }
 {
-    let t = table_27();
-    let s3 = start(t, tau);
-    let s4 = onto(s3, t.i4, tau);
-    let s5 = onto(s4, t.i5, tau);
-    let s6 = onto(s5, t.i6, tau);
-    let s7 = onto(s6, t.i7, tau);
-    let s8 = onto(s7, t.i8, tau);
+    let s = all_rows(tau);
     Ideal {
-        first: checked(tau * s8.first),
-        second: checked((tau * tau) * s8.second),
+        first: checked(tau * s.first),
+        second: checked((tau * tau) * s.second),
     }
 }

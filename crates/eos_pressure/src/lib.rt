@@ -1,35 +1,30 @@
-// The pressure at a temperature and a density. What hangs on the temperature alone is worked once, as an isotherm, and
-// handed on by value, so that no probe of a search works it again.
+// The pressure on an isotherm at a density. What hangs on the temperature alone is worked once, as an isotherm, and handed on by
+// value, so that no probe of a search works it again.
 ghost use mathlib.Core.Path.{_≡_};
-ghost use Rattle.eos_pressure.specs.Pressure.{deltaOf, pressureOn, pressure};
+ghost use Rattle.num_formulas.specs.Formula.{value};
+ghost use Rattle.eos_pressure.specs.Pressure.{pressureFormula, pressureOn};
+use eos_constants::delta_at;
 use eos_constants::span_wagner;
 use eos_isotherm::Isotherm;
-use eos_isotherm::at_temperature;
 use eos_residual::sum::slope_at;
 use num_working::Worked;
 use num_working::checked;
 
-fn delta_at(rho: f64) -> Worked
-    ensures { λ r. ⌜ r ≡ deltaOf rho ⌝ }
+// p = ((ρ·R)·T)·(1 + δφ_δ), in plain f64, with a for δφ_δ: of a pressure alone and of a state.
+pub fn pressure_of(t: f64, rho: f64, a: f64) -> f64
+    ensures { λ r. ⌜ r ≡ value (pressureFormula t rho a) ⌝ }
 {
-    checked(rho / span_wagner().density)
+    rho * span_wagner().gas * t * (1.0 + a)
 }
 
 pub fn pressure_on(iso: Isotherm, rho: f64) -> Worked
     ensures { λ r. ⌜ r ≡ pressureOn iso rho ⌝ }
 {
-    let t = iso.t;
-    let Worked::Number(delta) = delta_at(rho) else {
+    let Worked::Number(delta) = checked(delta_at(rho)) else {
         return Worked::Failed;
     };
     let Worked::Number(a) = slope_at(iso, delta) else {
         return Worked::Failed;
     };
-    checked(rho * span_wagner().gas * t * (1.0 + a))
-}
-
-pub fn pressure_at(t: f64, rho: f64) -> Worked
-    ensures { λ r. ⌜ r ≡ pressure t rho ⌝ }
-{
-    pressure_on(at_temperature(t), rho)
+    checked(pressure_of(iso.t, rho, a))
 }

@@ -1,106 +1,121 @@
--- The pressure of a state is bit for bit the pressure alone, the state's temperature and density are those asked for, and what fails with the temperature. Assumes nothing.
-use mathlib.Core.Path.{_≡_, refl, sym, ap, _∙_}
+-- The pressure of a state is bit for bit the pressure alone; its temperature, density and phase are those asked for; its numbers don't hang on the phase; and what
+-- fails with the temperature. Assumes nothing.
+use mathlib.Core.Path.{_≡_, refl, ap, _∙_}
 use Prim.Native.Nat.{ℕ}
 use native.Mathlib.Omega.{arith}
 use lib.Ieee.{Float}
-use Rattle.num_working.specs.Working.{then}
+use Rattle.num_working.specs.Working.{orElse}
 use Rattle.num_working.specs.declared.Worked.{Worked}
 use Rattle.num_working.specs.declared.Worked.the-variants.{Number, Failed}
+use Rattle.num_working.proofs.Cases.{by-working}
 use Rattle.num_formulas.specs.Formula.{work}
-use Rattle.eos_isotherm.specs.declared.Isotherm.{Isotherm}
-use Rattle.eos_brackets.specs.Derivative.{Delta, DeltaDelta, Tau, TauTau, DeltaTau}
-use Rattle.eos_isotherm.specs.Isotherm.{quarterOf, isotherm}
-use Rattle.eos_residual.specs.Sum.{residual, allFive, fiveSums, thenSum}
+use Rattle.eos_constants.specs.Reduced.{delta}
+use Rattle.eos_brackets.specs.Derivative.{Derivative, Delta, DeltaDelta, Tau, TauTau, DeltaTau}
 use Rattle.eos_brackets.specs.declared.Five.{Five}
+use Rattle.eos_isotherm.specs.Isotherm.{quarterOf, isotherm}
+use Rattle.eos_isotherm.specs.declared.Isotherm.{Isotherm}
+use Rattle.eos_residual.specs.Sum.{residual, allFive, fiveSums}
 use Rattle.eos_residual.specs.declared.sum.Sums.{Sums}
 use Rattle.eos_residual.specs.declared.sum.Sums.the-variants.{Summed, Broken}
 use Rattle.eos_residual.proofs.Failures.{failed-with-temperature}
 use Rattle.eos_ideal.specs.Ideal.{idealPart}
-use Rattle.eos_pressure.specs.Pressure.{deltaOf, pressureFormula, pressureOn, pressure}
-use Rattle.eos_state.specs.State.{heatV, heatP, sound, energy, enthalpy, thenState, thenSums, stateWith, stateOf, stateIdeal, stateOn, state}
+use Rattle.eos_pressure.specs.Pressure.{pressureFormula, pressureOn}
+use Rattle.eos_state.specs.State.{energy, enthalpy, heatV, heatP, sound, stated, stateOf, stateIdeal, thenSums, stateOn, eight}
+use Rattle.eos_state.specs.declared.Phase.{Phase}
 use Rattle.eos_state.specs.declared.State.{State}
 use Rattle.eos_state.specs.declared.Stated.{Stated}
 use Rattle.eos_state.specs.declared.Stated.the-variants.{Known, Unknown}
 
--- a step that came to a state took a number
-data Took (w : Worked) (f : Float → Stated) (x : State) : Type 0 where
-  took : (n : Float) → w ≡ Number n → f n ≡ Known x → Took w f x
+-- ---- what a state says of how it was worked, with q for another phase
+pub record Keeps (t rho : Float) (p : Worked) (phase q : Phase) (a b : Stated) : Type 0 where
+  pub pressure : (x : State) → a ≡ Known x → p ≡ Number (x .p)
+  pub temperature : (x : State) → a ≡ Known x → x .t ≡ t
+  pub density : (x : State) → a ≡ Known x → x .rho ≡ rho
+  pub carried : (x : State) → a ≡ Known x → x .phase ≡ phase
+  pub same : (x y : State) → a ≡ Known x → b ≡ Known y → eight y ≡ eight x
 
-step : (w : Worked) (f : Float → Stated) (x : State) → thenState w f ≡ Known x → Took w f x
-step Failed f x e = let z : _≡_ {A = ℕ} 0 1 = cc in absurd (omega arith)
-step (Number n) f x e = took n refl e
+-- where nothing was worked there is nothing to say
+impossible : {A : Type 0} (x : State) → Unknown ≡ Known x → A
+impossible x e = let z : _≡_ {A = ℕ} 0 1 = cc in absurd (omega arith)
 
--- what the last two steps leave as it was
-module _ (t : Float) (s : Five) (i1 i2 : Float) where
-  kept : (rho p u h : Float) (x : State) → stateWith t s i1 i2 rho p u h ≡ Known x → (x .p ≡ p) × (x .t ≡ t) × (x .rho ≡ rho)
-  unfolding stateWith
-  kept rho p u h x e = elim (step (work (heatV t s i1 i2)) _ x e) [
-    | took cv a f ↦ elim (step (work (heatP t s i1 i2)) _ x f) [
-      | took cp b g ↦ elim (step (work (sound t s i1 i2)) _ x g) [
-        | took w c k ↦ (cc, cc, cc)
-      ]
-    ]
-  ]
+none : (t rho : Float) (p : Worked) (phase q : Phase) (b : Stated) → Keeps t rho p phase q Unknown b
+none t rho p phase q b = record {
+  pressure = λ x e. impossible x e;
+  temperature = λ x e. impossible x e;
+  density = λ x e. impossible x e;
+  carried = λ x e. impossible x e;
+  same = λ x y e f. impossible x e;
+}
 
--- the first of the five sums is the one that a pressure needs
-data TookFive (w : Worked) (f : Float → Sums) (s : Five) : Type 0 where
-  took-five : (n : Float) → w ≡ Number n → f n ≡ Summed s → TookFive w f s
+module _ (t rho : Float) (phase q : Phase) where
+  abbrev Kept : Worked → Stated → Stated → Type 0
+  Kept p a b = Keeps t rho p phase q a b
 
-step-five : (w : Worked) (f : Float → Sums) (s : Five) → thenSum w f ≡ Summed s → TookFive w f s
-step-five Failed f s e = let z : _≡_ {A = ℕ} 0 1 = cc in absurd (omega arith)
-step-five (Number n) f s e = took-five n refl e
+  -- ---- of Table 3
+  kept-stated : (p u h cv cp w : Worked) → Kept p (stated phase t rho p u h cv cp w) (stated q t rho p u h cv cp w)
+  kept-stated Failed u h cv cp w = none t rho Failed phase q _
+  kept-stated (Number p) Failed h cv cp w = none t rho (Number p) phase q _
+  kept-stated (Number p) (Number u) Failed cv cp w = none t rho (Number p) phase q _
+  kept-stated (Number p) (Number u) (Number h) Failed cp w = none t rho (Number p) phase q _
+  kept-stated (Number p) (Number u) (Number h) (Number cv) Failed w = none t rho (Number p) phase q _
+  kept-stated (Number p) (Number u) (Number h) (Number cv) (Number cp) Failed = none t rho (Number p) phase q _
+  kept-stated (Number p) (Number u) (Number h) (Number cv) (Number cp) (Number w) = record {
+    pressure = λ x e. cc;
+    temperature = λ x e. cc;
+    density = λ x e. cc;
+    carried = λ x e. cc;
+    same = λ x y e f. cc;
+  }
 
-first-sum : (iso : Isotherm) (delta : Float) (s : Five) → fiveSums iso delta ≡ Summed s → residual iso delta Delta ≡ Number (s .d)
-unfolding fiveSums allFive
-first-sum iso delta s e = elim (step-five (residual iso delta Delta) _ s e) [
-  | took-five d a f ↦ elim (step-five (residual iso delta DeltaDelta) _ s f) [
-    | took-five dd b g ↦ elim (step-five (residual iso delta Tau) _ s g) [
-      | took-five t c h ↦ elim (step-five (residual iso delta TauTau) _ s h) [
-        | took-five tt i j ↦ elim (step-five (residual iso delta DeltaTau) _ s j) [
-          | took-five dt k l ↦ let m : d ≡ s .d = cc in a ∙ ap Number m
-        ]
-      ]
-    ]
-  ]
-]
+  kept-of : (sums : Five) (i1 i2 : Float) → Kept (work (pressureFormula t rho (sums .d))) (stateOf phase t rho sums i1 i2) (stateOf q t rho sums i1 i2)
+  unfolding stateOf
+  kept-of sums i1 i2 =
+      kept-stated (work (pressureFormula t rho (sums .d))) (work (energy t sums i1)) (work (enthalpy t sums i1)) (work (heatV sums i2)) (work (heatP sums i2)) (work (sound t sums i2))
 
--- from the sums on
-from-sums : (t tau rho : Float) (s : Five) (x : State) → stateIdeal t tau rho s ≡ Known x → (work (pressureFormula t rho (s .d)) ≡ Number (x .p)) × (x .t ≡ t) × (x .rho ≡ rho)
-unfolding stateIdeal stateOf
-from-sums t tau rho s x e = elim (step (idealPart tau .first) _ x e) [
-  | took i1 a f ↦ elim (step (idealPart tau .second) _ x f) [
-    | took i2 b g ↦ elim (step (work (pressureFormula t rho (s .d))) _ x g) [
-      | took p c h ↦ elim (step (work (energy t s i1 i2)) _ x h) [
-        | took u d j ↦ elim (step (work (enthalpy t s i1 i2)) _ x j) [
-          | took k l m ↦ let y = kept t s i1 i2 rho p u k x m in (c ∙ ap Number (sym (y .0)), y .1, y .2)
-        ]
-      ]
-    ]
-  ]
-]
+  -- ---- with the ideal part
+  kept-with : (sums : Five) (v w : Worked) → Kept (work (pressureFormula t rho (sums .d)))
+      (orElse v Unknown (λ i1. orElse w Unknown (λ i2. stateOf phase t rho sums i1 i2)))
+      (orElse v Unknown (λ i1. orElse w Unknown (λ i2. stateOf q t rho sums i1 i2)))
+  kept-with sums Failed w = none t rho _ phase q _
+  kept-with sums (Number i1) Failed = none t rho _ phase q _
+  kept-with sums (Number i1) (Number i2) = kept-of sums i1 i2
 
--- on an isotherm
-pub pressure-of-state-on : (iso : Isotherm) (rho : Float) (x : State) → stateOn iso rho ≡ Known x → (pressureOn iso rho ≡ Number (x .p)) × (x .t ≡ iso .t) × (x .rho ≡ rho)
-unfolding stateOn pressureOn
-pressure-of-state-on iso rho x e = elim (step (deltaOf rho) _ x e) [
-  | took delta a f ↦ go delta a (fiveSums iso delta) refl f
-]
-  where
-    go : (delta : Float) → deltaOf rho ≡ Number delta → (v : Sums) → fiveSums iso delta ≡ v → thenSums v (stateIdeal (iso .t) (iso .tau) rho) ≡ Known x
-        → (then (deltaOf rho) (λ d. then (residual iso d Delta) (λ a. work (pressureFormula (iso .t) rho a))) ≡ Number (x .p)) × (x .t ≡ iso .t) × (x .rho ≡ rho)
-    go delta a Broken q f = let z : _≡_ {A = ℕ} 0 1 = cc in absurd (omega arith)
-    go delta a (Summed s) q f = let y = from-sums (iso .t) (iso .tau) rho s x f in (rw (a, first-sum iso delta s q) (y .0), y .1, y .2)
+-- ---- the first of the five sums is the one that a pressure needs
+module _ (v : Derivative → Worked) (s : Five) (e : allFive v ≡ Summed s) where
+  first-from : (a b c d f : Worked) → v Delta ≡ a → v DeltaDelta ≡ b → v Tau ≡ c → v TauTau ≡ d → v DeltaTau ≡ f → v Delta ≡ Number (s .d)
+  unfolding allFive
+  first-from Failed b c d f g h i j k = let y = rw g at e in let z : _≡_ {A = ℕ} 0 1 = cc in absurd (omega arith)
+  first-from (Number a) Failed c d f g h i j k = let y = rw (g, h) at e in let z : _≡_ {A = ℕ} 0 1 = cc in absurd (omega arith)
+  first-from (Number a) (Number b) Failed d f g h i j k = let y = rw (g, h, i) at e in let z : _≡_ {A = ℕ} 0 1 = cc in absurd (omega arith)
+  first-from (Number a) (Number b) (Number c) Failed f g h i j k = let y = rw (g, h, i, j) at e in let z : _≡_ {A = ℕ} 0 1 = cc in absurd (omega arith)
+  first-from (Number a) (Number b) (Number c) (Number d) Failed g h i j k = let y = rw (g, h, i, j, k) at e in let z : _≡_ {A = ℕ} 0 1 = cc in absurd (omega arith)
+  first-from (Number a) (Number b) (Number c) (Number d) (Number f) g h i j k = let y = rw (g, h, i, j, k) at e in let m : a ≡ s .d = cc in g ∙ ap Number m
 
--- THE PRESSURE OF A STATE IS THE PRESSURE ALONE, bit for bit
-pub pressure-of-state : (t rho : Float) (x : State) → state t rho ≡ Known x → (pressure t rho ≡ Number (x .p)) × (x .t ≡ t) × (x .rho ≡ rho)
-unfolding state pressure isotherm
-pressure-of-state t rho x e = pressure-of-state-on (isotherm t) rho x e
+  first-sum : v Delta ≡ Number (s .d)
+  first-sum = first-from (v Delta) (v DeltaDelta) (v Tau) (v TauTau) (v DeltaTau) refl refl refl refl refl
+
+-- ---- on an isotherm
+module _ (iso : Isotherm) (phase q : Phase) (rho : Float) where
+  kept-sums : (δ : Float) (v : Sums) → fiveSums iso δ ≡ v
+      → Keeps (iso .t) rho (orElse (residual iso δ Delta) Failed (λ a. work (pressureFormula (iso .t) rho a))) phase q
+      (thenSums v (stateIdeal phase iso rho)) (thenSums v (stateIdeal q iso rho))
+  unfolding fiveSums stateIdeal
+  kept-sums δ Broken e = none (iso .t) rho _ phase q _
+  kept-sums δ (Summed s) e = rw (first-sum (residual iso δ) s e) (kept-with (iso .t) rho phase q s (idealPart (iso .tau) .first) (idealPart (iso .tau) .second))
+
+  kept-from : (w : Worked)
+      → Keeps (iso .t) rho (orElse w Failed (λ δ. orElse (residual iso δ Delta) Failed (λ a. work (pressureFormula (iso .t) rho a)))) phase q
+      (orElse w Unknown (λ δ. thenSums (fiveSums iso δ) (stateIdeal phase iso rho))) (orElse w Unknown (λ δ. thenSums (fiveSums iso δ) (stateIdeal q iso rho)))
+  kept-from Failed = none (iso .t) rho _ phase q _
+  kept-from (Number δ) = kept-sums δ (fiveSums iso δ) refl
+
+  -- THE PRESSURE OF A STATE IS THE PRESSURE ALONE, bit for bit; T, ρ and the phase are those asked for; another phase has the same eight numbers
+  pub kept : Keeps (iso .t) rho (pressureOn iso rho) phase q (stateOn iso phase rho) (stateOn iso q rho)
+  unfolding pressureOn stateOn
+  kept = kept-from (work (delta rho))
 
 -- ---- where τ or its quarter root fails there is no state
-pub no-state : (t rho : Float) → work (quarterOf t) ≡ Failed → state t rho ≡ Unknown
-unfolding state stateOn fiveSums allFive
-no-state t rho e = go (deltaOf rho)
-  where
-    go : (w : Worked) → thenState w (λ d. thenSums (fiveSums (isotherm t) d) (stateIdeal (isotherm t .t) (isotherm t .tau) rho)) ≡ Unknown
-    go Failed = refl
-    go (Number d) = rw (failed-with-temperature t d Delta e) refl
+pub no-state : (t : Float) (phase : Phase) (rho : Float) → work (quarterOf t) ≡ Failed → stateOn (isotherm t) phase rho ≡ Unknown
+unfolding stateOn fiveSums allFive
+no-state t phase rho e =
+    by-working (λ s. s ≡ Unknown) (work (delta rho)) _ _ (λ _. refl) (λ d _. rw (failed-with-temperature t d Delta e) refl)

@@ -2,10 +2,6 @@
 use Rattle.num_working.proofs.Unique.{OneAnswer, by-equation}
 use Rattle.eos_state.specs.declared.Stated.{Stated}
 use Rattle.eos_state.proofs.state_on.Reads as state-on
-use Rattle.eos_state.proofs.state_at.Reads as state-at
 
 pub state-on-once : OneAnswer Stated (state-on.Post tt)
 state-on-once a r s x y = by-equation
-
-pub state-at-once : OneAnswer Stated (state-at.Post tt)
-state-at-once a r s x y = by-equation

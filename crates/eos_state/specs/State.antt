@@ -1,84 +1,111 @@
 -- The state at a temperature and a density (docs/ARRANGEMENT.md, section 9; 004, Table 3): each field by its own formula, or a failure. Definitions only.
 use lib.Ieee.{Float}
-use Rattle.eos_constants.specs.Constant.{spanWagner}
+use mathlib.Core.List.{List, [], _∷_}
+use Rattle.num_working.specs.Working.{orElse}
 use Rattle.num_working.specs.declared.Worked.{Worked}
-use Rattle.num_working.specs.declared.Worked.the-variants.{Number, Failed}
-use Rattle.num_formulas.specs.Formula.{Formula, num, one, two, _⊕_, _⊖_, _⊗_, _⊘_, minus, root, work}
-use Rattle.eos_isotherm.specs.Isotherm.{half, isotherm}
+use Rattle.num_formulas.specs.Formula.{Formula, num, one, two, _⊕_, _⊖_, _⊗_, _⊘_, minus, root, value, work}
+use Rattle.eos_constants.specs.Constant.{spanWagner}
+use Rattle.eos_constants.specs.Reduced.{delta}
+use Rattle.eos_isotherm.specs.Isotherm.{half}
 use Rattle.eos_isotherm.specs.declared.Isotherm.{Isotherm}
-use Rattle.eos_residual.specs.Sum.{fiveSums}
 use Rattle.eos_brackets.specs.declared.Five.{Five}
+use Rattle.eos_residual.specs.Sum.{fiveSums}
 use Rattle.eos_residual.specs.declared.sum.Sums.{Sums}
 use Rattle.eos_residual.specs.declared.sum.Sums.the-variants.{Summed, Broken}
 use Rattle.eos_ideal.specs.Ideal.{idealPart}
-use Rattle.eos_pressure.specs.Pressure.{deltaOf, pressureFormula}
+use Rattle.eos_pressure.specs.Pressure.{pressureFormula}
+use Rattle.eos_state.specs.declared.Phase.{Phase}
+use Rattle.eos_state.specs.declared.State.{State}
 use Rattle.eos_state.specs.declared.Stated.{Stated}
 use Rattle.eos_state.specs.declared.Stated.the-variants.{Known, Unknown}
 
-abbrev pub thenState : Worked → (Float → Stated) → Stated
-thenState Failed f = Unknown
-thenState (Number x) f = f x
+-- ---- Table 3, with S₁ to S₅ the sums, i1 = τφ°_τ and i2 = τ²φ°_ττ
+
+-- s = I₁ + S₃, and z = I₂ + S₄
+abbrev pub s : Five → Float → Formula
+s sums i1 = num i1 ⊕ num (sums .t)
+
+abbrev pub z : Five → Float → Formula
+z sums i2 = num i2 ⊕ num (sums .tt)
+
+-- g = (1 + S₁) − S₅, and k = (1 + 2·S₁) + S₂
+abbrev pub g : Five → Formula
+g sums = one ⊕ num (sums .d) ⊖ num (sums .dt)
+
+abbrev pub k : Five → Formula
+k sums = one ⊕ two ⊗ num (sums .d) ⊕ num (sums .dd)
+
+-- R·T
+abbrev pub thermal : Float → Formula
+thermal t = num (spanWagner .gas) ⊗ num t
+
+-- u, h, cᵥ, cₚ and the sound speed
+abbrev pub energy : Float → Five → Float → Formula
+energy t sums i1 = thermal t ⊗ s sums i1
+
+abbrev pub enthalpy : Float → Five → Float → Formula
+enthalpy t sums i1 = thermal t ⊗ (one ⊕ s sums i1 ⊕ num (sums .d))
+
+abbrev pub heatV : Five → Float → Formula
+heatV sums i2 = num (spanWagner .gas) ⊗ minus (z sums i2)
+
+abbrev pub heatP : Five → Float → Formula
+heatP sums i2 = num (spanWagner .gas) ⊗ (minus (z sums i2) ⊕ g sums ⊗ g sums ⊘ k sums)
+
+abbrev pub sound : Float → Five → Float → Formula
+sound t sums i2 = root half (thermal t ⊗ (k sums ⊖ g sums ⊗ g sums ⊘ z sums i2))
+
+-- ---- the state
+
+-- p, u, h, cᵥ, cₚ and w with T, ρ and the phase, where each was worked
+abbrev pub stated : Phase → Float → Float → Worked → Worked → Worked → Worked → Worked → Worked → Stated
+stated phase t rho p u h cv cp w =
+    orElse p Unknown (λ p.
+    orElse u Unknown (λ u.
+    orElse h Unknown (λ h.
+    orElse cv Unknown (λ cv.
+    orElse cp Unknown (λ cp.
+    orElse w Unknown (λ w.
+    Known (record { t = t; p = p; rho = rho; u = u; h = h; cv = cv; cp = cp; w = w; phase = phase })))))))
+
+unfoldable pub stateOf : Phase → Float → Float → Five → Float → Float → Stated
+stateOf phase t rho sums i1 i2 =
+    stated phase t rho (work (pressureFormula t rho (sums .d)))
+    (work (energy t sums i1))
+    (work (enthalpy t sums i1))
+    (work (heatV sums i2))
+    (work (heatP sums i2))
+    (work (sound t sums i2))
+
+-- with the ideal part at the isotherm's τ
+unfoldable pub stateIdeal : Phase → Isotherm → Float → Five → Stated
+stateIdeal phase iso rho sums =
+    orElse (idealPart (iso .tau) .first) Unknown (λ i1.
+    orElse (idealPart (iso .tau) .second) Unknown (λ i2.
+    stateOf phase (iso .t) rho sums i1 i2))
 
 abbrev pub thenSums : Sums → (Five → Stated) → Stated
 thenSums Broken f = Unknown
-thenSums (Summed s) f = f s
-
--- ---- Table 3, with S₁ to S₅ the sums, i1 = τφ°_τ and i2 = τ²φ°_ττ
-module _ (t : Float) (s : Five) (i1 i2 : Float) where
-  -- R·T
-  abbrev pub thermal : Formula
-  thermal = num (spanWagner .gas) ⊗ num t
-
-  -- s = τφ°_τ + τφʳ_τ, and z = τ²φ°_ττ + τ²φʳ_ττ
-  abbrev pub slant : Formula
-  slant = num i1 ⊕ num (s .t)
-
-  abbrev pub sag : Formula
-  sag = num i2 ⊕ num (s .tt)
-
-  -- g = (1 + δφʳ_δ) − δτφʳ_δτ, and k = (1 + 2δφʳ_δ) + δ²φʳ_δδ
-  abbrev pub pull : Formula
-  pull = one ⊕ num (s .d) ⊖ num (s .dt)
-
-  abbrev pub stiffness : Formula
-  stiffness = one ⊕ two ⊗ num (s .d) ⊕ num (s .dd)
-
-  abbrev pub energy : Formula
-  energy = thermal ⊗ slant
-
-  abbrev pub enthalpy : Formula
-  enthalpy = thermal ⊗ (one ⊕ slant ⊕ num (s .d))
-
-  abbrev pub heatV : Formula
-  heatV = num (spanWagner .gas) ⊗ minus sag
-
-  abbrev pub heatP : Formula
-  heatP = num (spanWagner .gas) ⊗ (minus sag ⊕ pull ⊗ pull ⊘ stiffness)
-
-  abbrev pub sound : Formula
-  sound = root half (thermal ⊗ (stiffness ⊖ pull ⊗ pull ⊘ sag))
-
-  -- the heat capacities and the sound speed, after p, u and h
-  unfoldable pub stateWith : Float → Float → Float → Float → Stated
-  stateWith rho p u h =
-      thenState (work heatV) (λ cv.
-      thenState (work heatP) (λ cp.
-      thenState (work sound) (λ w.
-      Known (record { t = t; p = p; rho = rho; u = u; h = h; cv = cv; cp = cp; w = w }))))
-
-  unfoldable pub stateOf : Float → Stated
-  stateOf rho =
-      thenState (work (pressureFormula t rho (s .d))) (λ p.
-      thenState (work energy) (λ u.
-      thenState (work enthalpy) (stateWith rho p u)))
-
--- with the ideal part at the isotherm's τ
-unfoldable pub stateIdeal : Float → Float → Float → Five → Stated
-stateIdeal t tau rho s = thenState (idealPart tau .first) (λ i1. thenState (idealPart tau .second) (λ i2. stateOf t s i1 i2 rho))
+thenSums (Summed sums) f = f sums
 
 -- on an isotherm, at a density
-unfoldable pub stateOn : Isotherm → Float → Stated
-stateOn iso rho = thenState (deltaOf rho) (λ delta. thenSums (fiveSums iso delta) (stateIdeal (iso .t) (iso .tau) rho))
+unfoldable pub stateOn : Isotherm → Phase → Float → Stated
+stateOn iso phase rho = orElse (work (delta rho)) Unknown (λ δ. thenSums (fiveSums iso δ) (stateIdeal phase iso rho))
 
-unfoldable pub state : Float → Float → Stated
-state t rho = stateOn (isotherm t) rho
+-- T, p, ρ, u, h, cᵥ, cₚ, w
+abbrev pub eight : State → List Float
+eight x = x .t ∷ x .p ∷ x .rho ∷ x .u ∷ x .h ∷ x .cv ∷ x .cp ∷ x .w ∷ []
+
+-- ---- what code inside asks for: Table 3 in plain f64, tested nowhere
+unfoldable pub plainly : Phase → Float → Float → Five → Float → Float → State
+plainly phase t rho sums i1 i2 = record {
+  t = t;
+  p = value (pressureFormula t rho (sums .d));
+  rho = rho;
+  u = value (energy t sums i1);
+  h = value (enthalpy t sums i1);
+  cv = value (heatV sums i2);
+  cp = value (heatP sums i2);
+  w = value (sound t sums i2);
+  phase = phase;
+}

@@ -1,20 +1,33 @@
-// The state at a temperature and a density: eight numbers, or a failure.
+// The state on an isotherm at a density (004, Table 3; docs/ARRANGEMENT.md, section 9): eight numbers and a phase, or a failure.
 ghost use mathlib.Core.Path.{_≡_};
-ghost use Rattle.eos_state.specs.State.{stateWith, stateOf, stateIdeal, stateOn, state};
+ghost use mathlib.Core.Bool.{_&&_};
+ghost use lib.Ieee.Scale.{finite};
+ghost use Rattle.num_working.specs.Working.{checked};
+ghost use Rattle.num_formulas.specs.Formula.{value};
+ghost use Rattle.eos_state.specs.State.{heatP, sound, plainly, stated, stateOf, stateIdeal, stateOn};
 use eos_brackets::Five;
+use eos_constants::delta_at;
 use eos_constants::span_wagner;
 use eos_ideal::ideal_part;
 use eos_isotherm::Isotherm;
-use eos_isotherm::at_temperature;
+use eos_pressure::pressure_of;
 use eos_residual::sum::Sums;
 use eos_residual::sum::five_sums;
 use num_roots::root::Exponent;
 use num_roots::root::root;
 use num_working::Worked;
 use num_working::checked;
+use num_working::is_finite;
 use num_working::over;
+use num_working::plain;
 
-// T, p, ρ, u, h, cᵥ, cₚ and the sound speed, in K, Pa, kg/m³, J and m/s.
+pub enum Phase {
+    Vapour,
+    Liquid,
+    Supercritical,
+}
+
+// T, p, ρ, u, h, cᵥ, cₚ and the sound speed, in K, Pa, kg/m³, J and m/s, and the phase.
 pub struct State {
     pub t: f64,
     pub p: f64,
@@ -24,6 +37,7 @@ pub struct State {
     pub cv: f64,
     pub cp: f64,
     pub w: f64,
+    pub phase: Phase,
 }
 
 pub enum Stated {
@@ -31,58 +45,82 @@ pub enum Stated {
     Unknown,
 }
 
-fn state_with(t: f64, s: Five, i1: f64, i2: f64, rho: f64, p: f64, u: f64, h: f64) -> Stated
-    ensures { λ r. ⌜ r ≡ stateWith t s i1 i2 rho p u h ⌝ }
+// cₚ in plain f64, with z, g and k as docs/ARRANGEMENT.md has them.
+fn heat_p(sums: Five, i2: f64) -> f64
+    ensures { λ r. ⌜ r ≡ value (heatP sums i2) ⌝ }
 {
+    let z = i2 + sums.tt;
+    let g = 1.0 + sums.d - sums.dt;
+    let k = 1.0 + 2.0 * sums.d + sums.dd;
+    span_wagner().gas * (-z + over(g * g, k))
+}
+
+// The sound speed in plain f64.
+fn sound_speed(t: f64, sums: Five, i2: f64) -> f64
+    ensures { λ r. ⌜ r ≡ value (sound t sums i2) ⌝ }
+{
+    let z = i2 + sums.tt;
+    let g = 1.0 + sums.d - sums.dt;
+    let k = 1.0 + 2.0 * sums.d + sums.dd;
+    let square = span_wagner().gas * t * (k - over(g * g, z));
+    plain(root(square, Exponent { m: 1, k: 2 }))
+}
+
+// Table 3 in plain f64.
+fn table_3(phase: Phase, t: f64, rho: f64, sums: Five, i1: f64, i2: f64) -> State
+    ensures { λ r. ⌜ r ≡ plainly phase t rho sums i1 i2 ⌝ }
+{
+    let p = pressure_of(t, rho, sums.d);
+    let cp = heat_p(sums, i2);
+    let w = sound_speed(t, sums, i2);
     let gas = span_wagner().gas;
-    let sag = i2 + s.tt;
-    let pull = 1.0 + s.d - s.dt;
-    let stiffness = 1.0 + 2.0 * s.d + s.dd;
-    let Worked::Number(cv) = checked(gas * -sag) else {
-        return Stated::Unknown;
-    };
-    let Worked::Number(cp) = checked(gas * (-sag + over(pull * pull, stiffness))) else {
-        return Stated::Unknown;
-    };
-    let Worked::Number(w) = root(
-        gas * t * (stiffness - over(pull * pull, sag)),
-        Exponent { m: 1, k: 2 },
-    ) else {
-        return Stated::Unknown;
-    };
-    Stated::Known(State {
+    let s = i1 + sums.t;
+    State {
         t,
         p,
         rho,
-        u,
-        h,
-        cv,
+        u: gas * t * s,
+        h: gas * t * (1.0 + s + sums.d),
+        cv: gas * -(i2 + sums.tt),
         cp,
         w,
-    })
+        phase,
+    }
 }
 
-fn state_of(t: f64, s: Five, i1: f64, i2: f64, rho: f64) -> Stated
-    ensures { λ r. ⌜ r ≡ stateOf t s i1 i2 rho ⌝ }
+fn are_finite(x: f64, y: f64, z: f64) -> bool
+    ensures { λ r. ⌜ r ≡ (finite x && (finite y && finite z)) ⌝ }
 {
-    let gas = span_wagner().gas;
-    let slant = i1 + s.t;
-    let Worked::Number(p) = checked(rho * gas * t * (1.0 + s.d)) else {
-        return Stated::Unknown;
-    };
-    let Worked::Number(u) = checked(gas * t * slant) else {
-        return Stated::Unknown;
-    };
-    let Worked::Number(h) = checked(gas * t * (1.0 + slant + s.d)) else {
-        return Stated::Unknown;
-    };
-    state_with(t, s, i1, i2, rho, p, u, h)
+    if is_finite(x) {
+        if is_finite(y) { is_finite(z) } else { false }
+    } else {
+        false
+    }
 }
 
-fn state_ideal(t: f64, tau: f64, rho: f64, s: Five) -> Stated
-    ensures { λ r. ⌜ r ≡ stateIdeal t tau rho s ⌝ }
+// A state whose every number is finite.
+fn tested(x: State) -> Stated
+    ensures { λ r. ⌜ r ≡ stated (x .phase) (x .t) (x .rho) (checked (x .p)) (checked (x .u)) (checked (x .h)) (checked (x .cv)) (checked (x .cp)) (checked (x .w)) ⌝ }
 {
-    let i = ideal_part(tau);
+    if are_finite(x.p, x.u, x.h) {
+        if are_finite(x.cv, x.cp, x.w) {
+            return Stated::Known(x);
+        }
+    }
+    Stated::Unknown
+}
+
+fn state_of(phase: Phase, t: f64, rho: f64, sums: Five, i1: f64, i2: f64) -> Stated
+    ensures { λ r. ⌜ r ≡ stateOf phase t rho sums i1 i2 ⌝ }
+{
+    tested(table_3(phase, t, rho, sums, i1, i2))
+}
+
+// With the ideal part at the isotherm's τ.
+fn state_ideal(phase: Phase, iso: Isotherm, rho: f64, sums: Five) -> Stated
+    ensures { λ r. ⌜ r ≡ stateIdeal phase iso rho sums ⌝ }
+{
+    let i = ideal_part(iso.tau);
     let first = i.first;
     let second = i.second;
     let Worked::Number(i1) = first else {
@@ -91,25 +129,17 @@ fn state_ideal(t: f64, tau: f64, rho: f64, s: Five) -> Stated
     let Worked::Number(i2) = second else {
         return Stated::Unknown;
     };
-    state_of(t, s, i1, i2, rho)
+    state_of(phase, iso.t, rho, sums, i1, i2)
 }
 
-pub fn state_on(iso: Isotherm, rho: f64) -> Stated
-    ensures { λ r. ⌜ r ≡ stateOn iso rho ⌝ }
+pub fn state_on(iso: Isotherm, phase: Phase, rho: f64) -> Stated
+    ensures { λ r. ⌜ r ≡ stateOn iso phase rho ⌝ }
 {
-    let t = iso.t;
-    let tau = iso.tau;
-    let Worked::Number(delta) = checked(rho / span_wagner().density) else {
+    let Worked::Number(delta) = checked(delta_at(rho)) else {
         return Stated::Unknown;
     };
-    let Sums::Summed(s) = five_sums(iso, delta) else {
+    let Sums::Summed(sums) = five_sums(iso, delta) else {
         return Stated::Unknown;
     };
-    state_ideal(t, tau, rho, s)
-}
-
-pub fn state_at(t: f64, rho: f64) -> Stated
-    ensures { λ r. ⌜ r ≡ state t rho ⌝ }
-{
-    state_on(at_temperature(t), rho)
+    state_ideal(phase, iso, rho, sums)
 }

@@ -1,12 +1,22 @@
 -- What a door needs of an equation of state, and the one of 1996. Definitions only.
+use mathlib.Core.Path.{_≡_}
+use lib.Dec.{T}
 use lib.Ieee.{Float}
-use Rattle.eos_constants.specs.Constant.{spanWagner}
+use Rattle.num_working.specs.Number.{nonneg}
 use Rattle.num_working.specs.declared.Worked.{Worked}
+use Rattle.num_working.specs.declared.Worked.the-variants.{Number}
+use Rattle.eos_constants.specs.Constant.{spanWagner}
 use Rattle.eos_saturation.specs.Saturation as saturation
 use Rattle.eos_densities.specs.Density as density
+use Rattle.eos_isotherm.specs.Isotherm.{isotherm}
 use Rattle.eos_pressure.specs.Pressure as pressure
 use Rattle.eos_state.specs.State as state
+use Rattle.eos_state.specs.State.{eight}
+use Rattle.eos_state.specs.declared.Phase.{Phase}
+use Rattle.eos_state.specs.declared.State.{State}
 use Rattle.eos_state.specs.declared.Stated.{Stated}
+use Rattle.eos_state.specs.declared.Stated.the-variants.{Known}
+use Rattle.equation.specs.declared.Curve.{Curve}
 
 pub record Equation : Type 0 where
   pub critical : Float
@@ -16,7 +26,19 @@ pub record Equation : Type 0 where
   pub liquidDensity : Float → Worked
   -- at a temperature and a density
   pub pressure : Float → Float → Worked
-  pub state : Float → Float → Stated
+  pub state : Float → Phase → Float → Stated
+
+-- ---- 1996
+
+-- what hangs on the temperature, and what is worked of it at a density
+unfoldable pub curve : Float → Curve
+curve t = record { isotherm = isotherm t }
+
+unfoldable pub pressureOn : Curve → Float → Worked
+pressureOn c = pressure.pressureOn (c .isotherm)
+
+unfoldable pub stateOn : Curve → Phase → Float → Stated
+stateOn c = state.stateOn (c .isotherm)
 
 unfoldable pub of1996 : Equation
 of1996 = record {
@@ -24,6 +46,15 @@ of1996 = record {
   vapourPressure = saturation.vapourPressure;
   vapourDensity = density.vapourDensity;
   liquidDensity = density.liquidDensity;
-  pressure = pressure.pressure;
-  state = state.state;
+  pressure = λ t. pressureOn (curve t);
+  state = λ t. stateOn (curve t);
 }
+
+-- ---- what the doors' theorems take of an equation: its saturated densities have no minus sign; a state is at the density and of the phase asked for, and
+-- its eight numbers don't hang on the phase
+pub record Lawful (E : Equation) : Type 0 where
+  pub vapour : (t d : Float) → E .vapourDensity t ≡ Number d → T (nonneg d)
+  pub liquid : (t d : Float) → E .liquidDensity t ≡ Number d → T (nonneg d)
+  pub density : (t : Float) (phase : Phase) (rho : Float) (x : State) → E .state t phase rho ≡ Known x → x .rho ≡ rho
+  pub phase : (t : Float) (phase : Phase) (rho : Float) (x : State) → E .state t phase rho ≡ Known x → x .phase ≡ phase
+  pub same : (t : Float) (phase other : Phase) (rho : Float) (x y : State) → E .state t phase rho ≡ Known x → E .state t other rho ≡ Known y → eight y ≡ eight x

@@ -1,1 +1,60 @@
-// What a door needs of an equation of state, and the one of 1996; no code.
+// What a door needs of an equation of state, of that of 1996: the one room of it that the doors know.
+ghost use mathlib.Core.Path.{_≡_};
+ghost use Rattle.equation.specs.Equation.{of1996, curve, pressureOn, stateOn};
+use eos_constants::span_wagner;
+use eos_isotherm::Isotherm;
+use eos_isotherm::at_temperature;
+use eos_state::Phase;
+use eos_state::Stated;
+use num_working::Worked;
+
+// What hangs on the temperature alone, worked once and handed on by value.
+pub struct Curve {
+    pub isotherm: Isotherm,
+}
+
+pub fn critical_temperature() -> f64
+    ensures { λ r. ⌜ r ≡ of1996 .critical ⌝ }
+{
+    span_wagner().temperature
+}
+
+pub fn vapour_pressure(t: f64) -> Worked
+    ensures { λ r. ⌜ r ≡ of1996 .vapourPressure t ⌝ }
+{
+    eos_saturation::vapour_pressure(t)
+}
+
+pub fn vapour_density(t: f64) -> Worked
+    ensures { λ r. ⌜ r ≡ of1996 .vapourDensity t ⌝ }
+{
+    eos_densities::vapour_density(t)
+}
+
+pub fn liquid_density(t: f64) -> Worked
+    ensures { λ r. ⌜ r ≡ of1996 .liquidDensity t ⌝ }
+{
+    eos_densities::liquid_density(t)
+}
+
+pub fn curve_at(t: f64) -> Curve
+    ensures { λ r. ⌜ r ≡ curve t ⌝ }
+{
+    Curve {
+        isotherm: at_temperature(t),
+    }
+}
+
+// The pressure at a density: of1996 .pressure t on the curve of t (proofs/Curves.antt).
+pub fn pressure_on(c: Curve, rho: f64) -> Worked
+    ensures { λ r. ⌜ r ≡ pressureOn c rho ⌝ }
+{
+    eos_pressure::pressure_on(c.isotherm, rho)
+}
+
+// The state at a density: of1996 .state t on the curve of t.
+pub fn state_on(c: Curve, phase: Phase, rho: f64) -> Stated
+    ensures { λ r. ⌜ r ≡ stateOn c phase rho ⌝ }
+{
+    eos_state::state_on(c.isotherm, phase, rho)
+}

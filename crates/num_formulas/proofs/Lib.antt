@@ -1,2 +1,3 @@
 pub mod Formulas
 pub mod Readings
+pub mod Tests

@@ -1,39 +1,34 @@
 -- Each step is the definition's. Assumes nothing.
 use mathlib.Core.Path.{_≡_, sym, subst, _∙_}
-use Rattle.num_working.specs.declared.Worked.the-variants.{Number}
-use Rattle.num_formulas.specs.Formula.{num, _⊗_, work}
-use Rattle.eos_densities.specs.Density.{liquidDensity}
-use Rattle.eos_densities.proofs.Densities.{liquid-nonneg}
-use Rattle.door_limits.specs.Limits.{document01}
 use Rattle.equation.specs.Equation.{of1996}
-use Rattle.door_pressure.specs.PressureDoor.{liquid}
-use Rattle.door_pressure.proofs.Doors.{Searchable, searchable, product, product-nonneg}
+use Rattle.equation.proofs.Laws.{lawful}
+use Rattle.door_limits.specs.Limits.{searchEnds}
+use Rattle.door_pressure.specs.PressureDoor.{scaled, liquid}
+use Rattle.door_pressure.proofs.Doors.{Searchable, searchable, scaled-reached}
 use borrow.Author.Needs.{needs}
 use Rattle.door_pressure.proofs.as_liquid.Statement.{statement}
 use Rattle.door_pressure.proofs.as_liquid.Tie as tie
 
+-- the end that was worked
+end-is : (c : tie.After-scaled) → scaled (searchEnds .liquid) (of1996 .liquidDensity (c .before .before .before .args .t)) ≡ c .scaled .result
+end-is c = rw (← c .before .before .search-ends .ensures, ← c .before .liquid-density .ensures) (sym (c .scaled .ensures))
+
 returns : tie.Need-returns
-unfolding liquid of1996
-returns c = rw (sym (c .before .before .liquid-density .ensures) ∙ c .enum-told .given .1)
-
--- past the product: the density, and what the end was worked to
-known : (c : tie.After-checked) → (let d = c .before .before .before .d .given .0 .0 in (liquidDensity (c .before .before .before .before .before .before .before .args .t) ≡ Number d) × (work (num (document01 .liquid) ⊗ num d) ≡ c .checked .result))
-known c = let k = c .before .before .before in (sym (k .before .before .liquid-density .ensures) ∙ k .d .given .1, product (document01 .liquid) (k .d .given .0 .0) _ (rw (k .before .before .before .document-01 .ensures) at (c .checked .ensures)))
-
-returns-2 : tie.Need-returns-2
-unfolding liquid of1996
-returns-2 c = let k = known (c .before .before) in rw (k .0, k .1 ∙ c .enum-told2 .given .1)
+unfolding liquid
+returns c = rw (end-is (c .before .before) ∙ c .enum-told .given .1)
 
 search-at-requires : tie.Need-search-at-requires
 search-at-requires c κs =
-    let k = known (c .before .before .before) in
-    let x = product-nonneg (document01 .liquid) _ _ (searchable .liquid) (liquid-nonneg _ _ (k .0)) (k .1 ∙ c .before .from .given .1) in
-    let s = subst Searchable (sym (c .before .before .before .before .before .before .before .before .before .document-01 .ensures)) searchable in
-    (x .0, (s .to, s .held))
+    let w = c .before .before .before in
+    let x = scaled-reached (searchEnds .liquid) _ _ (searchable .liquid) (lawful .liquid _) (end-is w ∙ c .before .from .given .1) in
+    let s = subst Searchable (sym (w .before .before .search-ends .ensures)) searchable in
+    (x .nonneg, (s .to .nonneg, s .to .fits))
 
-returns-3 : tie.Need-returns-3
-unfolding liquid of1996
-returns-3 c = let k = known (c .before .before .before .before) in c .search-at .ensures ∙ rw (c .before .before .before .before .before .before .before .before .before .before .document-01 .ensures, k .0, k .1 ∙ c .before .before .from .given .1)
+returns-2 : tie.Need-returns-2
+unfolding liquid
+returns-2 c =
+    let w = c .before .before .before .before in
+    c .search-at .ensures ∙ rw (w .before .before .search-ends .ensures, end-is w ∙ c .before .before .from .given .1)
 
 pub as-liquid-spec : {M : Type 1} → statement M
 as-liquid-spec =
@@ -41,12 +36,9 @@ as-liquid-spec =
     (tie.spec
     (λ c κs. search needs)
     (λ c κs. search needs)
-    (λ c. search needs)
-    (λ c. search needs)
-    returns
     (λ c κs. search needs)
     (λ c. search needs)
     (λ c. search needs)
-    returns-2
+    returns
     search-at-requires
-    returns-3)
+    returns-2)

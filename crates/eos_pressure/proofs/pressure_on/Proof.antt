@@ -1,46 +1,41 @@
--- Each step is the definition's. Assumes nothing.
+-- δ, the first sum and Table 3's formula are worked in plain f64 and tested, each once. Assumes nothing.
 use mathlib.Core.Path.{_≡_, sym, _∙_}
-use lib.Ieee.{ofBits, ofInt}
-use Rattle.num_working.specs.Number.{whole}
-use Rattle.num_formulas.specs.Formula.{value, work}
-use Rattle.num_formulas.proofs.Formulas.{once}
+use Rattle.num_formulas.specs.Formula.{work}
+use Rattle.num_formulas.proofs.Tests.{tested}
+use Rattle.eos_constants.specs.Reduced.{delta}
 use Rattle.eos_pressure.specs.Pressure.{pressureFormula, pressureOn}
 use borrow.Author.Needs.{needs}
 use Rattle.eos_pressure.proofs.pressure_on.Statement.{statement}
 use Rattle.eos_pressure.proofs.pressure_on.Tie as tie
 
-worked : (c : tie.After-checked)
-    → (let n = c .before .before .before .before in
-    let a = n .before .before .before .before .before .before .before .args in c .checked .result ≡ work (pressureFormula (a .iso .t) (a .rho) (n .a .given .0 .0)))
-unfolding value ofBits ofInt whole
-worked c =
-    let n = c .before .before .before .before in
-    let a = n .before .before .before .before .before .before .before .args in
-    c .checked .ensures ∙ rw (c .before .before .span-wagner .ensures) (once (pressureFormula (a .iso .t) (a .rho) (n .a .given .0 .0)))
+delta-is : (c : tie.After-checked) → work (delta (c .before .before .args .rho)) ≡ c .checked .result
+delta-is c = tested _ _ _ (c .before .delta-at .ensures) (c .checked .ensures)
 
 returns : tie.Need-returns
 unfolding pressureOn
-returns c = simp (pressureOn, sym (c .before .before .delta-at .ensures) ∙ c .enum-told .given .1)
+returns c = rw (delta-is (c .before .before) ∙ c .enum-told .given .1)
 
 returns-2 : tie.Need-returns-2
 unfolding pressureOn
 returns-2 c =
     let m = c .before .before in
     let n = m .before .before in
-    simp (pressureOn, sym (n .before .before .delta-at .ensures) ∙ n .delta .given .1, sym (m .slope-at .ensures) ∙ c .enum-told2 .given .1)
+    rw (delta-is (n .before .before) ∙ n .delta .given .1, sym (m .slope-at .ensures) ∙ c .enum-told2 .given .1)
 
 returns-3 : tie.Need-returns-3
 unfolding pressureOn
 returns-3 c =
-    let l = c .before .before .before .before in
+    let l = c .before .before .before in
     let m = l .before .before in
     let n = m .before .before in
-    worked c ∙ simp (pressureOn, sym (n .before .before .delta-at .ensures) ∙ n .delta .given .1, sym (m .slope-at .ensures) ∙ l .a .given .1)
+    rw (delta-is (n .before .before) ∙ n .delta .given .1, sym (m .slope-at .ensures) ∙ l .a .given .1)
+    (sym (tested _ _ _ (c .before .pressure-of .ensures) (c .checked2 .ensures)))
 
 pub pressure-on-spec : {M : Type 1} → statement M
 pressure-on-spec =
     tie.close
     (tie.spec
+    (λ c κs. search needs)
     (λ c κs. search needs)
     (λ c. search needs)
     (λ c. search needs)

@@ -12,7 +12,9 @@ use Rattle.eos_saturation.proofs.theta_at.Tie as tie
 
 returns : tie.Need-returns
 unfolding value ofBits spanWagner decimal fraction whole ofInt round
-returns c = (rw (c .before .before .span-wagner .ensures) at (c .checked .ensures)) ∙ once (theta (c .before .before .before .args .t))
+returns c =
+    (rw (c .before .before .span-wagner .ensures) at (c .checked .ensures))
+    ∙ once (theta (c .before .before .before .args .t))
 
 pub theta-at-spec : {M : Type 1} → statement M
 theta-at-spec =

@@ -8,14 +8,14 @@ use Rattle.eos_state.proofs.state_ideal.Tie as tie
 
 returns : tie.Need-returns
 unfolding stateIdeal
-returns c = simp (stateIdeal, sym (ap (λ (i : Ideal). i .first) (c .before .before .ideal-part .ensures)) ∙ c .enum-told .given .1)
+returns c = rw (sym (ap (λ (i : Ideal). i .first) (c .before .before .ideal-part .ensures)) ∙ c .enum-told .given .1)
 
 returns-2 : tie.Need-returns-2
 unfolding stateIdeal
 returns-2 c =
     let n = c .before .before .before in
     let i = n .before .before .ideal-part .ensures in
-    simp (stateIdeal, sym (ap (λ (i : Ideal). i .first) i) ∙ n .first .given .1, sym (ap (λ (i : Ideal). i .second) i) ∙ c .enum-told2 .given .1)
+    rw (sym (ap (λ (i : Ideal). i .first) i) ∙ n .first .given .1, sym (ap (λ (i : Ideal). i .second) i) ∙ c .enum-told2 .given .1)
 
 returns-3 : tie.Need-returns-3
 unfolding stateIdeal
@@ -23,7 +23,7 @@ returns-3 c =
     let m = c .before .before in
     let n = m .before .before .before in
     let i = n .before .before .ideal-part .ensures in
-    c .state-of .ensures ∙ simp (stateIdeal, sym (ap (λ (i : Ideal). i .first) i) ∙ n .first .given .1, sym (ap (λ (i : Ideal). i .second) i) ∙ m .second .given .1)
+    c .state-of .ensures ∙ rw (sym (ap (λ (i : Ideal). i .first) i) ∙ n .first .given .1, sym (ap (λ (i : Ideal). i .second) i) ∙ m .second .given .1)
 
 pub state-ideal-spec : {M : Type 1} → statement M
 state-ideal-spec =

@@ -1,25 +1,26 @@
 -- Each step is the definition's. Assumes nothing.
 use mathlib.Core.Path.{_≡_, sym, _∙_}
-use Rattle.eos_pressure.specs.Pressure.{deltaOf}
-use Rattle.eos_pressure.proofs.Pressures.{delta-worked}
+use Rattle.num_formulas.specs.Formula.{work}
+use Rattle.num_formulas.proofs.Tests.{tested}
+use Rattle.eos_constants.specs.Reduced.{delta}
 use Rattle.eos_state.specs.State.{stateOn}
 use borrow.Author.Needs.{needs}
 use Rattle.eos_state.proofs.state_on.Statement.{statement}
 use Rattle.eos_state.proofs.state_on.Tie as tie
 
-delta-is : (c : tie.After-checked) → deltaOf (c .before .before .before .args .rho) ≡ c .checked .result
-delta-is c = sym (c .checked .ensures ∙ rw (c .before .before .span-wagner .ensures) (delta-worked (c .before .before .before .args .rho)))
+delta-is : (c : tie.After-checked) → work (delta (c .before .before .args .rho)) ≡ c .checked .result
+delta-is c = tested _ _ _ (c .before .delta-at .ensures) (c .checked .ensures)
 
 returns : tie.Need-returns
 unfolding stateOn
-returns c = simp (stateOn, delta-is (c .before .before) ∙ c .enum-told .given .1)
+returns c = rw (delta-is (c .before .before) ∙ c .enum-told .given .1)
 
 returns-2 : tie.Need-returns-2
 unfolding stateOn
 returns-2 c =
     let m = c .before .before in
     let n = m .before .before in
-    simp (stateOn, delta-is (n .before .before) ∙ n .delta .given .1, sym (m .five-sums .ensures) ∙ c .enum-told2 .given .1)
+    rw (delta-is (n .before .before) ∙ n .delta .given .1, sym (m .five-sums .ensures) ∙ c .enum-told2 .given .1)
 
 returns-3 : tie.Need-returns-3
 unfolding stateOn
@@ -27,7 +28,7 @@ returns-3 c =
     let l = c .before .before in
     let m = l .before .before in
     let n = m .before .before in
-    c .state-ideal .ensures ∙ simp (stateOn, delta-is (n .before .before) ∙ n .delta .given .1, sym (m .five-sums .ensures) ∙ l .s .given .1)
+    c .state-ideal .ensures ∙ rw (delta-is (n .before .before) ∙ n .delta .given .1, sym (m .five-sums .ensures) ∙ l .sums .given .1)
 
 pub state-on-spec : {M : Type 1} → statement M
 state-on-spec =

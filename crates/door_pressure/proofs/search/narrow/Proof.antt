@@ -6,20 +6,22 @@ use borrow.Author.Needs.{needs}
 use Rattle.num_halving.specs.Halving.{halve, middle, failed}
 use Rattle.num_working.proofs.Numbers.{no-nan}
 use Rattle.num_halving.proofs.Halvings.{Narrowing, begins, ends-at, to-upper, to-lower, to-broke}
-use Rattle.eos_pressure.specs.Pressure.{pressureOn}
+use Rattle.equation.specs.Equation.{pressureOn}
 use Rattle.door_pressure.specs.Search.{figure}
 use Rattle.door_pressure.proofs.Searches.{is-above, is-not-above}
 use Rattle.door_pressure.proofs.search.narrow.Statement.{statement}
 use Rattle.door_pressure.proofs.search.narrow.Tie as tie
 
 abbrev Inv-loop : tie.InvT-loop
-Inv-loop iso p from to lo₀ hi₀ lo hi = (hi ≤ to) × Narrowing (figure (pressureOn iso)) p (halve (figure (pressureOn iso)) p from to) lo hi
+Inv-loop curve p from to lo₀ hi₀ lo hi = (hi ≤ to) × Narrowing (figure (pressureOn curve)) p (halve (figure (pressureOn curve)) p from to) lo hi
 
 abbrev μ-loop : tie.MeasureT-loop
-μ-loop iso p from to lo₀ hi₀ lo hi = hi - lo
+μ-loop curve p from to lo₀ hi₀ lo hi = hi - lo
 
 loop-holds : tie.Need-loop-holds Inv-loop μ-loop
-loop-holds c = (omega arith, begins (figure (pressureOn (c .args .iso))) (c .args .p) (c .args .from) (c .args .to) (omega arith) (omega arith) (c .pre .1 .1 .0) (c .pre .1 .1 .1))
+loop-holds c =
+    let a = c .args in
+    (omega arith, begins (figure (pressureOn (a .curve))) (a .p) (a .from) (a .to) (omega arith) (omega arith) (c .pre .1 .1 .0) (c .pre .1 .1 .1))
 
 add-loop : tie.Need-add-loop Inv-loop μ-loop
 add-loop c = omega arith
@@ -38,7 +40,8 @@ unfolding middle
 returns c =
     let l = c .before .before .before .before in
     let a = l .before .args in
-    sym (to-broke (figure (pressureOn (a .iso))) (a .p) _ (l .loop .lo) (l .loop .hi) (l .loop .inv .1) (λ e. omega arith) (failed (sym (c .before .before .pressure-on .ensures) ∙ c .enum-told .given .1)))
+    let e = sym (c .before .before .pressure-on .ensures) ∙ c .enum-told .given .1 in
+    sym (to-broke (figure (pressureOn (a .curve))) (a .p) _ (l .loop .lo) (l .loop .hi) (l .loop .inv .1) (λ e. omega arith) (failed e))
 
 loop-less : tie.Need-loop-less Inv-loop μ-loop
 loop-less c = omega arith
@@ -50,7 +53,8 @@ loop-again c =
     let l = c .before .before .before .before .before .before in
     let a = l .before .args in
     let e = sym (x .before .before .pressure-on .ensures) ∙ x .x .given .1 in
-    (omega arith, to-lower (figure (pressureOn (a .iso))) (a .p) _ (l .loop .lo) (l .loop .hi) (l .loop .inv .1) (λ e. omega arith) (is-above (a .iso) (a .p) _ _ e (c .if1 .taken)))
+    let s = is-above (a .curve) (a .p) _ _ e (c .if1 .taken) in
+    (omega arith, to-lower (figure (pressureOn (a .curve))) (a .p) _ (l .loop .lo) (l .loop .hi) (l .loop .inv .1) (λ e. omega arith) s)
 
 loop-less-2 : tie.Need-loop-less-2 Inv-loop μ-loop
 loop-less-2 c = omega arith
@@ -62,13 +66,14 @@ loop-again-2 c =
     let l = c .before .before .before .before .before .before in
     let a = l .before .args in
     let e = sym (x .before .before .pressure-on .ensures) ∙ x .x .given .1 in
-    (omega arith, to-upper (figure (pressureOn (a .iso))) (a .p) _ (l .loop .lo) (l .loop .hi) (l .loop .inv .1) (λ e. omega arith) (is-not-above (a .iso) (a .p) _ _ e (c .if1 .left)))
+    let s = is-not-above (a .curve) (a .p) _ _ e (c .if1 .left) in
+    (omega arith, to-upper (figure (pressureOn (a .curve))) (a .p) _ (l .loop .lo) (l .loop .hi) (l .loop .inv .1) (λ e. omega arith) s)
 
 returns-2 : tie.Need-returns-2 Inv-loop μ-loop
 returns-2 c =
     let l = c .before in
     let a = l .before .args in
-    sym (ends-at (figure (pressureOn (a .iso))) (a .p) _ (l .loop .lo) (l .loop .hi) (l .loop .inv .1) (omega arith))
+    sym (ends-at (figure (pressureOn (a .curve))) (a .p) _ (l .loop .lo) (l .loop .hi) (l .loop .inv .1) (omega arith))
 
 pub narrow-spec : {M : Type 1} → statement M
 narrow-spec =

@@ -1,19 +1,14 @@
--- On the temperature's isotherm. Assumes nothing.
-use mathlib.Core.Path.{ap, _∙_}
-use Rattle.eos_pressure.specs.Pressure.{pressureOn, pressure}
-use Rattle.eos_state.specs.State.{stateOn, state}
-use Rattle.eos_isotherm.specs.declared.Isotherm.{Isotherm}
-use Rattle.door_pressure.specs.Search.{searched}
+-- On the temperature's curve. Assumes nothing.
+use mathlib.Core.Path.{_∙_}
+use Rattle.equation.proofs.Curves.{on-curve, state-on-curve}
 use borrow.Author.Needs.{needs}
 use Rattle.door_pressure.proofs.search.search_at.Statement.{statement}
 use Rattle.door_pressure.proofs.search.search_at.Tie as tie
 
 returns : tie.Need-returns
-unfolding pressure state
 returns c =
-    let a = c .before .before .args in
-    c .search-for .ensures ∙ ap (λ (i : Isotherm). searched (pressureOn i) (stateOn i) (a .phase) (a .from) (a .to) (a .p)) (c .before .at-temperature .ensures)
+    let t = c .before .before .args .t in
+    c .search-on .ensures ∙ rw (c .before .curve-at .ensures, on-curve t, state-on-curve t)
 
 pub search-at-spec : {M : Type 1} → statement M
-search-at-spec =
-    tie.close (tie.spec (λ c κs. search needs) (λ c κs. search needs) returns)
+search-at-spec = tie.close (tie.spec (λ c κs. search needs) (λ c κs. search needs) returns)

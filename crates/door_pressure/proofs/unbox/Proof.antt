@@ -1,0 +1,25 @@
+-- The check, and the steps after it. Assumes nothing.
+use mathlib.Core.Path.{sym, _∙_}
+use Rattle.door_pressure.specs.PressureDoor.{unboxed}
+use borrow.Author.Needs.{needs}
+use Rattle.door_pressure.proofs.unbox.Statement.{statement}
+use Rattle.door_pressure.proofs.unbox.Tie as tie
+
+returns : tie.Need-returns
+unfolding unboxed
+returns c = rw (sym (c .before .before .before .out-of-box .ensures) ∙ c .before .n .given .1)
+
+returns-2 : tie.Need-returns-2
+unfolding unboxed
+returns-2 c = c .enter .ensures ∙ rw (sym (c .before .before .before .out-of-box .ensures) ∙ c .before .enum-told .given .1)
+
+pub unbox-spec : {M : Type 1} → statement M
+unbox-spec =
+    tie.close
+    (tie.spec
+    (λ c κs. search needs)
+    (λ c. search needs)
+    (λ c. search needs)
+    (λ c κs. search needs)
+    returns
+    returns-2)

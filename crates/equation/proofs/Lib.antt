@@ -1,0 +1,3 @@
+pub mod Curves
+pub mod Laws
+pub mod Unique

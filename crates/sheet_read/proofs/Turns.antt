@@ -104,7 +104,9 @@ module _ (s : List ℕ) (from : ℕ) (lines : List Line) (count at : ℕ) (t : T
 
     one-more : (c : Cylinder) (v : List ℕ) → cylinder (drop at s) ≡ some (c, v)
         → after (t .cs) (cylinders (suc (length s - (count + 1))) (drop at s)) ≡ after (t .cs ++ (c ∷ [])) (cylinders (length s - (count + 1)) v)
-    one-more c v e = ap (after (t .cs)) (cylinders-more _ (drop at s) _ _ (front s at h) c v e) ∙ after-more (t .cs) c _
+    one-more c v e =
+        ap (after (t .cs)) (cylinders-more _ (drop at s) _ _ (front s at h) c v e)
+        ∙ after-more (t .cs) c (cylinders (length s - (count + 1)) v)
 
     pub more : (c : Cylinder) (next : ℕ) → cylinder (drop at s) ≡ some (c, drop next s) → at < next → next ≤ length s
         → (lines′ : List Line) → lines′ ≡ kept (t .cs ++ (c ∷ [])) → Turn s from lines′ (count + 1) next

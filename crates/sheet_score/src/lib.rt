@@ -1,18 +1,18 @@
 // A sheet is read once, worked line by line, and reported: "Order for a sheet: 14, 10, 11, 12, 13, and 15 last, whatever
 // the report would say" (document 01).
-ghost use Rattle.door_limits.specs.Limits.{document01};
 ghost use Rattle.sheet_report.specs.Report.{ReportIs};
 ghost use Rattle.sheet_read.specs.Form.{inForm};
 ghost use Rattle.sheet_score.specs.Score.{report};
+use door_limits::Limits;
 use sheet_read::read_sheet;
 use sheet_report::Written;
 use sheet_report::write_report;
 use sheet_weigh::weigh_sheet;
 
-pub fn score(text: &[u8], out: &mut [u8]) -> Written
-    ensures { λ r. ⌜ ReportIs (now (out .entry)) (now (out .exit)) (report document01 (inForm (now (text .entry)))) r ⌝ }
+pub fn score(limits: Limits, text: &[u8], out: &mut [u8]) -> Written
+    ensures { λ r. ⌜ ReportIs (now (out .entry)) (now (out .exit)) (report limits (inForm (now (text .entry)))) r ⌝ }
 {
     let r = read_sheet(text);
-    let o = weigh_sheet(r);
+    let o = weigh_sheet(limits, r);
     write_report(out, o)
 }

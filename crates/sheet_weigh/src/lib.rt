@@ -4,7 +4,6 @@ ghost use mathlib.Core.Path.{_≡_};
 ghost use mathlib.Core.List.{[]};
 ghost use Prim.Native.Nat.{_≤_};
 ghost use lib.ListN.{take};
-ghost use Rattle.door_limits.specs.Limits.{document01};
 ghost use Rattle.sheet_outcome.specs.Outcome.{marksOf, total};
 ghost use Rattle.sheet_outcome.specs.declared.Admitted.{Admitted};
 ghost use Rattle.sheet_line.specs.declared.line.Reading.{Reading};
@@ -12,6 +11,7 @@ ghost use Rattle.sheet_weigh.specs.Weighing.{isVolume, milligrams, answe
 ghost use Rattle.sheet_weigh.specs.Sheet.{marksFor, finished, marked, outcome, Light};
 use door_answers::Answer;
 use door_density::from_density;
+use door_limits::Limits;
 use door_pressure::from_pressure;
 use num_whole::Below;
 use num_whole::whole_below;
@@ -58,8 +58,8 @@ fn by_answer(a: Answer, v: u64) -> Weighed
     }
 }
 
-fn by_pressure(k: Temperature, p: f64, v: u64) -> Weighed
-    ensures { λ r. ⌜ r ≡ byReading document01 k v (Reading.Pressure p) ⌝ }
+fn by_pressure(limits: Limits, k: Temperature, p: f64, v: u64) -> Weighed
+    ensures { λ r. ⌜ r ≡ byReading limits k v (Reading.Pressure p) ⌝ }
 {
     let Temperature::Kelvin(t) = k else {
         return Weighed::Refused(1);
@@ -67,11 +67,11 @@ fn by_pressure(k: Temperature, p: f64, v: u64) -> Weighed
     if !is_volume(v) {
         return Weighed::Refused(2);
     }
-    by_answer(from_pressure(t, p), v)
+    by_answer(from_pressure(limits, t, p), v)
 }
 
-fn by_density(k: Temperature, d: f64, v: u64) -> Weighed
-    ensures { λ r. ⌜ r ≡ byReading document01 k v (Reading.Density d) ⌝ }
+fn by_density(limits: Limits, k: Temperature, d: f64, v: u64) -> Weighed
+    ensures { λ r. ⌜ r ≡ byReading limits k v (Reading.Density d) ⌝ }
 {
     let Temperature::Kelvin(t) = k else {
         return Weighed::Refused(1);
@@ -79,22 +79,22 @@ fn by_density(k: Temperature, d: f64, v: u64) -> Weighed
     if !is_volume(v) {
         return Weighed::Refused(2);
     }
-    by_answer(from_density(t, d), v)
+    by_answer(from_density(limits, t, d), v)
 }
 
 // A reading that asks a door takes the temperature with it.
-fn by_reading(k: Temperature, v: u64, r: Reading) -> Weighed
-    ensures { λ w. ⌜ w ≡ byReading document01 k v r ⌝ }
+fn by_reading(limits: Limits, k: Temperature, v: u64, r: Reading) -> Weighed
+    ensures { λ w. ⌜ w ≡ byReading limits k v r ⌝ }
 {
     match r {
         Reading::Blank => Weighed::Refused(1),
-        Reading::Pressure(p) => by_pressure(k, p, v),
-        Reading::Density(d) => by_density(k, d, v),
+        Reading::Pressure(p) => by_pressure(limits, k, p, v),
+        Reading::Density(d) => by_density(limits, k, d, v),
     }
 }
 
-pub fn weigh(l: Line) -> Weighed
-    ensures { λ r. ⌜ r ≡ weighed document01 l ⌝ }
+pub fn weigh(limits: Limits, l: Line) -> Weighed
+    ensures { λ r. ⌜ r ≡ weighed limits l ⌝ }
 {
     let number = l.number;
     let volume = l.volume;
@@ -106,13 +106,13 @@ pub fn weigh(l: Line) -> Weighed
     let Field::Number(v) = volume else {
         return Weighed::Refused(1);
     };
-    by_reading(temperature, v, reading)
+    by_reading(limits, temperature, v, reading)
 }
 
 // Each line's milligrams or refusal: "i counts the cylinder lines from 1".
-fn weigh_all(s: Sheet) -> Marks
+fn weigh_all(limits: Limits, s: Sheet) -> Marks
     requires { ⌜ s .count ≤ 32 ⌝ }
-    ensures { λ r. ⌜ r ≡ marksFor (marked document01 (take (s .count) (s .lines))) ⌝ }
+    ensures { λ r. ⌜ r ≡ marksFor (marked limits (take (s .count) (s .lines))) ⌝ }
 {
     let none = Mark {
         weighed: Weighed::Refused(0),
@@ -122,7 +122,7 @@ fn weigh_all(s: Sheet) -> Marks
     let mut i: usize = 1;
     while i <= n {
         let l = s.lines[i - 1];
-        let w = weigh(l);
+        let w = weigh(limits, l);
         marks[i - 1] = Mark { weighed: w };
         i += 1;
     }
@@ -169,11 +169,11 @@ fn send_back(number: u8) -> Outcome
 }
 
 // A sheet that is worked.
-fn work(s: Sheet, need: u64) -> Outcome
+fn work(limits: Limits, s: Sheet, need: u64) -> Outcome
     requires { ⌜ s .count ≤ 32 ⌝ }
-    ensures { λ r. ⌜ r ≡ finished (Admitted.Need need) (marked document01 (take (s .count) (s .lines))) ⌝ }
+    ensures { λ r. ⌜ r ≡ finished (Admitted.Need need) (marked limits (take (s .count) (s .lines))) ⌝ }
 {
-    let m = weigh_all(s);
+    let m = weigh_all(limits, s);
     let e = conclude(need, total(m));
     Outcome {
         marks: m,
@@ -181,13 +181,13 @@ fn work(s: Sheet, need: u64) -> Outcome
     }
 }
 
-pub fn weigh_sheet(r: SheetRead) -> Outcome
-    ensures { λ o. ⌜ o ≡ outcome document01 r ⌝ }
+pub fn weigh_sheet(limits: Limits, r: SheetRead) -> Outcome
+    ensures { λ o. ⌜ o ≡ outcome limits r ⌝ }
 {
     let s = r.sheet;
     let need = s.need;
     match admit(r.ok, s.count, need) {
         Admitted::SentBack(number) => send_back(number),
-        Admitted::Need(mg) => work(s, mg),
+        Admitted::Need(mg) => work(limits, s, mg),
     }
 }

@@ -1,6 +1,6 @@
 -- A line's working, by what its parts are. Assumes nothing.
 use mathlib.Core.Path.{_≡_, refl, ap}
-use mathlib.Core.Bool.{Bool, true, false, _&&_}
+use mathlib.Core.Bool.{true, false, and-eq-true-iff}
 use Prim.Native.Nat.{ℕ, _^_, _≤_}
 use native.Mathlib.Omega.{arith}
 use lib.Dec.{T, leb, le→leb}
@@ -18,13 +18,8 @@ pub in-float : (v : ℕ) → v ≤ 1_000_000 → T (inFloat binary64 (pos v))
 unfolding inFloat
 in-float v h = le→leb v (2 ^ 53) (omega arith)
 
-and-right : (x y : Bool) → (x && y) ≡ true → y ≡ true
-and-right true y e = e
-and-right false true e = refl
-and-right false false e = e
-
 pub volume-most : (v : ℕ) → isVolume v ≡ true → v ≤ 1_000_000
-volume-most v e = leb-true v 1_000_000 (and-right (leb 1 v) (leb v 1_000_000) e)
+volume-most v e = leb-true v 1_000_000 (and-eq-true-iff (leb 1 v) (leb v 1_000_000) .0 e .1)
 
 pub mass-of : (rho : Float) (v : ℕ) (b : Below) → b ≡ wholeBelow (mul binary64 rho (whole v)) → mass b ≡ milligrams rho v
 unfolding milligrams

@@ -1,41 +1,37 @@
 -- The checks on the inputs, by what they find. Assumes nothing.
 use Prim.Native.Nat.{ℕ}
 use mathlib.Core.Path.{_≡_, refl}
-use mathlib.Core.Bool.{Bool, true, false, _&&_, not}
+use mathlib.Core.Bool.{_&&_, not}
+use borrow.Author.Tests.{not-true, not-false}
 use lib.Ieee.{Float}
 use lib.Ieee.Scale.{finite}
-use Rattle.door_checks.specs.Check.{if, checks}
+use Rattle.num_working.proofs.Cases.{by-test}
 use Rattle.door_limits.specs.Limits.{outside}
-use Rattle.demands.specs.Demands.{Barred, no-number, no-temperature, no-value, in-box, Past}
+use Rattle.door_limits.specs.declared.Range.{Range}
+use Rattle.door_checks.specs.Check.{ranged}
 use Rattle.door_checks.specs.declared.Check.{Check}
 use Rattle.door_checks.specs.declared.Check.the-variants.{Passed, No}
-use Rattle.door_limits.specs.declared.Range.{Range}
-use Rattle.door_limits.specs.declared.Limits.{Limits}
+use Rattle.demands.specs.Demands.{OutOfRange, no-number, no-temperature, no-value, InRange}
 
-module _ (L : Limits) (asked critical : Range) (t x : Float) where
+module _ (temperature value : Range) (t x : Float) where
   pub data Finds (c : Check) : Type 0 where
-    stops : (n : ℕ) → c ≡ No n → Barred L asked critical t x n → Finds c
-    passes : c ≡ Passed → Past L asked critical t x → Finds c
+    stops : (n : ℕ) → c ≡ No n → OutOfRange temperature value t x n → Finds c
+    passes : c ≡ Passed → InRange temperature value t x → Finds c
 
-  pub finds : Finds (checks L asked critical t x)
-  unfolding checks
-  finds = go (finite t && finite x) (outside (L .asked .temperature) t) (outside asked x) (not (outside (L .critical .temperature) t) && not (outside critical x)) refl refl refl refl
-    where
-      go : (a b c d : Bool) → finite t && finite x ≡ a → outside (L .asked .temperature) t ≡ b → outside asked x ≡ c → not (outside (L .critical .temperature) t) && not (outside critical x) ≡ d
-          → Finds (if (not a) (No 3) (if b (No 4) (if c (No 5) (if d (No 6) Passed))))
-      go false b c d e f g h = stops 3 refl (no-number e)
-      go true true c d e f g h = stops 4 refl (no-temperature e f)
-      go true false true d e f g h = stops 5 refl (no-value e f g)
-      go true false false true e f g h = stops 6 refl (in-box e f g h)
-      go true false false false e f g h = passes refl (record { numbers = e; temperature = f; value = g; box = h })
+  pub finds : Finds (ranged temperature value t x)
+  unfolding ranged
+  finds =
+      by-test Finds (not (finite t && finite x)) _ _ (λ e. stops 3 refl (no-number (not-true _ e)))
+      (λ e. by-test Finds (outside temperature t) _ _ (λ f. stops 4 refl (no-temperature (not-false _ e) f))
+      (λ f. by-test Finds (outside value x) _ _ (λ g. stops 5 refl (no-value (not-false _ e) f g))
+      (λ g. passes refl (record { numbers = not-false _ e; temperature = f; value = g }))))
 
-  pub stops-back : {n : ℕ} → Barred L asked critical t x n → checks L asked critical t x ≡ No n
-  unfolding checks
+  pub stops-back : {n : ℕ} → OutOfRange temperature value t x n → ranged temperature value t x ≡ No n
+  unfolding ranged
   stops-back (no-number e) = rw e refl
   stops-back (no-temperature e f) = rw (e, f) refl
   stops-back (no-value e f g) = rw (e, f, g) refl
-  stops-back (in-box e f g h) = rw (e, f, g, h) refl
 
-  pub passes-back : Past L asked critical t x → checks L asked critical t x ≡ Passed
-  unfolding checks
-  passes-back p = rw (p .numbers, p .temperature, p .value, p .box) refl
+  pub passes-back : InRange temperature value t x → ranged temperature value t x ≡ Passed
+  unfolding ranged
+  passes-back p = rw (p .numbers, p .temperature, p .value) refl

@@ -13,15 +13,17 @@ use Rattle.sheet_line.specs.Line.{lineOf}
 use Rattle.sheet_line.specs.declared.cylinder.Kind.{Kind}
 use Rattle.sheet_line.specs.declared.cylinder.Cylinder.{Cylinder}
 use Rattle.sheet_read.specs.Form.{Bank, inForm}
+use Rattle.door_limits.specs.declared.Limits.{Limits}
 use Rattle.door_answers.specs.declared.Answer.{Answer}
-use Rattle.sheet_weigh.specs.Weighing.{weighed, Under}
-use Rattle.sheet_weigh.proofs.Weights.{weighed-under}
+use Rattle.sheet_weigh.specs.Weighing.{weighed}
+use Rattle.sheet_weigh.specs.Sheet.{mark, marked}
+use Rattle.sheet_weigh.proofs.Weights.{Under, weighed-under}
 use Rattle.sheet_write.specs.Writing.{ascii}
 use Rattle.sheet_report.specs.Report.{lineBytes, linesBytes, endingBytes}
-use Rattle.sheet_report.specs.declared.Weighed.{Weighed}
-use Rattle.sheet_report.specs.declared.Ending.{Ending}
+use Rattle.sheet_outcome.specs.declared.Weighed.{Weighed}
+use Rattle.sheet_outcome.specs.declared.Ending.{Ending}
 use Rattle.sheet_report.proofs.Reports.{between-length, number-of, line-size}
-use Rattle.sheet_score.specs.Score.{mark, report}
+use Rattle.sheet_score.specs.Score.{report}
 use Rattle.demands.specs.Demands.{Settled, given, not-given}
 use Rattle.demands.specs.Lines as lines
 use Rattle.demands.specs.Lines.{Asked, by-pressure, by-density, RefusesLine, no-volume, by-door, no-product}
@@ -33,16 +35,16 @@ use Rattle.demands.proofs.Sheets.{reported, largest-total}
 
 -- ---- a line's refusal number
 
-asked-settles : {t : Float} {k : Kind} {f : Field} {a : Answer} → Asked t k f a → Settled a
-asked-settles {t} (by-pressure n) = pressure-settles t (whole n)
-asked-settles {t} (by-density n) = density-settles t (div binary64 (whole n) (whole 1000))
+asked-settles : {L : Limits} {t : Float} {k : Kind} {f : Field} {a : Answer} → Asked L t k f a → Settled a
+asked-settles {L} {t} (by-pressure n) = pressure-settles L t (whole n)
+asked-settles {L} {t} (by-density n) = density-settles L t (div binary64 (whole n) (whole 1000))
 
 door-number : {n : ℕ} → Settled (Answer.Refused n) → (1 ≤ n) × (n ≤ 9)
 door-number {n} (given x e) = let z : _≡_ {A = ℕ} 0 1 = cc in absurd (omega arith)
 door-number {n} (not-given m e h k) = let z : n ≡ m = cc in (omega arith, omega arith)
 
 -- a line is refused by a number from 1 to 9
-pub line-number : {c : Cylinder} {n : ℕ} → RefusesLine c n → (1 ≤ n) × (n ≤ 9)
+pub line-number : {L : Limits} {c : Cylinder} {n : ℕ} → RefusesLine L c n → (1 ≤ n) × (n ≤ 9)
 line-number (lines.blank d) = (omega arith, omega arith)
 line-number (no-volume f r) = (omega arith, omega arith)
 line-number (by-door f r) = door-number (asked-settles (f .asked))
@@ -54,19 +56,19 @@ between-most : (front : List ℕ) (n : ℕ) (back : List ℕ) → n < 10 ^ 20 �
 between-most front n back h = let d = digits-most 19 n h in omega (arith, between-length front n back)
 
 -- a line's number: its milligrams, or from 1 to 9
-number-most : {c : Cylinder} {w : Weighed} → Comes c w → Under w → number-of w < 10 ^ 20
+number-most : {L : Limits} {c : Cylinder} {w : Weighed} → Comes L c w → Under w → number-of w < 10 ^ 20
 number-most (refused r) u = omega (arith, line-number r .1)
 number-most (weighs r) u = omega arith
 
-line-most : (c : Cylinder) (i : ℕ) → i < 10 ^ 20 → length (lineBytes i (weighed (lineOf c))) ≤ 46
-line-most c i h =
-    let w = weighed (lineOf c) in
-    omega (arith, line-size i w, digits-most 19 i h, digits-most 19 (number-of w) (number-most (comes c) (weighed-under (lineOf c))))
+line-most : (L : Limits) (c : Cylinder) (i : ℕ) → i < 10 ^ 20 → length (lineBytes i (weighed L (lineOf c))) ≤ 46
+line-most L c i h =
+    let w = weighed L (lineOf c) in
+    omega (arith, line-size i w, digits-most 19 i h, digits-most 19 (number-of w) (number-most (comes L c) (weighed-under L (lineOf c))))
 
-lines-most : (i : ℕ) (cs : List Cylinder) → i + length cs < 10 ^ 20 → length (linesBytes i (map mark (map lineOf cs))) ≤ length cs * 46
-unfolding linesBytes
-lines-most i [] h = omega arith
-lines-most i (c ∷ cs) h = let ih = lines-most (i + 1) cs (omega arith) in let l = line-most c i (omega arith) in simp length-append (omega arith)
+lines-most : (L : Limits) (i : ℕ) (cs : List Cylinder) → i + length cs < 10 ^ 20 → length (linesBytes i (marked L (map lineOf cs))) ≤ length cs * 46
+unfolding linesBytes marked
+lines-most L i [] h = omega arith
+lines-most L i (c ∷ cs) h = let ih = lines-most L (i + 1) cs (omega arith) in let l = line-most L c i (omega arith) in simp length-append (omega arith)
 
 -- what an ending writes
 abbrev number-in : Ending → ℕ
@@ -85,20 +87,20 @@ ending-most (Ending.SentBack n) h = (omega arith, omega (arith, between-most (as
 abbrev Sized : List ℕ → Type 0
 Sized bs = (1 ≤ length bs) × (length bs ≤ 1512)
 
-module _ (t : List ℕ) where
+module _ (L : Limits) (t : List ℕ) where
   alone : (n : ℕ) → n < 10 ^ 20 → Sized (endingBytes (Ending.SentBack n))
   alone n h = let r = ending-most (Ending.SentBack n) h in (r .0, omega (arith, r .1))
 
-  after-lines : {b : Bank} → Lined t b → (e : Ending) → number-in e < 10 ^ 20 → Sized (linesBytes 1 (map mark (sheets.lines b)) ++ endingBytes e)
+  after-lines : {b : Bank} → Lined t b → (e : Ending) → number-in e < 10 ^ 20 → Sized (linesBytes 1 (marked L (sheets.lines b)) ++ endingBytes e)
   after-lines {b} l e h =
-      let m = lines-most 1 (b .cylinders) (omega (arith, l .at-most)) in
+      let m = lines-most L 1 (b .cylinders) (omega (arith, l .at-most)) in
       let r = ending-most e h in
       (simp length-append (omega (arith, r .0)), simp length-append (omega (arith, r .1, m, l .at-most)))
 
-  total-most : {b : Bank} {mgs : List ℕ} → Lined t b → AllWeighed (sheets.lines b) mgs → sum mgs < 10 ^ 20
-  total-most {b} l a = omega (arith, largest-total a (omega (arith, length-map (b .cylinders) lineOf, l .at-most)))
+  total-most : {b : Bank} {mgs : List ℕ} → Lined t b → AllWeighed L (sheets.lines b) mgs → sum mgs < 10 ^ 20
+  total-most {b} l a = omega (arith, largest-total L a (omega (arith, length-map (b .cylinders) lineOf, l .at-most)))
 
-  report-length : {bs : List ℕ} → Reported t bs → Sized bs
+  report-length : {bs : List ℕ} → Reported L t bs → Sized bs
   report-length (not-in-form e) = alone 14 (omega arith)
   report-length (no-lines e z) = alone 10 (omega arith)
   report-length (many-lines e h) = alone 11 (omega arith)
@@ -108,5 +110,5 @@ module _ (t : List ℕ) where
   report-length (short {b} {need} {mgs} n a h) = after-lines (n .lined) (Ending.Short (sum mgs)) (total-most (n .lined) a)
 
 -- EVERY REPORT has at least one byte and at most 1,512
-pub length-of-report : (t : List ℕ) → (1 ≤ length (report (inForm t))) × (length (report (inForm t)) ≤ 1512)
-length-of-report t = report-length t (reported t)
+pub length-of-report : (L : Limits) (t : List ℕ) → (1 ≤ length (report L (inForm t))) × (length (report L (inForm t)) ≤ 1512)
+length-of-report L t = report-length L t (reported L t)

@@ -7,9 +7,9 @@ use Rattle.num_working.specs.declared.Worked.{Worked}
 use Rattle.num_formulas.specs.Readings as numerics
 use Rattle.num_formulas.proofs.Readings as numerics-read
 use Rattle.door_limits.specs.Limits.{document01}
-use Rattle.door_checks.specs.Check.{checks}
-use Rattle.door_pressure.specs.PressureDoor.{pressureDoor}
-use Rattle.sheet_weigh.specs.Weighing.{weighed, filled}
+use Rattle.door_checks.specs.Check.{ranged, boxed}
+use Rattle.door_pressure.specs.PressureDoor.{unboxed, pressureDoor}
+use Rattle.sheet_weigh.specs.Weighing.{filled, byReading, weighed}
 use Rattle.demands.specs.Readings.{Read, number, Starred, at, of-checks, of-lines, readings}
 
 abbrev worked : List Starred → List Read
@@ -19,11 +19,11 @@ abbrev reads : List Starred → List Read
 reads rs = map (λ (r : Starred). r .reads) rs
 
 checks-read : worked of-checks ≡ reads of-checks
-unfolding of-checks at document01 checks whole decimal fraction ofInt round div lt
+unfolding of-checks at document01 ranged boxed whole decimal fraction ofInt round div lt
 checks-read = refl
 
 lines-read : worked of-lines ≡ reads of-lines
-unfolding of-lines weighed filled pressureDoor document01 checks whole decimal fraction ofInt round div lt
+unfolding of-lines weighed byReading filled pressureDoor unboxed document01 ranged boxed whole decimal fraction ofInt round div lt
 lines-read = refl
 
 pub all-read : worked readings ≡ reads readings

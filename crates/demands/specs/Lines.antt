@@ -6,10 +6,10 @@ use Rattle.num_working.specs.Number.{whole}
 use Rattle.sheet_text.specs.declared.Field.{Field}
 use Rattle.sheet_line.specs.declared.cylinder.Kind.{Kind}
 use Rattle.sheet_line.specs.declared.cylinder.Cylinder.{Cylinder}
-use Rattle.door_limits.specs.Limits.{document01}
-use Rattle.door_answers.specs.declared.State.{State}
-use Rattle.door_answers.specs.declared.Answer.{Answer}
+use Rattle.eos_state.specs.declared.State.{State}
 use Rattle.equation.specs.Equation.{of1996}
+use Rattle.door_limits.specs.declared.Limits.{Limits}
+use Rattle.door_answers.specs.declared.Answer.{Answer}
 use Rattle.door_pressure.specs.PressureDoor.{pressureDoor}
 use Rattle.door_density.specs.DensityDoor.{densityDoor}
 use Rattle.num_whole.specs.Whole.{wholeBelow}
@@ -21,20 +21,6 @@ pub data Dashed (c : Cylinder) : Type 0 where
   in-temperature : c .temperature ≡ Field.Blank → Dashed c
   in-value : c .value ≡ Field.Blank → Dashed c
   in-volume : c .volume ≡ Field.Blank → Dashed c
-
--- the door that a kind and its value ask: "density the number over 1000", a pressure the number itself
-pub data Asked (t : Float) : Kind → Field → Answer → Type 0 where
-  by-pressure : (n : ℕ) → Asked t Kind.Pressure (Field.Number n) (pressureDoor of1996 document01 t (whole n))
-  by-density : (n : ℕ) → Asked t Kind.Density (Field.Number n) (densityDoor of1996 document01 t (div binary64 (whole n) (whole 1000)))
-
--- none is blank: the line's figures, and what its door answers. "Temperature is the number over 10000"
-pub record Figures (c : Cylinder) (v : ℕ) (a : Answer) : Type 0 where
-  pub cylinder : ℕ
-  pub degrees : ℕ
-  pub number : c .number ≡ Field.Number cylinder
-  pub temperature : c .temperature ≡ Field.Number degrees
-  pub volume : c .volume ≡ Field.Number v
-  pub asked : Asked (div binary64 (whole degrees) (whole 10000)) (c .kind) (c .value) a
 
 -- "volume 1 to 1,000,000 mL"
 pub record Volume (v : ℕ) : Type 0 where
@@ -49,17 +35,32 @@ pub data NoVolume (v : ℕ) : Type 0 where
 abbrev pub product : State → ℕ → Float
 product s v = mul binary64 (s .rho) (whole v)
 
--- when a line is refused, and by which number
-pub data RefusesLine (c : Cylinder) : ℕ → Type 0 where
-  blank : Dashed c → RefusesLine c 1
-  no-volume : {v : ℕ} {a : Answer} → Figures c v a → NoVolume v → RefusesLine c 2
-  by-door : {v n : ℕ} → Figures c v (Answer.Refused n) → Volume v → RefusesLine c n
-  no-product : {v : ℕ} {s : State} → Figures c v (Answer.State s) → Volume v → wholeBelow (product s v) ≡ Below.Out → RefusesLine c 7
+module _ (L : Limits) where
+  -- the door that a kind and its value ask: "density the number over 1000", a pressure the number itself
+  pub data Asked (t : Float) : Kind → Field → Answer → Type 0 where
+    by-pressure : (n : ℕ) → Asked t Kind.Pressure (Field.Number n) (pressureDoor of1996 L t (whole n))
+    by-density : (n : ℕ) → Asked t Kind.Density (Field.Number n) (densityDoor of1996 L t (div binary64 (whole n) (whole 1000)))
 
--- what an answered line's milligrams are: "ρ times volume, one product, the whole number at or below it"
-pub record Weighs (c : Cylinder) (mg : ℕ) : Type 0 where
-  pub v : ℕ
-  pub s : State
-  pub figures : Figures c v (Answer.State s)
-  pub in-range : Volume v
-  pub at-or-below : wholeBelow (product s v) ≡ Below.At mg
+  -- none is blank: the line's figures, and what its door answers. "Temperature is the number over 10000"
+  pub record Figures (c : Cylinder) (v : ℕ) (a : Answer) : Type 0 where
+    pub cylinder : ℕ
+    pub degrees : ℕ
+    pub number : c .number ≡ Field.Number cylinder
+    pub temperature : c .temperature ≡ Field.Number degrees
+    pub volume : c .volume ≡ Field.Number v
+    pub asked : Asked (div binary64 (whole degrees) (whole 10000)) (c .kind) (c .value) a
+
+  -- when a line is refused, and by which number
+  pub data RefusesLine (c : Cylinder) : ℕ → Type 0 where
+    blank : Dashed c → RefusesLine c 1
+    no-volume : {v : ℕ} {a : Answer} → Figures c v a → NoVolume v → RefusesLine c 2
+    by-door : {v n : ℕ} → Figures c v (Answer.Refused n) → Volume v → RefusesLine c n
+    no-product : {v : ℕ} {s : State} → Figures c v (Answer.State s) → Volume v → wholeBelow (product s v) ≡ Below.Out → RefusesLine c 7
+
+  -- what an answered line's milligrams are: "ρ times volume, one product, the whole number at or below it"
+  pub record Weighs (c : Cylinder) (mg : ℕ) : Type 0 where
+    pub v : ℕ
+    pub s : State
+    pub figures : Figures c v (Answer.State s)
+    pub in-range : Volume v
+    pub at-or-below : wholeBelow (product s v) ≡ Below.At mg

@@ -6,16 +6,16 @@ use Rattle.num_working.specs.Number.{whole}
 use Rattle.num_working.specs.declared.Worked.{Worked}
 use Rattle.num_formulas.specs.Readings as numerics
 use Rattle.door_limits.specs.Limits.{document01}
-use Rattle.door_checks.specs.Check.{checks}
+use Rattle.door_checks.specs.Check.{ranged, boxed}
 use Rattle.door_checks.specs.declared.Check.{Check}
-use Rattle.door_checks.specs.declared.Check.the-variants.{Passed}
+use Rattle.door_checks.specs.declared.Check.the-variants.{Passed, No}
 use Rattle.sheet_text.specs.declared.Field.the-variants.{Number}
 use Rattle.sheet_line.specs.Line.{lineOf}
 use Rattle.sheet_line.specs.declared.cylinder.Cylinder.{Cylinder}
 use Rattle.sheet_line.specs.declared.cylinder.Kind.the-variants.{Pressure}
 use Rattle.sheet_weigh.specs.Weighing.{weighed}
-use Rattle.sheet_report.specs.declared.Weighed.{Weighed}
-use Rattle.sheet_report.specs.declared.Weighed.the-variants.{Refused}
+use Rattle.sheet_outcome.specs.declared.Weighed.{Weighed}
+use Rattle.sheet_outcome.specs.declared.Weighed.the-variants.{Refused}
 
 -- what a reading is of: a number that is worked, the checks on the inputs, or a line
 pub data Read : Type 0 where
@@ -27,9 +27,16 @@ pub record Starred : Type 0 where
   pub worked : Read
   pub reads : Read
 
+-- one check after the other
+abbrev pub after : Check → Check → Check
+after (No n) c = No n
+after Passed c = c
+
 -- "Temperature is the number over 10000", a pressure is in Pa
 unfoldable pub at : ℕ → ℕ → Check
-at t p = checks document01 (document01 .asked .pressure) (document01 .critical .pressure) (div binary64 (whole t) (whole 10000)) (whole p)
+at t p =
+    let k = div binary64 (whole t) (whole 10000) in
+    after (ranged (document01 .asked .temperature) (document01 .asked .pressure) k (whole p)) (boxed (document01 .critical .temperature) (document01 .critical .pressure) k (whole p))
 
 abbrev pub passes : Check → Starred
 passes c = record { worked = check c; reads = check Passed }
@@ -48,7 +55,7 @@ abbrev pub written : ℕ → ℕ → ℕ → Cylinder
 written t p v = record { number = Number 1; temperature = Number t; kind = Pressure; value = Number p; volume = Number v }
 
 abbrev pub gives : Cylinder → ℕ → Starred
-gives c n = record { worked = line (weighed (lineOf c)); reads = line (Refused n) }
+gives c n = record { worked = line (weighed document01 (lineOf c)); reads = line (Refused n) }
 
 unfoldable pub of-lines : List Starred
 of-lines =

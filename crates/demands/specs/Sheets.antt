@@ -5,29 +5,21 @@ use mathlib.Core.List.{List, [], _∷_, _++_, map}
 use mathlib.Core.Option.{none, some}
 use denote.Ref.{RefT, now}
 use lib.ListN.{length, getD}
+use Rattle.door_limits.specs.declared.Limits.{Limits}
 use Rattle.sheet_text.specs.declared.Field.{Field}
 use Rattle.sheet_line.specs.Line.{lineOf}
 use Rattle.sheet_line.specs.declared.line.Line.{Line}
 use Rattle.sheet_read.specs.Form.{Bank, inForm}
 use Rattle.sheet_weigh.specs.Weighing.{weighed}
-use Rattle.sheet_report.specs.Report.{linesBytes, endingBytes, sentBack}
-use Rattle.sheet_report.specs.declared.Weighed.{Weighed}
-use Rattle.sheet_report.specs.declared.Ending.{Ending}
+use Rattle.sheet_weigh.specs.Sheet.{marked}
+use Rattle.sheet_outcome.specs.declared.Weighed.{Weighed}
+use Rattle.sheet_outcome.specs.declared.Ending.{Ending}
+use Rattle.sheet_report.specs.Report.{linesBytes, endingBytes}
 use Rattle.sheet_report.specs.declared.Written.{Written}
-use Rattle.sheet_score.specs.Score.{mark}
+use Rattle.sheet_score.specs.Score.{sentBack}
 
 abbrev pub lines : Bank → List Line
 lines b = map lineOf (b .cylinders)
-
--- some line is refused
-pub data OneRefused : List Line → Type 0 where
-  here : {l : Line} {ls : List Line} {n : ℕ} → weighed l ≡ Weighed.Refused n → OneRefused (l ∷ ls)
-  there : {l : Line} {ls : List Line} → OneRefused ls → OneRefused (l ∷ ls)
-
--- every line is answered, and these are their milligrams
-pub data AllWeighed : List Line → List ℕ → Type 0 where
-  none-left : AllWeighed [] []
-  one-more : {l : Line} {ls : List Line} {mg : ℕ} {mgs : List ℕ} → weighed l ≡ Weighed.Mass mg → AllWeighed ls mgs → AllWeighed (l ∷ ls) (mg ∷ mgs)
 
 -- "the exact sum of the lines"
 abbrev pub sum : List ℕ → ℕ
@@ -53,25 +45,38 @@ pub record Needs (t : List ℕ) (b : Bank) (mg : ℕ) : Type 0 where
   pub at-least : 1 ≤ mg
   pub at-most : mg ≤ 9_999_999_999
 
--- the report of a text
-pub data Reported (t : List ℕ) : List ℕ → Type 0 where
-  not-in-form : inForm t ≡ none → Reported t (sentBack 14)
-  no-lines : {b : Bank} → inForm t ≡ some b → length (b .cylinders) ≡ 0 → Reported t (sentBack 10)
-  many-lines : {b : Bank} → inForm t ≡ some b → 32 < length (b .cylinders) → Reported t (sentBack 11)
-  no-need : {b : Bank} → Lined t b → NoNeed (b .need) → Reported t (sentBack 12)
-  one-refused : {b : Bank} {need : ℕ} → Needs t b need → OneRefused (lines b) → Reported t (linesBytes 1 (map mark (lines b)) ++ sentBack 13)
-  covered : {b : Bank} {need : ℕ} {mgs : List ℕ} → Needs t b need → AllWeighed (lines b) mgs → need ≤ sum mgs
-      → Reported t (linesBytes 1 (map mark (lines b)) ++ endingBytes (Ending.Covered (sum mgs)))
-  short : {b : Bank} {need : ℕ} {mgs : List ℕ} → Needs t b need → AllWeighed (lines b) mgs → sum mgs < need
-      → Reported t (linesBytes 1 (map mark (lines b)) ++ endingBytes (Ending.Short (sum mgs)))
+module _ (L : Limits) where
+  -- some line is refused
+  pub data OneRefused : List Line → Type 0 where
+    here : {l : Line} {ls : List Line} {n : ℕ} → weighed L l ≡ Weighed.Refused n → OneRefused (l ∷ ls)
+    there : {l : Line} {ls : List Line} → OneRefused ls → OneRefused (l ∷ ls)
 
--- and what the lent output holds then: byte by byte, the report and after it what was there; or, where it doesn't fit, what was there
-pub data Delivered (t old new : List ℕ) : Written → Type 0 where
-  fits : {bs : List ℕ} → Reported t bs → length bs ≤ length old → length new ≡ length old
-      → ((i : ℕ) → i < length bs → getD new i 0 ≡ getD bs i 0) → ((i : ℕ) → length bs ≤ i → getD new i 0 ≡ getD old i 0)
-      → Delivered t old new (Written.Bytes (length bs))
-  too-long : {bs : List ℕ} → Reported t bs → length old < length bs → new ≡ old → Delivered t old new (Written.Refused 15)
+  -- every line is answered, and these are their milligrams
+  pub data AllWeighed : List Line → List ℕ → Type 0 where
+    none-left : AllWeighed [] []
+    one-more : {l : Line} {ls : List Line} {mg : ℕ} {mgs : List ℕ} → weighed L l ≡ Weighed.Mass mg → AllWeighed ls mgs → AllWeighed (l ∷ ls) (mg ∷ mgs)
 
--- whatever meets the promise of a function from a text and a lent output (`Post`, its own `ensures`) delivers
-abbrev pub Delivers : {S T U : Type 0} → (RefT (List ℕ) × (RefT (List ℕ) × S) → Written → T × (RefT (List ℕ) × U) → Type 0) → Type 0
-Delivers {S} {T} {U} Post = (a : RefT (List ℕ) × (RefT (List ℕ) × S)) (r : Written) (x : T × (RefT (List ℕ) × U)) → Post a r x → Delivered (now (a .0)) (now (a .1 .0)) (now (x .1 .0)) r
+  -- the report of a text
+  pub data Reported (t : List ℕ) : List ℕ → Type 0 where
+    not-in-form : inForm t ≡ none → Reported t (sentBack 14)
+    no-lines : {b : Bank} → inForm t ≡ some b → length (b .cylinders) ≡ 0 → Reported t (sentBack 10)
+    many-lines : {b : Bank} → inForm t ≡ some b → 32 < length (b .cylinders) → Reported t (sentBack 11)
+    no-need : {b : Bank} → Lined t b → NoNeed (b .need) → Reported t (sentBack 12)
+    one-refused : {b : Bank} {need : ℕ} → Needs t b need → OneRefused (lines b) → Reported t (linesBytes 1 (marked L (lines b)) ++ sentBack 13)
+    covered : {b : Bank} {need : ℕ} {mgs : List ℕ} → Needs t b need → AllWeighed (lines b) mgs → need ≤ sum mgs
+        → Reported t (linesBytes 1 (marked L (lines b)) ++ endingBytes (Ending.Covered (sum mgs)))
+    short : {b : Bank} {need : ℕ} {mgs : List ℕ} → Needs t b need → AllWeighed (lines b) mgs → sum mgs < need
+        → Reported t (linesBytes 1 (marked L (lines b)) ++ endingBytes (Ending.Short (sum mgs)))
+
+  -- and what the lent output holds then: byte by byte, the report and after it what was there; or, where it doesn't fit, what was there
+  pub data Delivered (t old new : List ℕ) : Written → Type 0 where
+    fits : {bs : List ℕ} → Reported t bs → length bs ≤ length old → length new ≡ length old
+        → ((i : ℕ) → i < length bs → getD new i 0 ≡ getD bs i 0) → ((i : ℕ) → length bs ≤ i → getD new i 0 ≡ getD old i 0)
+        → Delivered t old new (Written.Bytes (length bs))
+    too-long : {bs : List ℕ} → Reported t bs → length old < length bs → new ≡ old → Delivered t old new (Written.Refused 15)
+
+-- whatever meets the promise of a function from limits, a text and a lent output (`Post`, its own `ensures`) delivers
+abbrev pub Delivers : {S T U W : Type 0} → (Limits × (RefT (List ℕ) × (RefT (List ℕ) × S)) → Written → T × (U × (RefT (List ℕ) × W)) → Type 0) → Type 0
+Delivers {S} {T} {U} {W} Post =
+    (a : Limits × (RefT (List ℕ) × (RefT (List ℕ) × S))) (r : Written) (x : T × (U × (RefT (List ℕ) × W))) → Post a r x
+    → Delivered (a .0) (now (a .1 .0)) (now (a .1 .1 .0)) (now (x .1 .1 .0)) r

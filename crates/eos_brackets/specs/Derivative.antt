@@ -1,5 +1,5 @@
 -- The five derivatives that Table 3 needs, each with its factor, a number for each, and how a row's figures are added up. Definitions only.
-use mathlib.Core.Bool.{Bool, true, false}
+use mathlib.Core.Bool.{Bool, true, cond}
 use lib.Ieee.{Float, binary64, add, mul}
 use Rattle.eos_brackets.specs.declared.Five.{Five}
 
@@ -7,30 +7,28 @@ use Rattle.eos_brackets.specs.declared.Five.{Five}
 pub data Derivative : Type 0 where
   Delta DeltaDelta Tau TauTau DeltaTau : Derivative
 
-abbrev pub five : (Derivative → Float) → Five
-five f = record { d = f Delta; dd = f DeltaDelta; t = f Tau; tt = f TauTau; dt = f DeltaTau }
+-- one for each, in that order
+abbrev pub columns : {A : Type 0} → A → A → A → A → A → Derivative → A
+columns d dd t tt dt Delta = d
+columns d dd t tt dt DeltaDelta = dd
+columns d dd t tt dt Tau = t
+columns d dd t tt dt TauTau = tt
+columns d dd t tt dt DeltaTau = dt
 
 abbrev pub of : Five → Derivative → Float
-of s Delta = s .d
-of s DeltaDelta = s .dd
-of s Tau = s .t
-of s TauTau = s .tt
-of s DeltaTau = s .dt
+of s = columns (s .d) (s .dd) (s .t) (s .tt) (s .dt)
+
+abbrev pub five : (Derivative → Float) → Five
+five f = record { d = f Delta; dd = f DeltaDelta; t = f Tau; tt = f TauTau; dt = f DeltaTau }
 
 -- a row's figures: its term times its brackets
 abbrev pub times : Float → (Derivative → Float) → Five
 times term bracket = five (λ k. mul binary64 term (bracket k))
 
--- the sums so far and a row's figures: all five, or the first alone, which a pressure needs
-abbrev pub grown : Bool → Five → Float → (Derivative → Float) → Five
-grown true s term bracket = five (λ k. add binary64 (of s k) (mul binary64 term (bracket k)))
-grown false s term bracket = record { d = add binary64 (s .d) (mul binary64 term (bracket Delta)); dd = s .dd; t = s .t; tt = s .tt; dt = s .dt }
-
--- whether a sum is among those that are asked for
+-- whether a sum is among those that are asked for: all five, or the first alone, which a pressure needs
 abbrev pub asked : Bool → Derivative → Bool
-asked true k = true
-asked false Delta = true
-asked false DeltaDelta = false
-asked false Tau = false
-asked false TauTau = false
-asked false DeltaTau = false
+asked all = columns true all all all all
+
+-- the sums so far, with a row's figures added to those that are asked for
+abbrev pub grown : Bool → Five → Float → (Derivative → Float) → Five
+grown all s term bracket = five (λ k. cond (asked all k) (add binary64 (of s k) (mul binary64 term (bracket k))) (of s k))

@@ -12,7 +12,7 @@ pub struct Five {
 }
 
 // The figures of the first row of all.
-pub fn first(term: f64, brackets: Five) -> Five
+pub fn times(term: f64, brackets: Five) -> Five
     ensures { λ r. ⌜ r ≡ times term (of brackets) ⌝ }
 {
     Five {

@@ -14,7 +14,11 @@ module _ {A : Type 0} (goal : List A) where
   pub fill-more : (i : ℕ) (a : List A) (v z : A) → i < length goal → Filled i a → v ≡ getD goal i z → Filled (i + 1) (set a i v)
   fill-more i a v z h f e = record {
     long = length-set a i v ∙ f .long;
-    same = rw add-one (take-suc-set a i v (rw (f .long) h) ∙ ap (λ (t : List A). t ++ (v ∷ [])) (f .same) ∙ ap (λ (y : A). take i goal ++ (y ∷ [])) e ∙ sym (take-suc goal i z h));
+    same = rw add-one (
+        take-suc-set a i v (rw (f .long) h)
+        ∙ ap (λ (t : List A). t ++ (v ∷ [])) (f .same)
+        ∙ ap (λ (y : A). take i goal ++ (y ∷ [])) e
+        ∙ sym (take-suc goal i z h));
   }
 
   pub fill-all : (i : ℕ) (a : List A) → length goal ≤ i → Filled i a → a ≡ goal

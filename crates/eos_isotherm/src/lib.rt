@@ -1,15 +1,22 @@
 // What hangs on the temperature alone, in plain f64, worked once for a search and handed on by value.
 ghost use mathlib.Core.Path.{_≡_};
+ghost use lib.ListN.{getD};
 ghost use Rattle.num_working.specs.Working.{plain};
 ghost use Rattle.num_roots.specs.Root.{root};
 ghost use Rattle.num_formulas.specs.Formula.{value};
-ghost use Rattle.eos_isotherm.specs.Isotherm.{half, tauOf, quarters, tauPowers, isotherm};
-use eos_constants::span_wagner;
+ghost use Rattle.eos_rows.specs.Row.{row39};
+ghost use Rattle.eos_isotherm.specs.Isotherm.{half, quarters, tauPowers, bellTau, fourBells, psiTau, isotherm};
+use eos_constants::tau_at;
 use eos_powers::powers_to_3;
 use eos_powers::powers_to_28;
+use eos_rows::Gaussian;
+use eos_rows::NonAnalytic;
+use eos_rows::exponential_row;
+use eos_rows::gaussian_row;
+use eos_rows::non_analytic_row;
+use eos_rows::polynomial_row;
 use num_roots::root::Exponent;
 use num_roots::root::root;
-use num_working::over;
 use num_working::plain;
 
 pub struct Isotherm {
@@ -23,53 +30,17 @@ pub struct Isotherm {
     pub psi: f64,
 }
 
-const QUARTERS: [u8; 39] = [
-    0,
-    3,
-    4,
-    8,
-    3,
-    8,
-    3,
-    6,
-    6,
-    10,
-    0,
-    6,
-    8,
-    0,
-    4,
-    8,
-    12,
-    24,
-    12,
-    24,
-    32,
-    24,
-    0,
-    28,
-    48,
-    64,
-    88,
-    96,
-    64,
-    96,
-    32,
-    8,
-    112,
-    56,
-    4,
-    0,
-    4,
-    12,
-    12,
-];
-
-// The exponents of τ in rows 1 to 39, in quarters.
-fn tau_quarters() -> [u8; 39]
-    ensures { λ r. ⌜ r ≡ quarters ⌝ }
+// The exponent of τ in the row at place i of rows 1 to 39, in quarters.
+fn quarters_at(i: usize) -> u8
+    ensures { λ r. ⌜ r ≡ getD quarters i (row39 .q) ⌝ }
 {
-    QUARTERS
+    if i < 7 {
+        return polynomial_row(i).q;
+    }
+    if i < 34 {
+        return exponential_row(i - 7).q;
+    }
+    gaussian_row(i - 34).q
 }
 
 // τᵗ of rows 1 to 39: always the one product of a whole power of τ and one of its quarter root.
@@ -78,11 +49,10 @@ fn tau_powers(tau: f64, quarter: f64) -> [f64; 39]
 {
     let t = powers_to_28(tau);
     let q = powers_to_3(quarter);
-    let js = tau_quarters();
     let mut a = [0.0; 39];
     let mut i = 0;
     while i < 39 {
-        let j = js[i] as usize;
+        let j = quarters_at(i) as usize;
         a[i] = t[j / 4] * q[j % 4];
         i += 1;
     }
@@ -95,10 +65,30 @@ fn half_of(x: f64) -> f64
     plain(root(x, Exponent { m: 1, k: 2 }))
 }
 
-fn tau_at(t: f64) -> f64
-    ensures { λ r. ⌜ r ≡ value (tauOf t) ⌝ }
+// β·(τ−γ)² of a row of 35 to 39.
+fn bell_of(row: Gaussian, tau: f64) -> f64
+    ensures { λ r. ⌜ r ≡ value (bellTau tau row) ⌝ }
 {
-    over(span_wagner().temperature, t)
+    row.beta * ((tau - row.gamma) * (tau - row.gamma))
+}
+
+// Of rows 35, 36 and 37, 38, 39.
+fn four_bells(tau: f64) -> [f64; 4]
+    ensures { λ r. ⌜ r ≡ fourBells tau ⌝ }
+{
+    [
+        bell_of(gaussian_row(0), tau),
+        bell_of(gaussian_row(1), tau),
+        bell_of(gaussian_row(3), tau),
+        bell_of(gaussian_row(4), tau),
+    ]
+}
+
+// D·(τ−1)² of a row of 40 to 42.
+fn psi_of(row: NonAnalytic, tau: f64) -> f64
+    ensures { λ r. ⌜ r ≡ value (psiTau tau row) ⌝ }
+{
+    row.kd * ((tau - 1.0) * (tau - 1.0))
 }
 
 pub fn at_temperature(t: f64) -> Isotherm
@@ -106,13 +96,8 @@ pub fn at_temperature(t: f64) -> Isotherm
 {
     let tau = tau_at(t);
     let powers = tau_powers(tau, half_of(half_of(tau)));
-    let bell = [
-        325.0 * ((tau - 1.16) * (tau - 1.16)),
-        300.0 * ((tau - 1.19) * (tau - 1.19)),
-        275.0 * ((tau - 1.25) * (tau - 1.25)),
-        275.0 * ((tau - 1.22) * (tau - 1.22)),
-    ];
-    let psi = 275.0 * ((tau - 1.0) * (tau - 1.0));
+    let bell = four_bells(tau);
+    let psi = psi_of(non_analytic_row(0), tau);
     Isotherm {
         t,
         tau,

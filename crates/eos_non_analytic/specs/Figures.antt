@@ -4,103 +4,69 @@ use lib.Ieee.{Float}
 use Rattle.num_working.specs.Number.{whole, fraction}
 use Rattle.num_working.specs.declared.Worked.{Worked}
 use Rattle.num_formulas.specs.Formula.{Formula, num, one, two, _⊕_, _⊖_, _⊗_, _⊘_, _^^_, minus, work}
-use Rattle.eos_brackets.specs.Derivative.{Derivative, Delta, DeltaDelta, Tau, TauTau, DeltaTau}
+use Rattle.eos_brackets.specs.Derivative.{Derivative, columns}
 use Rattle.eos_rows.specs.Row.{nonAnalytics}
 use Rattle.eos_rows.specs.declared.NonAnalytic.{NonAnalytic}
 use Rattle.eos_isotherm.specs.declared.Isotherm.{Isotherm}
 use Rattle.eos_non_analytic.specs.Parts.{Around, Parts, around, parts, psi}
 
--- ---- the term is (n·δ)·Ψ
+-- the term is (n·δ)·Ψ
 abbrev pub nonAnalyticTerm : NonAnalytic → Float → Formula → Formula
 nonAnalyticTerm row delta Ψ = num (row .n) ⊗ num delta ⊗ Ψ
 
--- ---- the derivatives
+-- ---- the brackets, with ARRANGEMENT's letters
 module _ (row : NonAnalytic) (n : Around) (p : Parts) where
-  -- P₂ = P₁/Δ, which the second derivatives alone work
-  abbrev pub P₂ : Formula
-  P₂ = p .P₁ ⊘ p .Δ
-
-  -- m = Δ_δ/e, Δ_δ and Δ_δδ
+  -- m = Δ_δ/e
   abbrev pub m : Formula
-  m =
-      num (row .ka) ⊗ p .θ ⊗ num (fraction 20 3) ⊗ n .v
-      ⊕ two ⊗ num (row .kb) ⊗ num (row .a) ⊗ p .low
+  m = num (row .ka) ⊗ p .θ ⊗ num (fraction 20 3) ⊗ n .v ⊕ two ⊗ num (row .kb) ⊗ num (row .a) ⊗ p .low
 
-  abbrev pub deltaD : Formula
-  deltaD = n .e ⊗ m
+  -- by m and P₂
+  unfoldable pub bracketsBy : Formula → Formula → Float → Float → Derivative → Formula
+  bracketsBy m P₂ delta tau =
+      let δ = num delta in
+      let τ = num tau in
+      let A = num (row .ka) in
+      let B = num (row .kb) in
+      let C = num (row .kc) in
+      let D = num (row .kd) in
+      let a = num (row .a) in
+      let b = num (row .b) in
+      let e = n .e in
+      let f = τ ⊖ one in
+      let v = n .v in
+      let θ = p .θ in
+      let P₀ = p .P₀ in
+      let P₁ = p .P₁ in
+      -- derivatives of Δ
+      let Δδ = e ⊗ m in
+      let Δδδ =
+      m ⊕ num (whole 4) ⊗ B ⊗ a ⊗ (a ⊖ one) ⊗ p .low
+      ⊕ two ⊗ (A ⊗ A) ⊗ num (fraction 100 9) ⊗ n .X ⊗ (v ⊗ v)
+      ⊕ A ⊗ θ ⊗ num (fraction 40 3) ⊗ num (fraction 2 3) ⊗ v in
+      -- of Δᵇ
+      let Pδ = b ⊗ P₁ ⊗ Δδ in
+      let Pδδ = b ⊗ (P₁ ⊗ Δδδ ⊕ (b ⊖ one) ⊗ P₂ ⊗ (Δδ ⊗ Δδ)) in
+      let Pτ = minus (two ⊗ θ ⊗ b ⊗ P₁) in
+      let Pττ = two ⊗ b ⊗ P₁ ⊕ num (whole 4) ⊗ (θ ⊗ θ) ⊗ (b ⊗ (b ⊖ one)) ⊗ P₂ in
+      let Pδτ = minus (A ⊗ b ⊗ num (fraction 20 3) ⊗ P₁ ⊗ e ⊗ v) ⊖ two ⊗ θ ⊗ (b ⊗ (b ⊖ one)) ⊗ P₂ ⊗ Δδ in
+      -- of Ψ, each over Ψ
+      let ψδ = minus (two ⊗ C ⊗ e) in
+      let ψδδ = (two ⊗ C ⊗ n .X ⊖ one) ⊗ (two ⊗ C) in
+      let ψτ = minus (two ⊗ D ⊗ f) in
+      let ψττ = (two ⊗ D ⊗ (f ⊗ f) ⊖ one) ⊗ (two ⊗ D) in
+      let k = δ ⊗ ψδ in
+      let g = one ⊕ k in
+      let l = δ ⊗ Pδ in
+      columns
+      (P₀ ⊗ g ⊕ l)
+      (P₀ ⊗ (two ⊗ k ⊕ δ ^^ 2 ⊗ ψδδ) ⊕ two ⊗ l ⊗ g ⊕ δ ^^ 2 ⊗ Pδδ)
+      (τ ⊗ (Pτ ⊕ P₀ ⊗ ψτ))
+      (τ ^^ 2 ⊗ (Pττ ⊕ two ⊗ Pτ ⊗ ψτ ⊕ P₀ ⊗ ψττ))
+      (τ ⊗ (P₀ ⊗ ψτ ⊗ g ⊕ l ⊗ ψτ ⊕ Pτ ⊗ g ⊕ δ ⊗ Pδτ))
 
-  abbrev pub deltaDD : Formula
-  deltaDD =
-      m ⊕ num (whole 4) ⊗ num (row .kb) ⊗ num (row .a) ⊗ (num (row .a) ⊖ one) ⊗ p .low
-      ⊕ two ⊗ (num (row .ka) ⊗ num (row .ka)) ⊗ num (fraction 100 9) ⊗ n .X ⊗ (n .v ⊗ n .v)
-      ⊕ num (row .ka) ⊗ p .θ ⊗ num (fraction 40 3) ⊗ num (fraction 2 3) ⊗ n .v
-
-  -- those of Δᵇ
-  abbrev pub pD : Formula
-  pD = num (row .b) ⊗ p .P₁ ⊗ deltaD
-
-  abbrev pub pDD : Formula
-  pDD = num (row .b) ⊗ (p .P₁ ⊗ deltaDD ⊕ (num (row .b) ⊖ one) ⊗ P₂ ⊗ (deltaD ⊗ deltaD))
-
-  abbrev pub pT : Formula
-  pT = minus (two ⊗ p .θ ⊗ num (row .b) ⊗ p .P₁)
-
-  abbrev pub pTT : Formula
-  pTT =
-      two ⊗ num (row .b) ⊗ p .P₁
-      ⊕ num (whole 4) ⊗ (p .θ ⊗ p .θ) ⊗ (num (row .b) ⊗ (num (row .b) ⊖ one)) ⊗ P₂
-
-  abbrev pub pDT : Formula
-  pDT =
-      minus (num (row .ka) ⊗ num (row .b) ⊗ num (fraction 20 3) ⊗ p .P₁ ⊗ n .e ⊗ n .v)
-      ⊖ two ⊗ p .θ ⊗ (num (row .b) ⊗ (num (row .b) ⊖ one)) ⊗ P₂ ⊗ deltaD
-
-  -- those of Ψ, each over Ψ
-  abbrev pub psiD : Formula
-  psiD = minus (two ⊗ num (row .kc) ⊗ n .e)
-
-  abbrev pub psiDD : Formula
-  psiDD = (two ⊗ num (row .kc) ⊗ n .X ⊖ one) ⊗ (two ⊗ num (row .kc))
-
-  abbrev pub psiT : Float → Formula
-  psiT tau = minus (two ⊗ num (row .kd) ⊗ (num tau ⊖ one))
-
-  abbrev pub psiTT : Float → Formula
-  psiTT tau = (two ⊗ num (row .kd) ⊗ ((num tau ⊖ one) ⊗ (num tau ⊖ one)) ⊖ one) ⊗ (two ⊗ num (row .kd))
-
-  -- ---- the brackets
-  module _ (delta tau : Float) where
-    -- δ·ψ_δ, 1 + δ·ψ_δ and δ·P_δ
-    abbrev pub k : Formula
-    k = num delta ⊗ psiD
-
-    abbrev pub g : Formula
-    g = one ⊕ k
-
-    abbrev pub l : Formula
-    l = num delta ⊗ pD
-
-    abbrev pub bracketD : Formula
-    bracketD = p .P₀ ⊗ g ⊕ l
-
-    abbrev pub bracketDD : Formula
-    bracketDD = p .P₀ ⊗ (two ⊗ k ⊕ num delta ^^ 2 ⊗ psiDD) ⊕ two ⊗ l ⊗ g ⊕ num delta ^^ 2 ⊗ pDD
-
-    abbrev pub bracketT : Formula
-    bracketT = num tau ⊗ (pT ⊕ p .P₀ ⊗ psiT tau)
-
-    abbrev pub bracketTT : Formula
-    bracketTT = num tau ^^ 2 ⊗ (pTT ⊕ two ⊗ pT ⊗ psiT tau ⊕ p .P₀ ⊗ psiTT tau)
-
-    abbrev pub bracketDT : Formula
-    bracketDT = num tau ⊗ (p .P₀ ⊗ psiT tau ⊗ g ⊕ l ⊗ psiT tau ⊕ pT ⊗ g ⊕ num delta ⊗ pDT)
-
-    unfoldable pub nonAnalyticBracket : Derivative → Formula
-    nonAnalyticBracket Delta = bracketD
-    nonAnalyticBracket DeltaDelta = bracketDD
-    nonAnalyticBracket Tau = bracketT
-    nonAnalyticBracket TauTau = bracketTT
-    nonAnalyticBracket DeltaTau = bracketDT
+  -- P₂ = P₁/Δ, which stands in the second derivatives alone
+  abbrev pub nonAnalyticBracket : Float → Float → Derivative → Formula
+  nonAnalyticBracket = bracketsBy m (p .P₁ ⊘ p .Δ)
 
 -- ---- the rows' figures
 module _ (iso : Isotherm) (delta : Float) (k : Derivative) where

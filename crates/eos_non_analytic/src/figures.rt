@@ -1,11 +1,10 @@
 // The figures of rows 40 to 42, the term (n·δ)·Ψ times the bracket of each derivative (004, Table 32), added to the sums
 // so far: all five, or the first, which a pressure needs.
 ghost use mathlib.Core.Path.{_≡_};
-ghost use mathlib.Core.Bool.{true};
 ghost use Rattle.num_formulas.specs.Formula.{num, _⊕_, _⊗_, value};
-ghost use Rattle.eos_brackets.specs.Derivative.{five, grown};
+ghost use Rattle.eos_brackets.specs.Derivative.{Delta, of, five};
 ghost use Rattle.eos_non_analytic.specs.Parts.{heldNear, heldEdge};
-ghost use Rattle.eos_non_analytic.specs.Figures.{m, bracketD, nonAnalyticTerm, nonAnalyticBracket};
+ghost use Rattle.eos_non_analytic.specs.Figures.{m, bracketsBy, nonAnalyticTerm, nonAnalyticBracket};
 use crate::parts::Edge;
 use crate::parts::Near;
 use eos_brackets::Five;
@@ -22,7 +21,7 @@ fn m_of(row: NonAnalytic, n: Near, edge: Edge) -> f64
 
 // The first bracket alone.
 fn slope_bracket(row: NonAnalytic, n: Near, edge: Edge, delta: f64, tau: f64) -> f64
-    ensures { λ r. ⌜ r ≡ value (bracketD row (heldNear n) (heldEdge edge) delta tau) ⌝ }
+    ensures { λ r. ⌜ r ≡ value (nonAnalyticBracket row (heldNear n) (heldEdge edge) delta tau Delta) ⌝ }
 {
     let delta_d = n.e * m_of(row, n, edge);
     let l = delta * (row.b * edge.p1 * delta_d);
@@ -30,13 +29,11 @@ fn slope_bracket(row: NonAnalytic, n: Near, edge: Edge, delta: f64, tau: f64) ->
     edge.p0 * (1.0 + k) + l
 }
 
-// The five brackets: what they share is worked once.
-fn brackets(row: NonAnalytic, n: Near, edge: Edge, delta: f64, tau: f64) -> Five
-    ensures { λ r. ⌜ r ≡ five (λ k. value (nonAnalyticBracket row (heldNear n) (heldEdge edge) delta tau k)) ⌝ }
+// The five brackets by m and P₂: what they share is worked once.
+fn brackets_by(row: NonAnalytic, n: Near, edge: Edge, m: f64, p2: f64, delta: f64, tau: f64) -> Five
+    ensures { λ r. ⌜ r ≡ five (λ k. value (bracketsBy row (heldNear n) (heldEdge edge) (num m) (num p2) delta tau k)) ⌝ }
 {
-    let p2 = over(edge.p1, edge.delta);
     // of Δ
-    let m = m_of(row, n, edge);
     let delta_d = n.e * m;
     let delta_dd = m
         + 4.0 * row.kb * row.a * (row.a - 1.0) * edge.low
@@ -68,6 +65,15 @@ fn brackets(row: NonAnalytic, n: Near, edge: Edge, delta: f64, tau: f64) -> Five
     }
 }
 
+// P₂ is worked only where a second derivative is.
+fn brackets(row: NonAnalytic, n: Near, edge: Edge, delta: f64, tau: f64) -> Five
+    ensures { λ r. ⌜ r ≡ five (λ k. value (nonAnalyticBracket row (heldNear n) (heldEdge edge) delta tau k)) ⌝ }
+{
+    let m = m_of(row, n, edge);
+    let p2 = over(edge.p1, edge.delta);
+    brackets_by(row, n, edge, m, p2, delta, tau)
+}
+
 // The sums so far, and a row's figures added. psi is its Ψ.
 pub fn add_figures(
     s: Five,
@@ -78,7 +84,7 @@ pub fn add_figures(
     delta: f64,
     tau: f64,
 ) -> Five
-    ensures { λ r. ⌜ r ≡ grown true s (value (nonAnalyticTerm row delta (num psi))) (λ k. value (nonAnalyticBracket row (heldNear n) (heldEdge edge) delta tau k)) ⌝ }
+    ensures { λ r. ⌜ r ≡ five (λ k. value (num (of s k) ⊕ nonAnalyticTerm row delta (num psi) ⊗ nonAnalyticBracket row (heldNear n) (heldEdge edge) delta tau k)) ⌝ }
 {
     grow(
         true,
@@ -88,7 +94,7 @@ pub fn add_figures(
     )
 }
 
-// The first sum so far, which a pressure needs, and the row's figure of it.
+// The first sum so far, which a pressure needs, and the row's figure of it. Apart from the five, so that it stays short where it is worked.
 pub fn add_slope(
     s: f64,
     row: NonAnalytic,
@@ -98,7 +104,7 @@ pub fn add_slope(
     delta: f64,
     tau: f64,
 ) -> f64
-    ensures { λ r. ⌜ r ≡ value (num s ⊕ nonAnalyticTerm row delta (num psi) ⊗ bracketD row (heldNear n) (heldEdge edge) delta tau) ⌝ }
+    ensures { λ r. ⌜ r ≡ value (num s ⊕ nonAnalyticTerm row delta (num psi) ⊗ nonAnalyticBracket row (heldNear n) (heldEdge edge) delta tau Delta) ⌝ }
 {
     s + row.n * delta * psi * slope_bracket(row, n, edge, delta, tau)
 }

@@ -1,13 +1,14 @@
 // Rows 40 to 42, the non-analytic ones, which see the neighbourhood of the critical point: what their terms and brackets
 // are made of but for Ψ, in plain f64. A number here that is not finite fails whatever is worked from it.
 ghost use mathlib.Core.Path.{_≡_};
+ghost use Rattle.num_working.specs.Working.{over};
 ghost use Rattle.num_formulas.specs.Formula.{absolute, num, value};
-ghost use Rattle.eos_non_analytic.specs.Parts.{around, near, raised, lowered, heldNear, parts, shared, edge, based, critical};
+ghost use Rattle.eos_non_analytic.specs.Parts.{around, near, raised, heldNear, parts, shared, critical};
 use eos_constants::Printed;
 use eos_constants::worked_as;
 use eos_isotherm::Isotherm;
 use eos_rows::NonAnalytic;
-use eos_rows::non_analytics;
+use eos_rows::non_analytic_row;
 use num_roots::root::Exponent;
 use num_roots::side::three_roots;
 use num_roots::side::two_roots;
@@ -65,38 +66,26 @@ fn size_of(x: f64) -> f64
     if x < 0.0 { -x } else { x }
 }
 
-// Xᵃ
-fn raise(half: bool, n: Near) -> f64
-    ensures { λ r. ⌜ r ≡ value (raised half (heldNear n)) ⌝ }
+// A whole power of X, times |e| where a has a half: Xᵃ of the cube, Xᵃ⁻¹ of the square.
+fn raise(half: bool, e: f64, power: f64) -> f64
+    ensures { λ r. ⌜ r ≡ value (raised half (num e) (num power)) ⌝ }
 {
-    let x = n.x;
-    if half {
-        x * x * x * size_of(n.e)
-    } else {
-        x * x * x
-    }
-}
-
-// Xᵃ⁻¹
-fn lower(half: bool, n: Near) -> f64
-    ensures { λ r. ⌜ r ≡ value (lowered half (heldNear n)) ⌝ }
-{
-    let x = n.x;
-    if half { x * x * size_of(n.e) } else { x * x }
+    if half { power * size_of(e) } else { power }
 }
 
 fn shared_by(row: NonAnalytic, n: Near, tau: f64) -> Shared
     ensures { λ r. ⌜ r ≡ shared (parts row (heldNear n) tau) ⌝ }
 {
     let theta = (1.0 - tau) + row.ka * n.r;
-    let delta = theta * theta + row.kb * raise(row.half, n);
-    let low = lower(row.half, n);
+    let square = n.x * n.x;
+    let delta = theta * theta + row.kb * raise(row.half, n.e, square * n.x);
+    let low = raise(row.half, n.e, square);
     Shared { theta, delta, low }
 }
 
 // A row by its root Δᵇ.
 fn edge_at(s: Shared, p0: f64) -> Edge
-    ensures { λ r. ⌜ r ≡ edge (based (num p0) s) ⌝ }
+    ensures { λ r. ⌜ r ≡ record { theta = s .theta; delta = s .delta; p0 = p0; p1 = over p0 (s .delta); low = s .low } ⌝ }
 {
     Edge {
         theta: s.theta,
@@ -110,14 +99,13 @@ fn edge_at(s: Shared, p0: f64) -> Edge
 pub fn at_critical(iso: Isotherm, delta: f64) -> Critical
     ensures { λ r. ⌜ r ≡ critical iso delta ⌝ }
 {
-    let rows = non_analytics();
     let near = near_critical(delta);
     let tau = iso.tau;
     // Row 41 differs from row 40 in n and b alone, and row 42 has the b of row 40.
-    let row = rows[0];
-    let next = rows[1];
+    let row = non_analytic_row(0);
+    let next = non_analytic_row(1);
     let shared = shared_by(row, near, tau);
-    let other = shared_by(rows[2], near, tau);
+    let other = shared_by(non_analytic_row(2), near, tau);
     let b = row.root;
     let c = next.root;
     let roots = three_roots(shared.delta, worked_as(b), worked_as(c), other.delta);

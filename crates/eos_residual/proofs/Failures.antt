@@ -38,7 +38,8 @@ unfolding isotherm tauPowers quarters polynomials tauPower work _^ᵂ_ _*ᵂ_ wh
 second-power t e = once (tauPower _ (value (quarterOf t)) 3) ∙ rw (once (quarterOf t), e) refl
 
 -- and its figure fails with it
-second-figure : (iso : Isotherm) (delta : Float) (k : Derivative) → checked (getD (iso .powers) 1 nan) ≡ Failed → getD (polynomialFigures iso delta k) 1 Failed ≡ Failed
+second-figure : (iso : Isotherm) (delta : Float) (k : Derivative) → checked (getD (iso .powers) 1 nan) ≡ Failed
+    → getD (polynomialFigures iso delta k) 1 Failed ≡ Failed
 unfolding polynomialFigures polynomials polynomialTerm work _*ᵂ_
 second-figure iso delta k e = rw (e, times-failed _) refl
 

@@ -1,4 +1,5 @@
-pub mod Psis
+pub mod Points
+pub mod ThreeRows
 pub mod Sums
 pub mod Figures
 pub mod Totals

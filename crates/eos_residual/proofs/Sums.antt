@@ -56,10 +56,13 @@ pub length-numbered : {A B : Type 0} (f : ℕ → A → B) (j : ℕ) (rs : List 
 length-numbered f j [] = refl
 length-numbered f j (r ∷ rs) = ap suc (length-numbered f (suc j) rs)
 
-pub getD-numbered : {A B : Type 0} (f : ℕ → A → B) (j : ℕ) (rs : List A) (i : ℕ) (d : A) (e : B) → i < length rs → getD (numbered f j rs) i e ≡ f (j + i) (getD rs i d)
+pub getD-numbered : {A B : Type 0} (f : ℕ → A → B) (j : ℕ) (rs : List A) (i : ℕ) (d : A) (e : B) → i < length rs
+    → getD (numbered f j rs) i e ≡ f (j + i) (getD rs i d)
 getD-numbered f j [] i d e h = absurd (not-suc-le-zero h)
 getD-numbered f j (r ∷ rs) zero d e h = let p : j ≡ j + 0 = omega arith in ap (λ (n : ℕ). f n r) p
-getD-numbered f j (r ∷ rs) (suc i) d e h = let p : suc j + i ≡ j + suc i = omega arith in getD-numbered f (suc j) rs i d e (le-of-suc-le-suc h) ∙ ap (λ (n : ℕ). f n (getD rs i d)) p
+getD-numbered f j (r ∷ rs) (suc i) d e h =
+    let p : suc j + i ≡ j + suc i = omega arith in
+    getD-numbered f (suc j) rs i d e (le-of-suc-le-suc h) ∙ ap (λ (n : ℕ). f n (getD rs i d)) p
 
 -- ---- the same for each sum that is asked for
 -- what a row's term and brackets have to be
@@ -70,13 +73,18 @@ module _ (all : Bool) (figures : Derivative → List Worked) where
   abbrev pub Dues : (Derivative → Worked) → ℕ → Five → Type 0
   Dues goal i s = (k : Derivative) → T (asked all k) → Due (figures k) (goal k) i (of s k)
 
-  pub dues-more : (goal : Derivative → Worked) (i : ℕ) (s v : Five) (term : Float) (bracket : Derivative → Float) → v ≡ grown all s term bracket → At figures i term bracket → Dues goal i s → Dues goal (i + 1) v
+  pub dues-more : (goal : Derivative → Worked) (i : ℕ) (s v : Five) (term : Float) (bracket : Derivative → Float)
+      → v ≡ grown all s term bracket → At figures i term bracket → Dues goal i s → Dues goal (i + 1) v
   dues-more goal i s v term bracket e h d k t =
       rw (e, of-grown all s term bracket k t)
       (due-more (figures k) (goal k) i (of s k) (mul binary64 term (bracket k)) (h k .0) (h k .1) (d k t))
 
-  pub dues-none : (goal : Derivative → Worked) (i : ℕ) (s : Five) {n : ℕ} → Dues goal i s → ((k : Derivative) → length (figures k) ≡ n) → n ≤ i → Meet all s goal
+  pub dues-none : (goal : Derivative → Worked) (i : ℕ) (s : Five) {n : ℕ} → Dues goal i s
+      → ((k : Derivative) → length (figures k) ≡ n) → n ≤ i → Meet all s goal
   dues-none goal i s d h l k t = due-none (figures k) (goal k) i (of s k) (rw (h k) l) (d k t)
 
-  pub dues-first : (v : Five) (term : Float) (bracket : Derivative → Float) → v ≡ times term bracket → At figures 0 term bracket → Dues (λ k. total (figures k)) 1 v
-  dues-first v term bracket e h k t = rw (e, of-five (λ j. mul binary64 term (bracket j)) k) (due-first (figures k) (mul binary64 term (bracket k)) (h k .0) (h k .1))
+  pub dues-first : (v : Five) (term : Float) (bracket : Derivative → Float) → v ≡ times term bracket
+      → At figures 0 term bracket → Dues (λ k. total (figures k)) 1 v
+  dues-first v term bracket e h k t =
+      rw (e, of-five (λ j. mul binary64 term (bracket j)) k)
+      (due-first (figures k) (mul binary64 term (bracket k)) (h k .0) (h k .1))

@@ -6,9 +6,9 @@ use lib.Dec.{T}
 use mathlib.Core.List.{List, [], _∷_, _++_}
 use lib.ListN.{getD}
 use lib.Ieee.{Float, nan}
-use Rattle.num_working.specs.Working.{checked, _+ᵂ_}
+use Rattle.num_working.specs.Working.{checked, orElse, _+ᵂ_}
 use Rattle.num_working.specs.declared.Worked.{Worked}
-use Rattle.num_working.specs.declared.Worked.the-variants.{Number, Failed}
+use Rattle.num_working.specs.declared.Worked.the-variants.{Failed}
 use Rattle.num_formulas.specs.Formula.{num, _⊗_, _^^_, work}
 use Rattle.eos_rows.specs.Row.{polynomials, exponentials, gaussians}
 use Rattle.eos_residual.specs.Term.{numbered, polynomialTerm, polynomialBracket, exponentialTerm, exponentialBracket, gaussianTerm, gaussianBracket}
@@ -66,17 +66,13 @@ abbrev pub Meet : Bool → Five → (Derivative → Worked) → Type 0
 Meet all s goal = (k : Derivative) → T (asked all k) → checked (of s k) ≡ goal k
 
 -- the five together
-abbrev pub thenSum : Worked → (Float → Sums) → Sums
-thenSum Failed f = Broken
-thenSum (Number x) f = f x
-
 unfoldable pub allFive : (Derivative → Worked) → Sums
 allFive sum =
-    thenSum (sum Delta) (λ d.
-    thenSum (sum DeltaDelta) (λ dd.
-    thenSum (sum Tau) (λ t.
-    thenSum (sum TauTau) (λ tt.
-    thenSum (sum DeltaTau) (λ dt.
+    orElse (sum Delta) Broken (λ d.
+    orElse (sum DeltaDelta) Broken (λ dd.
+    orElse (sum Tau) Broken (λ t.
+    orElse (sum TauTau) Broken (λ tt.
+    orElse (sum DeltaTau) Broken (λ dt.
     Summed (record { d = d; dd = dd; t = t; tt = tt; dt = dt }))))))
 
 unfoldable pub fiveSums : Isotherm → Float → Sums

@@ -2,7 +2,8 @@
 // row's term is worked once for all that are asked for, in plain f64, and each sum is tested once, at its end. What hangs
 // on the temperature comes with the isotherm.
 ghost use mathlib.Core.Path.{_≡_};
-ghost use mathlib.Core.Bool.{true};
+ghost use mathlib.Core.Bool.{true, _&&_};
+ghost use lib.Ieee.Scale.{finite};
 ghost use Rattle.num_working.specs.Working.{checked};
 ghost use Rattle.num_formulas.specs.Formula.{num, value};
 ghost use Rattle.eos_brackets.specs.Derivative.{Delta, of, five};
@@ -13,8 +14,8 @@ ghost use Rattle.eos_residual.specs.Sum.{onto, total, Meet, polynomialFi
 use crate::term::Point;
 use crate::term::at_density;
 use eos_brackets::Five;
-use eos_brackets::first;
 use eos_brackets::grow;
+use eos_brackets::times;
 use eos_isotherm::Isotherm;
 use eos_non_analytic::figures::add_figures;
 use eos_non_analytic::figures::add_slope;
@@ -25,10 +26,11 @@ use eos_rows::Gaussian;
 use eos_rows::Polynomial;
 use eos_rows::exponential_row;
 use eos_rows::gaussian_row;
-use eos_rows::non_analytics;
+use eos_rows::non_analytic_row;
 use eos_rows::polynomial_row;
 use num_working::Worked;
 use num_working::checked;
+use num_working::is_finite;
 
 pub enum Sums {
     Summed(Five),
@@ -90,7 +92,7 @@ fn polynomial_sums(all: bool, iso: Isotherm, p: Point) -> Five
     let ds = p.powers;
     let ys = iso.powers;
     let row = polynomial_row(0);
-    let mut s = first(row.n * ds[1] * ys[0], polynomial_brackets(row));
+    let mut s = times(row.n * ds[1] * ys[0], polynomial_brackets(row));
     let mut i = 1;
     while i < 7 {
         let r = polynomial_row(i);
@@ -143,18 +145,17 @@ fn gaussian_sums(all: bool, start: Five, iso: Isotherm, p: Point) -> Five
 }
 
 // Rows 40 to 42, of all five sums.
-fn non_analytic_sums(start: Five, iso: Isotherm, p: Point, c: Critical) -> Five
+fn non_analytic_five(start: Five, iso: Isotherm, p: Point, c: Critical) -> Five
     requires { ⌜ p ≡ point iso (p .delta) ⌝ }
     requires { ⌜ c ≡ critical iso (p .delta) ⌝ }
     ensures { λ v. ⌜ Meet true v (λ k. onto (checked (of start k)) (nonAnalyticFigures iso (p .delta) k)) ⌝ }
 {
-    let rows = non_analytics();
     let d = p.delta;
     let t = iso.tau;
     let z = p.psis;
-    let s40 = add_figures(start, rows[0], c.near, c.first, z[0], d, t);
-    let s41 = add_figures(s40, rows[1], c.near, c.second, z[0], d, t);
-    add_figures(s41, rows[2], c.near, c.third, z[1], d, t)
+    let s40 = add_figures(start, non_analytic_row(0), c.near, c.first, z[0], d, t);
+    let s41 = add_figures(s40, non_analytic_row(1), c.near, c.second, z[0], d, t);
+    add_figures(s41, non_analytic_row(2), c.near, c.third, z[1], d, t)
 }
 
 // Of the first alone.
@@ -163,13 +164,30 @@ fn non_analytic_slope(start: f64, iso: Isotherm, p: Point, c: Critical) -> f64
     requires { ⌜ c ≡ critical iso (p .delta) ⌝ }
     ensures { λ v. ⌜ checked v ≡ onto (checked start) (nonAnalyticFigures iso (p .delta) Delta) ⌝ }
 {
-    let rows = non_analytics();
     let d = p.delta;
     let t = iso.tau;
     let z = p.psis;
-    let s40 = add_slope(start, rows[0], c.near, c.first, z[0], d, t);
-    let s41 = add_slope(s40, rows[1], c.near, c.second, z[0], d, t);
-    add_slope(s41, rows[2], c.near, c.third, z[1], d, t)
+    let s40 = add_slope(start, non_analytic_row(0), c.near, c.first, z[0], d, t);
+    let s41 = add_slope(s40, non_analytic_row(1), c.near, c.second, z[0], d, t);
+    add_slope(s41, non_analytic_row(2), c.near, c.third, z[1], d, t)
+}
+
+// Of those that are asked for.
+fn non_analytic_sums(all: bool, start: Five, iso: Isotherm, p: Point, c: Critical) -> Five
+    requires { ⌜ p ≡ point iso (p .delta) ⌝ }
+    requires { ⌜ c ≡ critical iso (p .delta) ⌝ }
+    ensures { λ v. ⌜ Meet all v (λ k. onto (checked (of start k)) (nonAnalyticFigures iso (p .delta) k)) ⌝ }
+{
+    if all {
+        return non_analytic_five(start, iso, p, c);
+    }
+    Five {
+        d: non_analytic_slope(start.d, iso, p, c),
+        dd: start.dd,
+        t: start.t,
+        tt: start.tt,
+        dt: start.dt,
+    }
 }
 
 // All 42, in plain f64. Rows 40 to 42 wait longest for their roots, so these are begun before the sums.
@@ -181,16 +199,7 @@ fn sums_at(all: bool, iso: Isotherm, delta: f64) -> Five
     let s7 = polynomial_sums(all, iso, p);
     let s34 = exponential_sums(all, s7, iso, p);
     let s39 = gaussian_sums(all, s34, iso, p);
-    if all {
-        return non_analytic_sums(s39, iso, p, c);
-    }
-    Five {
-        d: non_analytic_slope(s39.d, iso, p, c),
-        dd: s39.dd,
-        t: s39.t,
-        tt: s39.tt,
-        dt: s39.dt,
-    }
+    non_analytic_sums(all, s39, iso, p, c)
 }
 
 // δφ_δ, which a pressure needs.
@@ -200,26 +209,31 @@ pub fn slope_at(iso: Isotherm, delta: f64) -> Worked
     checked(sums_at(false, iso, delta).d)
 }
 
+fn also_finite(x: f64, others: bool) -> bool
+    ensures { λ r. ⌜ r ≡ (finite x && others) ⌝ }
+{
+    if is_finite(x) { others } else { false }
+}
+
+fn all_finite(s: Five) -> bool
+    ensures { λ r. ⌜ r ≡ (finite (s .d) && (finite (s .dd) && (finite (s .t) && (finite (s .tt) && finite (s .dt))))) ⌝ }
+{
+    let r = is_finite(s.dt);
+    let r = also_finite(s.tt, r);
+    let r = also_finite(s.t, r);
+    let r = also_finite(s.dd, r);
+    also_finite(s.d, r)
+}
+
 // Each of the five, tested.
 fn all_five(s: Five) -> Sums
     ensures { λ v. ⌜ v ≡ allFive (λ k. checked (of s k)) ⌝ }
 {
-    let Worked::Number(d) = checked(s.d) else {
-        return Sums::Broken;
-    };
-    let Worked::Number(dd) = checked(s.dd) else {
-        return Sums::Broken;
-    };
-    let Worked::Number(t) = checked(s.t) else {
-        return Sums::Broken;
-    };
-    let Worked::Number(tt) = checked(s.tt) else {
-        return Sums::Broken;
-    };
-    let Worked::Number(dt) = checked(s.dt) else {
-        return Sums::Broken;
-    };
-    Sums::Summed(Five { d, dd, t, tt, dt })
+    if all_finite(s) {
+        Sums::Summed(s)
+    } else {
+        Sums::Broken
+    }
 }
 
 pub fn five_sums(iso: Isotherm, delta: f64) -> Sums

@@ -1,8 +1,14 @@
 // What the residual part's sums are made of: what is worked once for a state at a density.
 ghost use mathlib.Core.Path.{_≡_};
+ghost use Rattle.num_formulas.specs.Formula.{num, _⊕_, _⊖_, _⊗_, value};
+ghost use Rattle.eos_non_analytic.specs.Parts.{around};
 ghost use Rattle.eos_residual.specs.Term.{point};
 use eos_isotherm::Isotherm;
 use eos_powers::powers_to_10;
+use eos_rows::Gaussian;
+use eos_rows::NonAnalytic;
+use eos_rows::gaussian_row;
+use eos_rows::non_analytic_row;
 use num_exponential::decay::Twelve;
 use num_exponential::decay::twelve_decays;
 
@@ -15,12 +21,25 @@ pub struct Point {
     pub psis: [f64; 2],
 }
 
+// α·(δ−ε)² + z of a row of 35 to 39, with z for β·(τ−γ)².
+fn bell_exponent(row: Gaussian, delta: f64, z: f64) -> f64
+    ensures { λ r. ⌜ r ≡ value (num (row .alpha) ⊗ ((num delta ⊖ num (row .epsilon)) ⊗ (num delta ⊖ num (row .epsilon))) ⊕ num z) ⌝ }
+{
+    row.alpha * ((delta - row.epsilon) * (delta - row.epsilon)) + z
+}
+
+// C·(δ−1)² + z of a row of 40 to 42, with z for D·(τ−1)².
+fn psi_exponent(row: NonAnalytic, delta: f64, z: f64) -> f64
+    ensures { λ r. ⌜ r ≡ value (num (row .kc) ⊗ around delta .X ⊕ num z) ⌝ }
+{
+    row.kc * ((delta - 1.0) * (delta - 1.0)) + z
+}
+
+// Rows 36 and 37 have one bell, rows 40 and 41 one Ψ.
 pub fn at_density(iso: Isotherm, delta: f64) -> Point
     ensures { λ r. ⌜ r ≡ point iso delta ⌝ }
 {
     let powers = powers_to_10(delta);
-    let x = delta - 1.0;
-    let xx = x * x;
     let bell = iso.bell;
     let e = twelve_decays(Twelve {
         a: powers[1],
@@ -29,12 +48,12 @@ pub fn at_density(iso: Isotherm, delta: f64) -> Point
         d: powers[4],
         e: powers[5],
         f: powers[6],
-        g: 25.0 * xx + bell[0],
-        h: 25.0 * xx + bell[1],
-        i: 15.0 * xx + bell[2],
-        j: 20.0 * xx + bell[3],
-        k: 10.0 * xx + iso.psi,
-        l: 12.5 * xx + iso.psi,
+        g: bell_exponent(gaussian_row(0), delta, bell[0]),
+        h: bell_exponent(gaussian_row(1), delta, bell[1]),
+        i: bell_exponent(gaussian_row(3), delta, bell[2]),
+        j: bell_exponent(gaussian_row(4), delta, bell[3]),
+        k: psi_exponent(non_analytic_row(0), delta, iso.psi),
+        l: psi_exponent(non_analytic_row(2), delta, iso.psi),
     });
     Point {
         delta,

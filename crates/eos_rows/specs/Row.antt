@@ -115,9 +115,14 @@ nonAnalytic n a b ka kb kc kd = record {
   kd = decimal kd 1;
 }
 
+abbrev pub row40 : NonAnalytic
+row40 = nonAnalytic (minus 66642276540751 14) 35 Of0_875 7 3 100 2750
+
+abbrev pub row41 : NonAnalytic
+row41 = nonAnalytic (plus 72608632349897 14) 35 Of0_925 7 3 100 2750
+
+abbrev pub row42 : NonAnalytic
+row42 = nonAnalytic (plus 55068668612842 15) 30 Of0_875 7 10 125 2750
+
 unfoldable pub nonAnalytics : List NonAnalytic
-nonAnalytics =
-    nonAnalytic (minus 66642276540751 14) 35 Of0_875 7 3 100 2750
-    ∷ nonAnalytic (plus 72608632349897 14) 35 Of0_925 7 3 100 2750
-    ∷ nonAnalytic (plus 55068668612842 15) 30 Of0_875 7 10 125 2750
-    ∷ []
+nonAnalytics = row40 ∷ row41 ∷ row42 ∷ []

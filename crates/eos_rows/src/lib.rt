@@ -1,10 +1,10 @@
 // Table 31 of 004, read as docs/READING.md says: a table for each kind of row, each row equal to the definition's
-// (specs/Row.antt) by computation. Rows 1 to 39 are had by their place among those of their kind, counted from 0, since a
-// table that is taken whole is written to the stack each time; past the end stands the last. `new` makes a row of what one
-// line of the table prints.
+// (specs/Row.antt) by computation. A row is had by its place among those of its kind, counted from 0, since a table that is
+// taken whole is written to the stack each time; past the end stands the last. `new` makes a row of what one line of the
+// table prints.
 ghost use mathlib.Core.Path.{_≡_};
 ghost use lib.ListN.{getD};
-ghost use Rattle.eos_rows.specs.Row.{polynomials, row7, exponentials, row34, gaussians, row39, nonAnalytics};
+ghost use Rattle.eos_rows.specs.Row.{polynomials, row7, exponentials, row34, gaussians, row39, nonAnalytics, row42};
 use eos_constants::Printed;
 
 // Rows 1 to 7: the coefficient, the power of δ, and that of τ in quarters.
@@ -138,44 +138,42 @@ pub fn gaussian_row(i: usize) -> Gaussian
     }
 }
 
-const NON_ANALYTICS: [NonAnalytic; 3] = [
-    NonAnalytic {
-        n: -0.66642276540751e0,
-        a: 3.5,
-        half: true,
-        b: 0.875,
-        root: Printed::Of0_875,
-        ka: 0.7,
-        kb: 0.3,
-        kc: 10.0,
-        kd: 275.0,
-    },
-    NonAnalytic {
-        n: 0.72608632349897e0,
-        a: 3.5,
-        half: true,
-        b: 0.925,
-        root: Printed::Of0_925,
-        ka: 0.7,
-        kb: 0.3,
-        kc: 10.0,
-        kd: 275.0,
-    },
-    NonAnalytic {
-        n: 0.55068668612842e-1,
-        a: 3.0,
-        half: false,
-        b: 0.875,
-        root: Printed::Of0_875,
-        ka: 0.7,
-        kb: 1.0,
-        kc: 12.5,
-        kd: 275.0,
-    },
-];
-
-pub fn non_analytics() -> [NonAnalytic; 3]
-    ensures { λ r. ⌜ r ≡ nonAnalytics ⌝ }
+pub fn non_analytic_row(i: usize) -> NonAnalytic
+    ensures { λ r. ⌜ r ≡ getD nonAnalytics i row42 ⌝ }
 {
-    NON_ANALYTICS
+    match i {
+        0 => NonAnalytic {
+            n: -0.66642276540751e0,
+            a: 3.5,
+            half: true,
+            b: 0.875,
+            root: Printed::Of0_875,
+            ka: 0.7,
+            kb: 0.3,
+            kc: 10.0,
+            kd: 275.0,
+        },
+        1 => NonAnalytic {
+            n: 0.72608632349897e0,
+            a: 3.5,
+            half: true,
+            b: 0.925,
+            root: Printed::Of0_925,
+            ka: 0.7,
+            kb: 0.3,
+            kc: 10.0,
+            kd: 275.0,
+        },
+        _ => NonAnalytic {
+            n: 0.55068668612842e-1,
+            a: 3.0,
+            half: false,
+            b: 0.875,
+            root: Printed::Of0_875,
+            ka: 0.7,
+            kb: 1.0,
+            kc: 12.5,
+            kd: 275.0,
+        },
+    }
 }

@@ -11,16 +11,17 @@ use Rattle.interface.proofs.makhroeng_from_density.Reads as from-densit
 use Rattle.interface.proofs.makhroeng_report.Reads as report
 
 -- of a function that writes into its third argument, and of one that writes into its second
-abbrev OneHanded : {A S T U : Type 0} → (A → ℕ → S × (T × (RefT (List Float) × U)) → Type 0) → Type 0
-OneHanded {A} {S} {T} {U} Post = (a : A) (r s : ℕ) (x y : S × (T × (RefT (List Float) × U))) → Post a r x → Post a s y → (r ≡ s) × (now (x .1 .1 .0) ≡ now (y .1 .1 .0))
+abbrev OneAnswered : {A S T U : Type 0} → (A → ℕ → S × (T × (RefT (List Float) × U)) → Type 0) → Type 0
+OneAnswered {A} {S} {T} {U} Post =
+    (a : A) (r s : ℕ) (x y : S × (T × (RefT (List Float) × U))) → Post a r x → Post a s y → (r ≡ s) × (now (x .1 .1 .0) ≡ now (y .1 .1 .0))
 
 abbrev OneReport : {A S T : Type 0} → (A → ℕ → S × (RefT (List ℕ) × T) → Type 0) → Type 0
 OneReport {A} {S} {T} Post = (a : A) (r s : ℕ) (x y : S × (RefT (List ℕ) × T)) → Post a r x → Post a s y → (r ≡ s) × (now (x .1 .0) ≡ now (y .1 .0))
 
-pub from-pressure-once : (κs : Lfts 1) → OneHanded (from-pressure.Post κs)
+pub from-pressure-once : (κs : Lfts 1) → OneAnswered (from-pressure.Post κs)
 from-pressure-once κs a r s x y p q = (by-equation (p .number) (q .number), by-equation (p .figures) (q .figures))
 
-pub from-density-once : (κs : Lfts 1) → OneHanded (from-density.Post κs)
+pub from-density-once : (κs : Lfts 1) → OneAnswered (from-density.Post κs)
 from-density-once κs a r s x y p q = (by-equation (p .number) (q .number), by-equation (p .figures) (q .figures))
 
 pub report-once : (κs : Lfts 2) → OneReport (report.Post κs)

@@ -9,12 +9,13 @@ ghost use Rattle.door_pressure.specs.PressureDoor.{pressureDoor};
 ghost use Rattle.door_density.specs.DensityDoor.{densityDoor};
 ghost use Rattle.sheet_read.specs.Form.{inForm};
 ghost use Rattle.sheet_score.specs.Score.{report};
-ghost use Rattle.interface.specs.Interface.{phaseNumber, laid, Handed, ReportedIn};
+ghost use Rattle.interface.specs.Interface.{phaseNumber, withEight, AnsweredIn, ReportedIn};
 use door_answers::Answer;
-use door_answers::Phase;
-use door_answers::State;
 use door_density::from_density;
+use door_limits::document_01;
 use door_pressure::from_pressure;
+use eos_state::Phase;
+use eos_state::State;
 use sheet_report::Written;
 use sheet_score::score;
 
@@ -29,9 +30,9 @@ fn phase_number(phase: Phase) -> u32
 }
 
 // The eight numbers over the front of the figures.
-fn lay(s: State, figures: &mut [f64])
+fn put_eight(s: State, figures: &mut [f64])
     requires { ⌜ 8 ≤ length (now figures) ⌝ }
-    ensures { λ _. ⌜ now (figures .exit) ≡ laid s (now (figures .entry)) ⌝ }
+    ensures { λ _. ⌜ now (figures .exit) ≡ withEight s (now (figures .entry)) ⌝ }
 {
     figures[0] = s.t;
     figures[1] = s.p;
@@ -43,8 +44,8 @@ fn lay(s: State, figures: &mut [f64])
     figures[7] = s.w;
 }
 
-fn hand(a: Answer, figures: &mut [f64]) -> u32
-    ensures { λ r. ⌜ Handed (now (figures .entry)) (now (figures .exit)) a r ⌝ }
+fn put_answer(a: Answer, figures: &mut [f64]) -> u32
+    ensures { λ r. ⌜ AnsweredIn (now (figures .entry)) (now (figures .exit)) a r ⌝ }
 {
     if figures.len() < 8 {
         return 15;
@@ -52,7 +53,7 @@ fn hand(a: Answer, figures: &mut [f64]) -> u32
     match a {
         Answer::State(s) => {
             let phase = s.phase;
-            lay(s, figures);
+            put_eight(s, figures);
             phase_number(phase)
         }
         Answer::Refused(n) => n as u32,
@@ -65,23 +66,23 @@ pub extern "C" fn makhroeng_from_pressure(
     pressure: f64,
     figures: &mut [f64],
 ) -> u32
-    ensures { λ r. ⌜ Handed (now (figures .entry)) (now (figures .exit)) (pressureDoor of1996 document01 temperature pressure) r ⌝ }
+    ensures { λ r. ⌜ AnsweredIn (now (figures .entry)) (now (figures .exit)) (pressureDoor of1996 document01 temperature pressure) r ⌝ }
 {
-    hand(from_pressure(temperature, pressure), figures)
+    put_answer(from_pressure(document_01(), temperature, pressure), figures)
 }
 
 #[no_mangle]
 pub extern "C" fn makhroeng_from_density(temperature: f64, density: f64, figures: &mut [f64]) -> u32
-    ensures { λ r. ⌜ Handed (now (figures .entry)) (now (figures .exit)) (densityDoor of1996 document01 temperature density) r ⌝ }
+    ensures { λ r. ⌜ AnsweredIn (now (figures .entry)) (now (figures .exit)) (densityDoor of1996 document01 temperature density) r ⌝ }
 {
-    hand(from_density(temperature, density), figures)
+    put_answer(from_density(document_01(), temperature, density), figures)
 }
 
 #[no_mangle]
 pub extern "C" fn makhroeng_report(text: &[u8], out: &mut [u8]) -> u64
-    ensures { λ r. ⌜ ReportedIn (now (out .entry)) (now (out .exit)) (report (inForm (now (text .entry)))) r ⌝ }
+    ensures { λ r. ⌜ ReportedIn (now (out .entry)) (now (out .exit)) (report document01 (inForm (now (text .entry)))) r ⌝ }
 {
-    match score(text, out) {
+    match score(document_01(), text, out) {
         Written::Bytes(n) => n as u64,
         Written::Refused(_) => 0,
     }

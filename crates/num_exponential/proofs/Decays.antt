@@ -22,7 +22,9 @@ use Rattle.num_exponential.proofs.Exponentials.{falling-is}
 use Rattle.num_laws.proofs.Halves.{quotient, no-less}
 
 stretched : (a c u v : ℕ) → c ≤ a * u → 1024 * u ≤ v → 1 * (1024 * c) ≤ a * v
-stretched a c u v h k = le-trans (le-of-eq (one-mul (1024 * c))) (le-trans (mul-le-mul-left 1024 h) (le-trans (le-of-eq (mul-left-comm 1024 a u)) (mul-le-mul-left a k)))
+stretched a c u v h k =
+    let m : 1024 * c ≤ a * (1024 * u) = le-trans (mul-le-mul-left 1024 h) (le-of-eq (mul-left-comm 1024 a u)) in
+    le-trans (le-of-eq (one-mul (1024 * c))) (le-trans m (mul-le-mul-left a k))
 
 module _ (x : Float) (h : T (inSeries x)) where
   lower : T (le (decimal 1 200) x)
@@ -50,8 +52,11 @@ module _ (x : Float) (h : T (inSeries x)) where
   range =
       let q = quotient x 1024 above-zero (omega arith) (omega arith) in
       let D : 0 < 1024 * den x = mul-pos (pow-pos 10) (den-pos x) in
-      rw q
-      (round-mono binary64 1 (10 ^ 250) (num x) (1024 * den x) (lit< tt) D (stretched (num x) (den x) (2 ^ 800) (10 ^ 250) at-least (lit≤ tt)), round-mono binary64 (num x) (1024 * den x) 1 1 D (pow-pos 0) (omega (arith, at-most)))
+      let s = stretched (num x) (den x) (2 ^ 800) (10 ^ 250) at-least (lit≤ tt) in
+      rw q (
+        round-mono binary64 1 (10 ^ 250) (num x) (1024 * den x) (lit< tt) D s,
+        round-mono binary64 (num x) (1024 * den x) 1 1 D (pow-pos 0) (omega (arith, at-most)),
+      )
 
 below-zero : (m : ℕ) (e : ℤ) → T (ltb 0 m) → le (fin true m e) (whole 0) ≡ true
 unfolding le whole ofInt round

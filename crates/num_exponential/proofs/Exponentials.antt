@@ -18,7 +18,8 @@ divisor-finite : (k : ℕ) → k ≤ 14 → T (finite (whole k))
 unfolding whole ofInt
 divisor-finite k h = at 15 (λ n. finite (whole n)) tt k (omega arith)
 
-turned : (y : Float) (k : ℕ) (s : Float) → k ≤ 14 → checked (sub binary64 (whole 1) (mul binary64 (div binary64 y (whole k)) s)) ≡ checked (whole 1) -ᵂ (checked y /ᵂ checked (whole k)) *ᵂ checked s
+turned : (y : Float) (k : ℕ) (s : Float) → k ≤ 14
+    → checked (sub binary64 (whole 1) (mul binary64 (div binary64 y (whole k)) s)) ≡ checked (whole 1) -ᵂ (checked y /ᵂ checked (whole k)) *ᵂ checked s
 turned y k s h =
     checked-sub (whole 1) _
     ∙ ap (λ (w : Worked). checked (whole 1) -ᵂ w) (checked-mul _ s ∙ ap (λ (w : Worked). w *ᵂ checked s) (checked-div y (whole k) (divisor-finite k h)))

@@ -1,18 +1,18 @@
--- Twelve at once: what holds of each number holds of all twelve; the steps of `chains` are those of the series; and from 0 to 1 no step leaves, so that no number has to be tested. Assumes nothing.
+-- Twelve at once: what holds of each number holds of all twelve, and from 0 to 1 no step leaves, so that no number has to be tested. Assumes nothing.
 use mathlib.Core.Path.{_≡_, refl, sym, ap, _∙_, subst}
 use mathlib.Core.Bool.{Bool, false}
 use Prim.Native.Nat.{ℕ, zero, suc, _-_, _*_, _^_, _≤_, _<_}
-use native.Mathlib.Nat.{le-refl, le-trans, le-of-eq, sub-le, zero-lt-suc, mul-comm, mul-one, mul-pos, mul-le-mul, le-mul-of-pos-right}
+use native.Mathlib.Nat.{le-refl, le-trans, le-of-eq, sub-le, zero-lt-suc, mul-comm, mul-pos, mul-le-mul, le-mul-of-pos-right}
 use native.Mathlib.Omega.{arith}
 use mathlib.Core.List.{List, [], _∷_, map}
 use lib.Dec.{T, lit≤}
-use lib.Pow.{pow-pos, pow-mono}
+use lib.Pow.{pow-pos}
 use lib.Ieee.{Float, nan, inf, fin, binary64, low, round, ofInt, mul, sub, div, le}
 use lib.Ieee.Exact.{HasValue}
 use lib.Ieee.Fits.{and-i, and-l, and-r}
-use lib.Ieee.Scale.{grid, round-same}
-use lib.Ieee.Positive.{num, den, positive, den-pos, own-value}
-use Rattle.num_working.specs.Number.{decimal, fraction, whole}
+use lib.Ieee.Scale.{grid}
+use lib.Ieee.Positive.{num, den, den-pos}
+use Rattle.num_working.specs.Number.{decimal, whole}
 use Rattle.num_working.specs.Working.{checked, plain}
 use Rattle.num_exponential.specs.declared.decay.Twelve.{Twelve}
 use Rattle.num_exponential.specs.Exponential.{squared}
@@ -21,11 +21,13 @@ use Rattle.num_exponential.specs.Lockstep.{chain, pairs, powers, turn}
 use Rattle.num_laws.specs.Quotient.{normal}
 use Rattle.num_exponential.proofs.Decays.{decay-is, each-of, range}
 use Rattle.num_exponential.proofs.Exponentials.{series-chain, squared-powers}
-use Rattle.num_laws.proofs.Halves.{above-zero, at-most, halved, part-value, quotient}
+use Rattle.num_exponential.proofs.Steps.{low-of, high-of}
+use Rattle.num_laws.proofs.Halves.{above-zero, at-most, quotient}
 use Rattle.num_laws.proofs.Units.{count, grid-unit, mul-of, sub-of}
 
 -- ---- twelve numbers
-pub same-each : (p : Float → Bool) (F G : Float → Float) (x : Twelve) → ((v : Float) → T (p v) → F v ≡ G v) → T (every p (numbers x)) → each F x ≡ each G x
+pub same-each : (p : Float → Bool) (F G : Float → Float) (x : Twelve)
+    → ((v : Float) → T (p v) → F v ≡ G v) → T (every p (numbers x)) → each F x ≡ each G x
 unfolding each
 same-each p F G x h t =
     let at = each-of p (numbers x) in
@@ -47,7 +49,8 @@ same-each p F G x h t =
 every-map : (p q : Float → Bool) (f : Float → Float) → ((v : Float) → T (p v) → T (q (f v))) → (l : List Float) → T (every p l) → T (every q (map f l))
 unfolding every
 every-map p q f h [] t = tt
-every-map p q f h (x ∷ l) t = and-i (q (f x)) (every q (map f l)) (h x (and-l (p x) (every p l) t)) (every-map p q f h l (and-r (p x) (every p l) t))
+every-map p q f h (x ∷ l) t =
+    and-i (q (f x)) (every q (map f l)) (h x (and-l (p x) (every p l) t)) (every-map p q f h l (and-r (p x) (every p l) t))
 
 -- r is F of each of y
 pub record Of (F : Float → Float) (y r : Twelve) : Type 0 where
@@ -61,37 +64,6 @@ pub itself : (y : Twelve) → Of (λ v. v) y y
 unfolding each
 itself y = record { is = refl }
 
--- ---- a quotient by 2ᵗ
-y-halved : (y : Float) (t : ℕ) → T (positive y) → t ≤ 4 → mul binary64 y (fraction 1 (2 ^ t)) ≡ div binary64 y (whole (2 ^ t))
-y-halved y t p h =
-    mul-of binary64 y (fraction 1 (2 ^ t)) (num y) (den y) 1 (2 ^ t) (den-pos y) (pow-pos t) (own-value y p) (part-value t h)
-    ∙ round-same binary64 false (num y * 1) (den y * 2 ^ t) (num y) (2 ^ t * den y) (mul-pos (den-pos y) (pow-pos t)) (mul-pos (pow-pos t) (den-pos y)) (λ i. mul-one (num y) i * mul-comm (2 ^ t) (den y) i)
-    ∙ sym (quotient y (2 ^ t) p (pow-pos t) (le-trans (pow-mono h) (lit≤ tt)))
-
-low-of : (y : Float) → T (normal y) → T (le (decimal 1 250) y)
-unfolding normal
-low-of y t = and-l (le (decimal 1 250) y) (le y (whole 1)) t
-
-high-of : (y : Float) → T (normal y) → T (le y (whole 1))
-unfolding normal
-high-of y t = and-r (le (decimal 1 250) y) (le y (whole 1)) t
-
--- ---- the steps of `chains`, which are those of the series with each quotient in one of two forms
-steps : (q14 q13 q12 q11 q10 q9 q8 q7 q6 q5 q4 q3 q2 q1 : Float) → Float
-steps q14 q13 q12 q11 q10 q9 q8 q7 q6 q5 q4 q3 q2 q1 = last q1 (last q2 (last q3 (last q4 (last q5 (last q6 (last q7 (last q8 (last q9 (last q10 (last q11 (last q12 (last q13 (last q14 (whole 1))))))))))))))
-  where
-    last : Float → Float → Float
-    last q s = sub binary64 (whole 1) (mul binary64 q s)
-
-pub stepped : (v : Float) → T (normal v)
-    → turn (fraction 1 1) v (turn (fraction 1 2) v (turn (fraction 1 1) (div binary64 v (whole 3)) (turn (fraction 1 4) v (turn (fraction 1 1) (div binary64 v (whole 5)) (turn (fraction 1 2) (div binary64 v (whole 3)) (turn (fraction 1 1) (div binary64 v (whole 7)) (turn (fraction 1 8) v (turn (fraction 1 1) (div binary64 v (whole 9)) (turn (fraction 1 2) (div binary64 v (whole 5)) (turn (fraction 1 1) (div binary64 v (whole 11)) (turn (fraction 1 4) (div binary64 v (whole 3)) (turn (fraction 1 1) (div binary64 v (whole 13)) (turn (fraction 1 2) (div binary64 v (whole 7)) (whole 1))))))))))))))
-    ≡ chain v 14 (whole 1)
-unfolding turn chain steps
-stepped v t =
-    let h = halved v (low-of v t) (high-of v t) in
-    let p = above-zero v (low-of v t) (high-of v t) in
-    λ i. steps (h 7 1 (omega arith) (omega arith) (omega arith) i) (h 13 0 (omega arith) (omega arith) (omega arith) i) (h 3 2 (omega arith) (omega arith) (omega arith) i) (h 11 0 (omega arith) (omega arith) (omega arith) i) (h 5 1 (omega arith) (omega arith) (omega arith) i) (h 9 0 (omega arith) (omega arith) (omega arith) i) (y-halved v 3 p (omega arith) i) (h 7 0 (omega arith) (omega arith) (omega arith) i) (h 3 1 (omega arith) (omega arith) (omega arith) i) (h 5 0 (omega arith) (omega arith) (omega arith) i) (y-halved v 2 p (omega arith) i) (h 3 0 (omega arith) (omega arith) (omega arith) i) (y-halved v 1 p (omega arith) i) (y-halved v 0 p (omega arith) i)
-
 -- ---- from 0 to 1
 abbrev Within : Float → Type 0
 Within x = (g : ℕ) × HasValue x false g (2 ^ low binary64) × (g ≤ 2 ^ low binary64)
@@ -103,7 +75,8 @@ mul-within : (x y : Float) → Within x → Within y → Within (mul binary64 x 
 mul-within x y v w =
     let l = 2 ^ low binary64 in
     let L : 0 < l = pow-pos (low binary64) in
-    subst Within (sym (mul-of binary64 x y (v .0) l (w .0) l L L (v .1) (w .1))) (round-within (v .0 * w .0) (l * l) (mul-pos L L) (mul-le-mul (v .2) (w .2)))
+    subst Within (sym (mul-of binary64 x y (v .0) l (w .0) l L L (v .1) (w .1)))
+    (round-within (v .0 * w .0) (l * l) (mul-pos L L) (mul-le-mul (v .2) (w .2)))
 
 one-value : HasValue (whole 1) false (2 ^ low binary64) (2 ^ low binary64)
 unfolding whole ofInt round
@@ -120,8 +93,10 @@ less-within x v =
 
 quotient-within : (y : Float) (k : ℕ) → T (normal y) → 0 < k → k ≤ 14 → Within (div binary64 y (whole k))
 quotient-within y k t K h =
-    subst Within (sym (quotient y k (above-zero y (low-of y t) (high-of y t)) K (le-trans h (lit≤ tt))))
-    (round-within (num y) (k * den y) (mul-pos K (den-pos y)) (le-trans (at-most y (low-of y t) (high-of y t)) (le-trans (le-mul-of-pos-right (den y) K) (le-of-eq (mul-comm (den y) k)))))
+    let p = above-zero y (low-of y t) (high-of y t) in
+    let l = le-trans (at-most y (low-of y t) (high-of y t)) (le-mul-of-pos-right (den y) K) in
+    subst Within (sym (quotient y k p K (le-trans h (lit≤ tt))))
+    (round-within (num y) (k * den y) (mul-pos K (den-pos y)) (le-trans l (le-of-eq (mul-comm (den y) k))))
 
 chain-within : (y : Float) (k : ℕ) (s : Float) → T (normal y) → k ≤ 14 → Within s → Within (chain y k s)
 unfolding chain
@@ -142,7 +117,9 @@ plain-within (fin s m e) v = refl
 -- ---- an x from 10⁻²⁰⁰ to 700
 normal-part : (x : Float) → T (inSeries x) → T (normal (div binary64 x (whole 1024)))
 unfolding normal
-normal-part x h = and-i (le (decimal 1 250) (div binary64 x (whole 1024))) (le (div binary64 x (whole 1024)) (whole 1)) (range x h .0) (range x h .1)
+normal-part x h =
+    let y = div binary64 x (whole 1024) in
+    and-i (le (decimal 1 250) y) (le y (whole 1)) (range x h .0) (range x h .1)
 
 pub normal-parts : (x : Twelve) → T (every inSeries (numbers x)) → T (every normal (numbers (each (λ v. div binary64 v (whole 1024)) x)))
 unfolding each
@@ -157,6 +134,7 @@ decay-worked x h =
     ∙ ap plain (squared-powers 10 s)
     ∙ plain-within (powers 10 s) (powers-within 10 s (chain-within y 14 (whole 1) (normal-part x h) (omega arith) one-within)))
 
-pub all-worked : (x : Twelve) → T (every inSeries (numbers x)) → each (powers 10) (each (λ v. chain v 14 (whole 1)) (each (λ v. div binary64 v (whole 1024)) x)) ≡ each decay x
+pub all-worked : (x : Twelve) → T (every inSeries (numbers x))
+    → each (powers 10) (each (λ v. chain v 14 (whole 1)) (each (λ v. div binary64 v (whole 1024)) x)) ≡ each decay x
 unfolding each
 all-worked x h = same-each inSeries (λ v. powers 10 (chain (div binary64 v (whole 1024)) 14 (whole 1))) decay x decay-worked h

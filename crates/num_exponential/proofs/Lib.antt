@@ -3,3 +3,4 @@ pub mod Exponentials
 pub mod Decays
 pub mod Lanes
 pub mod Unique
+pub mod Steps

@@ -8,7 +8,7 @@ use lib.Ieee as Ieee
 use lib.Ieee.{Float, nan, inf, fin, binary64}
 use lib.Ieee.Scale.{finite}
 use Rattle.num_working.specs.Number.{whole}
-use Rattle.num_working.specs.Working.{checked, over, plain, then, pick, both, _+ᵂ_, _-ᵂ_, _*ᵂ_, _/ᵂ_}
+use Rattle.num_working.specs.Working.{checked, over, plain, orElse, both, _+ᵂ_, _-ᵂ_, _*ᵂ_, _/ᵂ_}
 use Rattle.num_powers.specs.Power.{_^ᵂ_}
 use Rattle.num_exponential.specs.Exponential.{exponential, falling, squared, series}
 use Rattle.num_roots.specs.Root as Root
@@ -19,6 +19,7 @@ use Rattle.num_working.specs.declared.Worked.the-variants.{Number, Failed}
 use Rattle.num_halving.specs.declared.Crossing.{Crossing}
 use Rattle.num_halving.specs.declared.Crossing.the-variants.{At, Nowhere, Broke}
 use Rattle.num_roots.specs.declared.root.Exponent.{Exponent}
+use Rattle.num_working.proofs.Cases.{by-test, by-working}
 use Rattle.num_working.proofs.Workings.{checked-add, checked-sub, checked-mul, checked-div}
 use Rattle.num_powers.proofs.Powers.{checked-power}
 use Rattle.num_laws.proofs.Orders.{bits-finite}
@@ -39,9 +40,12 @@ both-sound op Failed w = tt
 both-sound op (Number x) Failed = tt
 both-sound op (Number x) (Number y) = checked-sound (op x y)
 
-pick-sound : (b : Bool) (v w : Worked) → T (sound v) → T (sound w) → T (sound (pick b v w))
-pick-sound true v w p q = p
-pick-sound false v w p q = q
+cond-sound : (b : Bool) (v w : Worked) → T (sound v) → T (sound w) → T (sound (cond b v w))
+cond-sound b v w p q = by-test (λ (r : Worked). T (sound r)) b v w (λ _. p) (λ _. q)
+
+-- what a number that was worked leads to, or nothing
+pub orElse-sound : (w : Worked) (f : Float → Worked) → ((x : Float) → T (sound (f x))) → T (sound (orElse w Failed f))
+orElse-sound w f h = by-working (λ (r : Worked). T (sound r)) w Failed f (λ _. tt) (λ x _. h x)
 
 squared-sound : (n : ℕ) (s : Worked) → T (sound (squared (suc n) s))
 unfolding squared _*ᵂ_
@@ -55,10 +59,10 @@ falling-sound x = squared-sound 9 (series (checked (Ieee.neg x) /ᵂ checked (wh
 pub exponential-sound : (x : Float) → T (sound (exponential x))
 unfolding exponential whole Ieee.ofInt _/ᵂ_
 exponential-sound x =
-    pick-sound (finite x) _ Failed
-    (pick-sound (Ieee.lt x (Ieee.neg (whole 700))) _ _ tt
-    (pick-sound (Ieee.lt (whole 700) x) _ _ tt
-    (pick-sound (Ieee.le x (whole 0)) _ _ (falling-sound x) (both-sound (Ieee.div binary64) (checked (whole 1)) (falling (Ieee.neg x)))))) tt
+    cond-sound (finite x) _ Failed
+    (cond-sound (Ieee.lt x (Ieee.neg (whole 700))) _ _ tt
+    (cond-sound (Ieee.lt (whole 700) x) _ _ tt
+    (cond-sound (Ieee.le x (whole 0)) _ _ (falling-sound x) (both-sound (Ieee.div binary64) (checked (whole 1)) (falling (Ieee.neg x)))))) tt
 
 found-sound : (k : ℕ) (t : Float) (c : Crossing) → rootBits k t ≡ c → T (sound (rootOf c))
 found-sound k t (At b) e = bits-finite b (crossing-below k t b e)
@@ -67,19 +71,15 @@ found-sound k t Broke e = tt
 
 searched-sound : (m k : ℕ) (x : Float) → T (sound (searched m k x))
 unfolding searched
-searched-sound m k x = go (checked x ^ᵂ m)
-  where
-    go : (w : Worked) → T (sound (then w (λ t. rootOf (rootBits k t))))
-    go Failed = tt
-    go (Number t) = found-sound k t (rootBits k t) refl
+searched-sound m k x = orElse-sound (checked x ^ᵂ m) (λ t. rootOf (rootBits k t)) (λ t. found-sound k t (rootBits k t) refl)
 
 pub root-sound : (e : Exponent) (x : Float) → T (sound (Root.root e x))
 unfolding Root.root whole Ieee.ofInt
 root-sound e x =
-    pick-sound (ltb (e .m) (2 * e .k)) _ Failed
-    (pick-sound (finite x) _ Failed
-    (pick-sound (Ieee.lt x (whole 0)) _ _ tt
-    (pick-sound (Ieee.eq x (whole 0)) _ _ tt (searched-sound (e .m) (e .k) x))) tt) tt
+    cond-sound (ltb (e .m) (2 * e .k)) _ Failed
+    (cond-sound (finite x) _ Failed
+    (cond-sound (Ieee.lt x (whole 0)) _ _ tt
+    (cond-sound (Ieee.eq x (whole 0)) _ _ tt (searched-sound (e .m) (e .k) x))) tt) tt
 
 -- ---- an operation of one number
 pub checked-plain : (w : Worked) → T (sound w) → checked (plain w) ≡ w
@@ -88,17 +88,16 @@ checked-plain (Number nan) s = absurd s
 checked-plain (Number (inf b)) s = absurd s
 checked-plain (Number (fin b m e)) s = refl
 
-checked-neg : (x : Float) → checked (Ieee.neg x) ≡ then (checked x) (λ y. Number (Ieee.neg y))
+checked-neg : (x : Float) → checked (Ieee.neg x) ≡ orElse (checked x) Failed (λ y. Number (Ieee.neg y))
 unfolding Ieee.neg
 checked-neg nan = refl
 checked-neg (inf s) = refl
 checked-neg (fin s m e) = refl
 
 either-finite : (b s : Bool) (m : ℕ) (e : ℤ) → checked (cond b (fin (not s) m e) (fin s m e)) ≡ Number (cond b (fin (not s) m e) (fin s m e))
-either-finite true s m e = refl
-either-finite false s m e = refl
+either-finite b s m e = by-test (λ (x : Float). checked x ≡ Number x) b _ _ (λ _. refl) (λ _. refl)
 
-checked-absolute : (x : Float) → checked (absolute x) ≡ then (checked x) (λ y. Number (absolute y))
+checked-absolute : (x : Float) → checked (absolute x) ≡ orElse (checked x) Failed (λ y. Number (absolute y))
 unfolding absolute Ieee.lt Ieee.neg whole Ieee.ofInt
 checked-absolute nan = refl
 checked-absolute (inf true) = refl
@@ -106,18 +105,18 @@ checked-absolute (inf false) = refl
 checked-absolute (fin s m e) = either-finite (Ieee.lt (fin s m e) (whole 0)) s m e
 
 -- an operation that refuses what is not finite, and whose answers are finite
-checked-refusing : (f : Float → Worked) → ((x : Float) → T (sound (f x))) → f nan ≡ Failed → ((s : Bool) → f (inf s) ≡ Failed) → (x : Float) → checked (plain (f x)) ≡ then (checked x) f
+checked-refusing : (f : Float → Worked) → ((x : Float) → T (sound (f x))) → f nan ≡ Failed → ((s : Bool) → f (inf s) ≡ Failed)
+    → (x : Float) → checked (plain (f x)) ≡ orElse (checked x) Failed f
 checked-refusing f s n i nan = ap (λ (w : Worked). checked (plain w)) n
 checked-refusing f s n i (inf b) = ap (λ (w : Worked). checked (plain w)) (i b)
 checked-refusing f s n i (fin b m e) = checked-plain (f (fin b m e)) (s (fin b m e))
 
-checked-exponential : (x : Float) → checked (plain (exponential x)) ≡ then (checked x) exponential
+checked-exponential : (x : Float) → checked (plain (exponential x)) ≡ orElse (checked x) Failed exponential
 unfolding exponential
 checked-exponential = checked-refusing exponential exponential-sound refl (λ s. refl)
 
-either-failed : (b : Bool) → pick b Failed Failed ≡ Failed
-either-failed true = refl
-either-failed false = refl
+either-failed : (b : Bool) → cond b Failed Failed ≡ Failed
+either-failed b = by-test (λ (w : Worked). w ≡ Failed) b Failed Failed (λ _. refl) (λ _. refl)
 
 refused : (e : Exponent) → Root.root e nan ≡ Failed
 unfolding Root.root
@@ -127,7 +126,7 @@ refused-infinite : (e : Exponent) (s : Bool) → Root.root e (inf s) ≡ Failed
 unfolding Root.root
 refused-infinite e s = either-failed (ltb (e .m) (2 * e .k))
 
-checked-root : (e : Exponent) (x : Float) → checked (plain (Root.root e x)) ≡ then (checked x) (Root.root e)
+checked-root : (e : Exponent) (x : Float) → checked (plain (Root.root e x)) ≡ orElse (checked x) Failed (Root.root e)
 checked-root e = checked-refusing (Root.root e) (root-sound e) (refused e) (refused-infinite e)
 
 -- ---- a quotient
@@ -148,18 +147,21 @@ checked-over x (inf s) = by-nan x ∙ over-failed (checked x)
 checked-over x (fin s m e) = checked-div x (fin s m e) tt
 
 -- ---- so one test, of the last number, stands for all
+of-both : (op : Worked → Worked → Worked) {v v′ w w′ : Worked} → v ≡ v′ → w ≡ w′ → op v w ≡ op v′ w′
+of-both op p q = cc
+
 pub once : (e : Formula) → checked (value e) ≡ work e
 unfolding value work
 once (num x) = refl
-once (a ⊕ b) = checked-add (value a) (value b) ∙ ap (λ (w : Worked). w +ᵂ checked (value b)) (once a) ∙ ap (λ (w : Worked). work a +ᵂ w) (once b)
-once (a ⊖ b) = checked-sub (value a) (value b) ∙ ap (λ (w : Worked). w -ᵂ checked (value b)) (once a) ∙ ap (λ (w : Worked). work a -ᵂ w) (once b)
-once (a ⊗ b) = checked-mul (value a) (value b) ∙ ap (λ (w : Worked). w *ᵂ checked (value b)) (once a) ∙ ap (λ (w : Worked). work a *ᵂ w) (once b)
-once (a ⊘ b) = checked-over (value a) (value b) ∙ ap (λ (w : Worked). w /ᵂ checked (value b)) (once a) ∙ ap (λ (w : Worked). work a /ᵂ w) (once b)
+once (a ⊕ b) = checked-add (value a) (value b) ∙ of-both _+ᵂ_ (once a) (once b)
+once (a ⊖ b) = checked-sub (value a) (value b) ∙ of-both _-ᵂ_ (once a) (once b)
+once (a ⊗ b) = checked-mul (value a) (value b) ∙ of-both _*ᵂ_ (once a) (once b)
+once (a ⊘ b) = checked-over (value a) (value b) ∙ of-both _/ᵂ_ (once a) (once b)
 once (a ^^ n) = checked-power (value a) n ∙ ap (λ (w : Worked). w ^ᵂ n) (once a)
-once (minus a) = checked-neg (value a) ∙ ap (λ (w : Worked). then w (λ x. Number (Ieee.neg x))) (once a)
-once (size a) = checked-absolute (value a) ∙ ap (λ (w : Worked). then w (λ x. Number (absolute x))) (once a)
-once (e^ a) = checked-exponential (value a) ∙ ap (λ (w : Worked). then w exponential) (once a)
-once (root e a) = checked-root e (value a) ∙ ap (λ (w : Worked). then w (Root.root e)) (once a)
+once (minus a) = checked-neg (value a) ∙ ap (λ (w : Worked). orElse w Failed (λ x. Number (Ieee.neg x))) (once a)
+once (size a) = checked-absolute (value a) ∙ ap (λ (w : Worked). orElse w Failed (λ x. Number (absolute x))) (once a)
+once (e^ a) = checked-exponential (value a) ∙ ap (λ (w : Worked). orElse w Failed exponential) (once a)
+once (root e a) = checked-root e (value a) ∙ ap (λ (w : Worked). orElse w Failed (Root.root e)) (once a)
 
 -- an exponential or a root of a formula, as code calls it
 pub once-e^ : (a : Formula) → exponential (value a) ≡ work (e^ a)
@@ -171,33 +173,25 @@ unfolding value
 once-root e a = sym (checked-plain (Root.root e (value a)) (root-sound e (value a))) ∙ once (root e a)
 
 -- ---- what a formula is worked to is finite
-pub then-sound : (w : Worked) (f : Float → Worked) → ((x : Float) → T (sound (f x))) → T (sound (then w f))
-then-sound Failed f h = tt
-then-sound (Number x) f h = h x
-
 power-sound : (w : Worked) (n : ℕ) → T (sound w) → T (sound (w ^ᵂ n))
 unfolding _^ᵂ_ _*ᵂ_
 power-sound w zero s = checked-sound (whole 1)
 power-sound w (suc zero) s = s
 power-sound w (suc (suc n)) s = both-sound (Ieee.mul binary64) (w ^ᵂ suc n) w
 
-neg-sound : (w : Worked) → T (sound w) → T (sound (then w (λ x. Number (Ieee.neg x))))
+neg-sound : (w : Worked) → T (sound w) → T (sound (orElse w Failed (λ x. Number (Ieee.neg x))))
 unfolding Ieee.neg
 neg-sound Failed s = tt
 neg-sound (Number nan) s = s
 neg-sound (Number (inf b)) s = s
 neg-sound (Number (fin b m e)) s = tt
 
-either-finite-sound : (b s : Bool) (m : ℕ) (e : ℤ) → T (finite (cond b (fin (not s) m e) (fin s m e)))
-either-finite-sound true s m e = tt
-either-finite-sound false s m e = tt
-
-size-sound : (w : Worked) → T (sound w) → T (sound (then w (λ x. Number (absolute x))))
+size-sound : (w : Worked) → T (sound w) → T (sound (orElse w Failed (λ x. Number (absolute x))))
 unfolding absolute Ieee.neg
 size-sound Failed s = tt
 size-sound (Number nan) s = absurd s
 size-sound (Number (inf b)) s = absurd s
-size-sound (Number (fin b m e)) s = either-finite-sound (Ieee.lt (fin b m e) (whole 0)) b m e
+size-sound (Number (fin b m e)) s = by-test (λ (x : Float). T (finite x)) (Ieee.lt (fin b m e) (whole 0)) _ _ (λ _. tt) (λ _. tt)
 
 pub work-sound : (f : Formula) → T (sound (work f))
 unfolding work _+ᵂ_ _-ᵂ_ _*ᵂ_ _/ᵂ_
@@ -209,5 +203,5 @@ work-sound (a ⊘ b) = both-sound (Ieee.div binary64) (work a) (work b)
 work-sound (a ^^ n) = power-sound (work a) n (work-sound a)
 work-sound (minus a) = neg-sound (work a) (work-sound a)
 work-sound (size a) = size-sound (work a) (work-sound a)
-work-sound (e^ a) = then-sound (work a) exponential exponential-sound
-work-sound (root e a) = then-sound (work a) (Root.root e) (root-sound e)
+work-sound (e^ a) = orElse-sound (work a) exponential exponential-sound
+work-sound (root e a) = orElse-sound (work a) (Root.root e) (root-sound e)

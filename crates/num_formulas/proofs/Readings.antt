@@ -12,7 +12,8 @@ use Rattle.num_formulas.specs.Formula.{work, absolute}
 use Rattle.num_formulas.specs.Readings.{Starred, readings, sizes}
 
 pub all-read : map (λ (r : Starred). r .worked) readings ≡ map (λ (r : Starred). r .reads) readings
-unfolding readings exponential falling series squared root searched rootBits powerAt halve narrow middle whole _-ᵂ_ _*ᵂ_ _/ᵂ_ _^ᵂ_ power Ieee.ofInt Ieee.eq Ieee.lt Ieee.le Ieee.neg Ieee.sub Ieee.mul Ieee.div Ieee.toBits Ieee.ofBits
+unfolding readings exponential falling series squared root searched rootBits powerAt halve narrow middle whole
+    _-ᵂ_ _*ᵂ_ _/ᵂ_ _^ᵂ_ power Ieee.ofInt Ieee.eq Ieee.lt Ieee.le Ieee.neg Ieee.sub Ieee.mul Ieee.div Ieee.toBits Ieee.ofBits
 all-read = refl
 
 sizes-read : map (λ (r : Starred). r .worked) sizes ≡ map (λ (r : Starred). r .reads) sizes

@@ -5,12 +5,12 @@ use mathlib.Core.Bool.{cond}
 use lib.Ieee as Ieee
 use lib.Ieee.{Float, binary64}
 use Rattle.num_working.specs.Number.{whole}
-use Rattle.num_working.specs.Working.{checked, over, plain, then, _+ᵂ_, _-ᵂ_, _*ᵂ_, _/ᵂ_}
+use Rattle.num_working.specs.Working.{checked, over, plain, orElse, _+ᵂ_, _-ᵂ_, _*ᵂ_, _/ᵂ_}
 use Rattle.num_powers.specs.Power.{power, _^ᵂ_}
 use Rattle.num_exponential.specs.Exponential.{exponential}
 use Rattle.num_roots.specs.Root as Root
 use Rattle.num_working.specs.declared.Worked.{Worked}
-use Rattle.num_working.specs.declared.Worked.the-variants.{Number}
+use Rattle.num_working.specs.declared.Worked.the-variants.{Number, Failed}
 use Rattle.num_roots.specs.declared.root.Exponent.{Exponent}
 
 infixl 6 _⊕_ _⊖_
@@ -41,10 +41,10 @@ work (a ⊖ b) = work a -ᵂ work b
 work (a ⊗ b) = work a *ᵂ work b
 work (a ⊘ b) = work a /ᵂ work b
 work (a ^^ n) = work a ^ᵂ n
-work (minus a) = then (work a) (λ x. Number (Ieee.neg x))
-work (size a) = then (work a) (λ x. Number (absolute x))
-work (e^ a) = then (work a) exponential
-work (root e a) = then (work a) (Root.root e)
+work (minus a) = orElse (work a) Failed (λ x. Number (Ieee.neg x))
+work (size a) = orElse (work a) Failed (λ x. Number (absolute x))
+work (e^ a) = orElse (work a) Failed exponential
+work (root e a) = orElse (work a) Failed (Root.root e)
 
 -- the same in plain f64, tested nowhere: what code works, and tests once at the end (`once`, proofs/Formulas.antt)
 unfoldable pub value : Formula → Float

@@ -10,7 +10,11 @@ use borrow.Author.Tests.{eqb-true, eqb-false, eq-eqb, ne-eqb, leb-true, leb-fals
 use lib.Ieee.{Float, lt, ofInt}
 use lib.Ieee.Scale.{finite}
 use Rattle.num_working.specs.Number.{whole}
-use Rattle.num_halving.specs.Halving.{Figure, Side, low, high, broken, side, ifC, ends, middle, narrow, halve, NotAbove, Above, Worthy, worthy, Unworthy, failed, unbounded, Found, NoCrossing, met, first-above, second-not-above, Halves, ended, upper, lower, broke, Breaks, at-first, at-second, at-middle}
+use Rattle.num_halving.specs.Halving.{Figure, Side, low, high, broken, side, ends, middle, narrow, halve}
+use Rattle.num_halving.specs.Halving.{NotAbove, Above, Worthy, worthy, Unworthy, failed, unbounded, Found}
+use Rattle.num_halving.specs.Halving.{NoCrossing, met, first-above, second-not-above, Halves, ended, upper, lower, broke}
+use Rattle.num_halving.specs.Halving.{Breaks, at-first, at-second, at-middle}
+use Rattle.num_working.proofs.Cases.{by-test, never}
 use Rattle.num_working.specs.declared.Worked.{Worked}
 use Rattle.num_working.specs.declared.Worked.the-variants.{Number, Failed}
 use Rattle.num_halving.specs.declared.Crossing.{Crossing}
@@ -53,17 +57,17 @@ stands f t k = go (f k) refl
 
 not-above-of : (f : Figure) (t : Float) (k : ℕ) (s : Side) → Stands f t k s → s ≡ low → NotAbove f t k
 not-above-of f t k low (is-low a) e = a
-not-above-of f t k high (is-high a) e = let z : _≡_ {A = ℕ} 0 1 = cc in absurd (omega arith)
-not-above-of f t k broken (is-broken a) e = let z : _≡_ {A = ℕ} 0 1 = cc in absurd (omega arith)
+not-above-of f t k high (is-high a) e = never (cc)
+not-above-of f t k broken (is-broken a) e = never (cc)
 
 is-above-of : (f : Figure) (t : Float) (k : ℕ) (s : Side) → Stands f t k s → s ≡ high → Above f t k
-is-above-of f t k low (is-low a) e = let z : _≡_ {A = ℕ} 0 1 = cc in absurd (omega arith)
+is-above-of f t k low (is-low a) e = never (cc)
 is-above-of f t k high (is-high a) e = a
-is-above-of f t k broken (is-broken a) e = let z : _≡_ {A = ℕ} 0 1 = cc in absurd (omega arith)
+is-above-of f t k broken (is-broken a) e = never (cc)
 
 is-unworthy-of : (f : Figure) (t : Float) (k : ℕ) (s : Side) → Stands f t k s → s ≡ broken → Unworthy f k
-is-unworthy-of f t k low (is-low a) e = let z : _≡_ {A = ℕ} 0 1 = cc in absurd (omega arith)
-is-unworthy-of f t k high (is-high a) e = let z : _≡_ {A = ℕ} 0 1 = cc in absurd (omega arith)
+is-unworthy-of f t k low (is-low a) e = never (cc)
+is-unworthy-of f t k high (is-high a) e = never (cc)
 is-unworthy-of f t k broken (is-broken a) e = a
 
 not-above : (f : Figure) (t : Float) (k : ℕ) → side t (f k) ≡ low → NotAbove f t k
@@ -159,11 +163,15 @@ module _ (f : Figure) (t : Float) where
   same-halving {lo} {hi} (upper ne a r) n h w =
       let k = one-more n lo hi h w ne in
       let v : hi - lo ≤ 2 ^ suc (k .0) = rw (k .1) at w in
-      ap (λ (i : ℕ). narrow f t i lo hi) (k .1) ∙ narrow-upper (k .0) lo hi ne a ∙ same-halving r (k .0) (between lo hi h ne .below) (upper-width lo hi (k .0) h v)
+      ap (λ (i : ℕ). narrow f t i lo hi) (k .1)
+      ∙ narrow-upper (k .0) lo hi ne a
+      ∙ same-halving r (k .0) (between lo hi h ne .below) (upper-width lo hi (k .0) h v)
   same-halving {lo} {hi} (lower ne a r) n h w =
       let k = one-more n lo hi h w ne in
       let v : hi - lo ≤ 2 ^ suc (k .0) = rw (k .1) at w in
-      ap (λ (i : ℕ). narrow f t i lo hi) (k .1) ∙ narrow-lower (k .0) lo hi ne a ∙ same-halving r (k .0) (between lo hi h ne .above) (lower-width lo hi (k .0) v)
+      ap (λ (i : ℕ). narrow f t i lo hi) (k .1)
+      ∙ narrow-lower (k .0) lo hi ne a
+      ∙ same-halving r (k .0) (between lo hi h ne .above) (lower-width lo hi (k .0) v)
   same-halving {lo} {hi} (broke ne e) n h w =
       let k = one-more n lo hi h w ne in
       ap (λ (i : ℕ). narrow f t i lo hi) (k .1) ∙ narrow-broke (k .0) lo hi ne e
@@ -182,13 +190,13 @@ module _ (f : Figure) (t : Float) where
       let m = between lo hi h ne in
       let i = found g r (m .above) a x q in
       record { from = i .from; to = omega arith; here = i .here; next = i .next }
-  found (broke ne e) r h a b q = let z : _≡_ {A = ℕ} 0 1 = cc in absurd (omega arith)
+  found (broke ne e) r h a b q = never (cc)
 
   somewhere : {lo hi m : ℕ} {c : Crossing} → Halves f t lo hi m c → c ≡ Nowhere → ⊥
-  somewhere (ended e) q = let z : _≡_ {A = ℕ} 0 1 = cc in omega arith
+  somewhere (ended e) q = never (cc)
   somewhere (upper ne x g) q = somewhere g q
   somewhere (lower ne x g) q = somewhere g q
-  somewhere (broke ne e) q = let z : _≡_ {A = ℕ} 0 1 = cc in omega arith
+  somewhere (broke ne e) q = never (cc)
 
 high-any : (b : Bool) (c : Crossing) → ends high (cond b high low) c ≡ Nowhere
 high-any true c = refl
@@ -198,9 +206,8 @@ any-low : (b : Bool) (c : Crossing) → ends (cond b high low) low c ≡ Nowhere
 any-low true c = refl
 any-low false c = refl
 
-either-nowhere : (b : Bool) → ifC b Nowhere Nowhere ≡ Nowhere
-either-nowhere true = refl
-either-nowhere false = refl
+either-nowhere : (b : Bool) → cond b Nowhere Nowhere ≡ Nowhere
+either-nowhere b = by-test (λ (c : Crossing). c ≡ Nowhere) b Nowhere Nowhere (λ _. refl) (λ _. refl)
 
 -- ---- THE SHARED FACT
 module _ (f : Figure) (t : Float) where
@@ -210,16 +217,16 @@ module _ (f : Figure) (t : Float) where
   answer lo hi r w e = go (leb hi lo) refl e
     where
       by : lo < hi → (a b : Side) → side t (f lo) ≡ a → side t (f hi) ≡ b → ends a b (narrow f t 63 lo hi) ≡ At r → Found f t lo hi r
-      by h low low p q k = let z : _≡_ {A = ℕ} 0 1 = cc in absurd (omega arith)
+      by h low low p q k = never (cc)
       by h low high p q k = found f t (at-most-63 f t lo hi h w .2) r h (not-above f t lo p) (is-above f t hi q) k
-      by h low broken p q k = let z : _≡_ {A = ℕ} 0 1 = cc in absurd (omega arith)
-      by h high low p q k = let z : _≡_ {A = ℕ} 0 1 = cc in absurd (omega arith)
-      by h high high p q k = let z : _≡_ {A = ℕ} 0 1 = cc in absurd (omega arith)
-      by h high broken p q k = let z : _≡_ {A = ℕ} 0 1 = cc in absurd (omega arith)
-      by h broken b p q k = let z : _≡_ {A = ℕ} 0 1 = cc in absurd (omega arith)
+      by h low broken p q k = never (cc)
+      by h high low p q k = never (cc)
+      by h high high p q k = never (cc)
+      by h high broken p q k = never (cc)
+      by h broken b p q k = never (cc)
 
-      go : (x : Bool) → leb hi lo ≡ x → ifC x Nowhere (ends (side t (f lo)) (side t (f hi)) (narrow f t 63 lo hi)) ≡ At r → Found f t lo hi r
-      go true p k = let z : _≡_ {A = ℕ} 0 1 = cc in absurd (omega arith)
+      go : (x : Bool) → leb hi lo ≡ x → cond x Nowhere (ends (side t (f lo)) (side t (f hi)) (narrow f t 63 lo hi)) ≡ At r → Found f t lo hi r
+      go true p k = never (cc)
       go false p k = by (leb-false hi lo p) (side t (f lo)) (side t (f hi)) refl refl k
 
   -- no crossing exactly where there is none to be found
@@ -230,13 +237,13 @@ module _ (f : Figure) (t : Float) where
       by : lo < hi → (a b : Side) → side t (f lo) ≡ a → side t (f hi) ≡ b → ends a b (narrow f t 63 lo hi) ≡ Nowhere → NoCrossing f t lo hi
       by h low low p q k = second-not-above (worthy-low f t lo (not-above f t lo p)) (not-above f t hi q)
       by h low high p q k = absurd (somewhere f t (at-most-63 f t lo hi h w .2) k)
-      by h low broken p q k = let z : _≡_ {A = ℕ} 0 1 = cc in absurd (omega arith)
+      by h low broken p q k = never (cc)
       by h high low p q k = second-not-above (worthy-high f t lo (is-above f t lo p)) (not-above f t hi q)
       by h high high p q k = first-above (is-above f t lo p) (worthy-high f t hi (is-above f t hi q))
-      by h high broken p q k = let z : _≡_ {A = ℕ} 0 1 = cc in absurd (omega arith)
-      by h broken b p q k = let z : _≡_ {A = ℕ} 0 1 = cc in absurd (omega arith)
+      by h high broken p q k = never (cc)
+      by h broken b p q k = never (cc)
 
-      go : (x : Bool) → leb hi lo ≡ x → ifC x Nowhere (ends (side t (f lo)) (side t (f hi)) (narrow f t 63 lo hi)) ≡ Nowhere → NoCrossing f t lo hi
+      go : (x : Bool) → leb hi lo ≡ x → cond x Nowhere (ends (side t (f lo)) (side t (f hi)) (narrow f t 63 lo hi)) ≡ Nowhere → NoCrossing f t lo hi
       go true p k = met (leb-true hi lo p)
       go false p k = by (leb-false hi lo p) (side t (f lo)) (side t (f hi)) refl refl k
 
@@ -257,16 +264,16 @@ module _ (f : Figure) (t : Float) where
   breaks lo hi w e = go (leb hi lo) refl e
     where
       by : lo < hi → (a b : Side) → side t (f lo) ≡ a → side t (f hi) ≡ b → ends a b (narrow f t 63 lo hi) ≡ Broke → Breaks f t lo hi
-      by h low low p q k = let z : _≡_ {A = ℕ} 0 1 = cc in absurd (omega arith)
+      by h low low p q k = never (cc)
       by h low high p q k = let r = at-most-63 f t lo hi h w in at-middle (r .0) (not-above f t lo p) (is-above f t hi q) (rw k at (r .2))
       by h low broken p q k = at-second (is-unworthy f t hi q)
-      by h high low p q k = let z : _≡_ {A = ℕ} 0 1 = cc in absurd (omega arith)
-      by h high high p q k = let z : _≡_ {A = ℕ} 0 1 = cc in absurd (omega arith)
+      by h high low p q k = never (cc)
+      by h high high p q k = never (cc)
       by h high broken p q k = at-second (is-unworthy f t hi q)
       by h broken b p q k = at-first (is-unworthy f t lo p)
 
-      go : (x : Bool) → leb hi lo ≡ x → ifC x Nowhere (ends (side t (f lo)) (side t (f hi)) (narrow f t 63 lo hi)) ≡ Broke → (lo < hi) × Breaks f t lo hi
-      go true p k = let z : _≡_ {A = ℕ} 0 1 = cc in absurd (omega arith)
+      go : (x : Bool) → leb hi lo ≡ x → cond x Nowhere (ends (side t (f lo)) (side t (f hi)) (narrow f t 63 lo hi)) ≡ Broke → (lo < hi) × Breaks f t lo hi
+      go true p k = never (cc)
       go false p k = let h = leb-false hi lo p in (h, by h (side t (f lo)) (side t (f hi)) refl refl k)
 
   pub breaks-back : (lo hi : ℕ) → lo < hi → hi ≤ 2 ^ 63 → Breaks f t lo hi → halve f t lo hi ≡ Broke
@@ -306,10 +313,20 @@ module _ (f : Figure) (t : Float) where
       next = r .same ∙ ap (λ (n : ℕ). narrow f t n lo hi) (turn .1)
 
       pub to-upper : NotAbove f t (middle lo hi) → Narrowing asked (middle lo hi) hi
-      to-upper a = record { fuel = turn .0; apart = between lo hi (r .apart) ne .below; wide = upper-width lo hi (turn .0) (r .apart) width; same = next ∙ narrow-upper f t (turn .0) lo hi ne a }
+      to-upper a = record {
+        fuel = turn .0;
+        apart = between lo hi (r .apart) ne .below;
+        wide = upper-width lo hi (turn .0) (r .apart) width;
+        same = next ∙ narrow-upper f t (turn .0) lo hi ne a;
+      }
 
       pub to-lower : Above f t (middle lo hi) → Narrowing asked lo (middle lo hi)
-      to-lower a = record { fuel = turn .0; apart = between lo hi (r .apart) ne .above; wide = lower-width lo hi (turn .0) width; same = next ∙ narrow-lower f t (turn .0) lo hi ne a }
+      to-lower a = record {
+        fuel = turn .0;
+        apart = between lo hi (r .apart) ne .above;
+        wide = lower-width lo hi (turn .0) width;
+        same = next ∙ narrow-lower f t (turn .0) lo hi ne a;
+      }
 
       pub to-broke : Unworthy f (middle lo hi) → asked ≡ Broke
       to-broke e = next ∙ narrow-broke f t (turn .0) lo hi ne e
@@ -322,7 +339,7 @@ abbrev pub Works : Figure → ℕ → ℕ → Type 0
 Works f lo hi = (k : ℕ) → lo ≤ k → k ≤ hi → Worthy f k
 
 not-both : (f : Figure) (k : ℕ) → Worthy f k → Unworthy f k → ⊥
-not-both f k (worthy x e h) (failed g) = let z : _≡_ {A = ℕ} 0 1 = cc in omega arith
+not-both f k (worthy x e h) (failed g) = never (cc)
 not-both f k (worthy x e h) (unbounded y g l) = let s : x ≡ y = cc in true≢false (sym h ∙ ap finite s ∙ l)
 
 module _ (f : Figure) (t : Float) where

@@ -1,7 +1,7 @@
 -- Document 01: "Halving between bits lo and hi", over whatever figure is probed. Definitions only.
 use Prim.Native.Nat.{ℕ, zero, suc, _+_, _-_, _/_, _≤_}
 use mathlib.Core.Path.{_≡_}
-use mathlib.Core.Bool.{Bool, true, false, cond}
+use mathlib.Core.Bool.{true, false, cond}
 use lib.Dec.{leb, eqb}
 use lib.Ieee.{Float, lt}
 use lib.Ieee.Scale.{finite}
@@ -21,10 +21,6 @@ pub data Side : Type 0 where
 abbrev pub side : Float → Worked → Side
 side t (Number x) = cond (finite x) (cond (lt t x) high low) broken
 side t Failed = broken
-
-abbrev pub ifC : Bool → Crossing → Crossing → Crossing
-ifC true a b = a
-ifC false a b = b
 
 -- "the figure is worked at lo, then at hi (not finite: 7); no crossing if the first is above the target or the second is not above it"
 abbrev pub ends : Side → Side → Crossing → Crossing
@@ -53,13 +49,13 @@ narrow f t (suc n) lo hi =
     let upper = narrow f t n (middle lo hi) hi in
     let lower = narrow f t n lo (middle lo hi) in
     let rest = half (side t (f (middle lo hi))) upper lower in
-    ifC (eqb hi (lo + 1)) (At lo) rest
+    cond (eqb hi (lo + 1)) (At lo) rest
 
 -- "refused as "no crossing" if lo ≥ hi; .. At most 63 halvings."
 unfoldable pub halve : Figure → Float → ℕ → ℕ → Crossing
 halve f t lo hi =
     let rest = ends (side t (f lo)) (side t (f hi)) (narrow f t 63 lo hi) in
-    ifC (leb hi lo) Nowhere rest
+    cond (leb hi lo) Nowhere rest
 
 -- ---- what it means
 

@@ -1,8 +1,9 @@
 -- Floats with no minus sign: their order is that of their bits, and a product and a whole power keep it. Assumes nothing.
 use mathlib.Core.Path.{_≡_, refl, sym, ap, _∙_, subst}
 use mathlib.Core.Logic.{inl, inr}
-use Prim.Native.Nat.{ℕ, zero, suc, _+_, _-_, _*_, _/_, _%_, _^_, _≤_, _<_}
-use native.Mathlib.Nat.{le-trans, le-of-eq, le-of-lt, mul-le-mul, mul-mul-mul-comm, mul-pos, mul-assoc, mul-le-mul-right, mul-le-mul-left, pow-succ', mod-eq-of-lt, eq-or-lt-of-le, mul-one, le-of-suc-le-suc, not-le-of-lt}
+use Prim.Native.Nat.{ℕ, zero, suc, _+_, _*_, _/_, _%_, _^_, _≤_, _<_}
+use native.Mathlib.Nat.{le-trans, le-of-eq, le-of-lt, le-of-suc-le-suc, not-le-of-lt, eq-or-lt-of-le, mod-eq-of-lt, pow-succ'}
+use native.Mathlib.Nat.{mul-le-mul, mul-le-mul-right, mul-le-mul-left, mul-mul-mul-comm, mul-pos, mul-assoc, mul-one}
 use native.Mathlib.Omega.{arith}
 use mathlib.Core.Bool.{Bool, true, false, not, _&&_, _||_, cond, true≢false, Bool·beq}
 use lib.Dec.{T, ltb, eqb, eqb→eq, ltb→lt}
@@ -100,7 +101,8 @@ mul-is f (fin false m e) (fin false n d) p q = refl
 pub mul-unsigned : (f : Format) (x y : Float) → T (nonneg x) → T (nonneg y) → T (unsigned (mul f x y))
 mul-unsigned f x y p q = subst (λ (z : Float). T (unsigned z)) (sym (mul-is f x y p q)) (round-unsigned f _ _)
 
-pub mul-mono : (f : Format) (x x' y y' : Float) → T (nonneg x) → T (nonneg x') → T (nonneg y) → T (nonneg y') → T (le x x') → T (le y y') → T (le (mul f x y) (mul f x' y'))
+pub mul-mono : (f : Format) (x x' y y' : Float) → T (nonneg x) → T (nonneg x') → T (nonneg y) → T (nonneg y')
+    → T (le x x') → T (le y y') → T (le (mul f x y) (mul f x' y'))
 mul-mono f x x' y y' p p' q q' h k =
     subst (λ (z : Float). T (le z (mul f x' y'))) (sym (mul-is f x y p q))
     (subst (λ (z : Float). T (le (round f false (num x * num y) (den x * den y)) z)) (sym (mul-is f x' y' p' q'))
@@ -137,7 +139,8 @@ power-mono x y (suc (suc k)) o f =
     let i = power-mono x y (suc k) o (finite-left (power y (suc k)) y f) in
     let p = unsigned-finite (mul binary64 (power y (suc k)) y) (mul-unsigned binary64 (power y (suc k)) y (i .second) (o .second)) f in
     let l = mul-mono binary64 (power x (suc k)) (power y (suc k)) x y (i .first) (i .second) (o .first) (o .second) (i .order) (o .order) in
-    record { first = under (mul binary64 (power x (suc k)) x) (mul binary64 (power y (suc k)) y) (mul-unsigned binary64 (power x (suc k)) x (i .first) (o .first)) p l; second = p; order = l }
+    let u = mul-unsigned binary64 (power x (suc k)) x (i .first) (o .first) in
+    record { first = under (mul binary64 (power x (suc k)) x) (mul binary64 (power y (suc k)) y) u p l; second = p; order = l }
 
 -- ---- the order of the bits, up to the infinity's
 -- the number that a field q and the digits t stand for, in units of 2 ^ -1074
@@ -194,11 +197,13 @@ unfolding value
 bits-mono b c l h =
     let x = bits-value b (omega arith) in
     let y = bits-value c h in
+    let field : ℕ = 4503599627370496 in
+    let v = val-mono (b / field) (b % field) (c / field) (c % field) (omega arith) (omega arith) (λ e. omega arith) in
     record {
       first = nonneg-of (ofBits binary64 b) (value b) (2 ^ 1074) x;
       second = nonneg-of (ofBits binary64 c) (value c) (2 ^ 1074) y;
       order = le-of-values (ofBits binary64 b) (ofBits binary64 c) (value b) (2 ^ 1074) (value c) (2 ^ 1074) (pow-pos 1074) (pow-pos 1074) x y
-          (mul-le-mul-right (2 ^ 1074) (val-mono (b / 4503599627370496) (b % 4503599627370496) (c / 4503599627370496) (c % 4503599627370496) (omega arith) (omega arith) (λ e. omega arith)));
+          (mul-le-mul-right (2 ^ 1074) v);
     }
 
 pub bits-finite : (b : ℕ) → b < infinity → T (finite (ofBits binary64 b))

@@ -2,17 +2,22 @@
 -- q·k and y − q·k are exact; and what is left over, times a number a little above 1/k, makes up the rest so nearly that rounding sees no difference,
 -- since a quotient by an odd number is no nearer than 1/(2k) to the middle between two whole numbers. Assumes nothing.
 use mathlib.Core.Path.{_≡_, refl, sym, ap, _∙_, subst}
-use mathlib.Core.Logic.{_⊎_, inl, inr}
+use mathlib.Core.Logic.{inl, inr}
 use mathlib.Core.Bool.{Bool, true, false, not, _&&_}
 use Prim.Native.Nat.{ℕ, suc, _+_, _-_, _*_, _/_, _%_, _^_, _≤_, _<_, zero-le, compare, Ordering, Ordering·lt, Ordering·eq, Ordering·gt}
-use native.Mathlib.Nat.{le-trans, le-of-eq, le-of-lt, le-of-suc-le-suc, le-antisymm, lt-of-le-of-lt, lt-of-lt-of-le, lt-irrefl, eq-zero-or-pos, mul-zero, zero-mul, mul-one, one-mul, mul-comm, mul-assoc, mul-left-comm, mul-right-comm, mul-pos, add-mul, suc-mul, add-zero, mul-le-mul, mul-le-mul-left, mul-le-mul-right, le-of-mul-le-mul-right, lt-of-mul-lt-mul-right, mul-lt-mul-of-pos-left, mul-lt-mul-of-pos-right, sub-le, div-le-self, div-div-eq-div-mul, mul-div-mul-right, le-div-iff-mul-le, div-lt-iff-lt-mul}
+use native.Mathlib.Nat.{le-trans, le-of-eq, le-of-lt, le-of-suc-le-suc, le-antisymm, lt-of-le-of-lt, lt-of-lt-of-le, lt-irrefl}
+use native.Mathlib.Nat.{eq-zero-or-pos, le-of-mul-le-mul-right, lt-of-mul-lt-mul-right, le-div-iff-mul-le}
+use native.Mathlib.Nat.{mul-zero, zero-mul, mul-one, one-mul, mul-comm, mul-assoc, mul-left-comm, mul-right-comm, mul-pos, add-mul, suc-mul}
+use native.Mathlib.Nat.{mul-le-mul, mul-le-mul-left, mul-le-mul-right, mul-lt-mul-of-pos-left, mul-lt-mul-of-pos-right}
+use native.Mathlib.Nat.{add-zero, sub-le, div-le-self, div-div-eq-div-mul, mul-div-mul-right, div-lt-iff-lt-mul}
 use native.Mathlib.Omega.{arith}
 use lib.Dec.{T, isLe, isEq, eqb, leb, ltb, eqb→eq, leb→le, le→leb, ltb→lt, nltb→le, lit≤, lit<}
 use lib.Arith.{digits-div, digits-mod, mod-mul, lt→nleb}
 use lib.Pow.{pow-add, pow-pos, pow-mono}
-use lib.Ieee.{Float, nan, inf, fin, Format, binary64, prec, low, hid, size, nearest, units, round, fits, isNan, nanBits, toBits, ofBits, add, sub, mul, div, le}
+use lib.Ieee.{Float, nan, inf, fin, Format, binary64, prec, low, hid, size, nearest, units, round, fits, isNan, nanBits, toBits, ofBits}
+use lib.Ieee.{add, sub, mul, div, le}
 use lib.Ieee.Bits.{nanBits-is}
-use lib.Ieee.Digits.{back, size-lt, size-le, size-reaches}
+use lib.Ieee.Digits.{size-lt, size-le, size-reaches}
 use lib.Ieee.Fits.{and-l, and-r, round-is, two}
 use lib.Ieee.Exact.{HasValue}
 use lib.Ieee.Nearest.{closest, div-mono}
@@ -21,8 +26,9 @@ use lib.Ieee.Positive.{num, den, positive, den-pos, own-value, value→cross, va
 use Rattle.num_working.specs.Number.{decimal, whole}
 use Rattle.num_laws.specs.Quotient.{normal, divisor, justBelow, justAbove}
 use Rattle.num_laws.proofs.Halves as Halves
-use Rattle.num_laws.proofs.Halves.{div-is}
-use Rattle.num_laws.proofs.Units.{Digits, Product, pow-lt-back, size-gt, last-digit, minus-times, bits-are, of-bits, counted, digits-of, exact, product, mul-of, add-of, sub-of}
+use Rattle.num_laws.proofs.Halves.{le-by, lt-by, pow-split, div-is}
+use Rattle.num_laws.proofs.Units.{Digits, Product, pow-lt-back, size-gt, last-digit, minus-times, bits-are, of-bits, counted}
+use Rattle.num_laws.proofs.Units.{digits-of, digits-under, exact, product, mul-of, add-of, sub-of}
 
 -- ---- a fraction N/k of an odd k, moved up by less than 1/(2k), is rounded to the same whole number
 less : (a b : ℕ) → a < b → compare a b ≡ Ordering·lt
@@ -62,14 +68,16 @@ unmoved : (k N E u : ℕ) → 0 < k → k % 2 ≡ 1 → 2 * E < u → closest (N
 unmoved k N E u K odd h =
     let l : E < u = omega arith in
     let U : 0 < u = omega arith in
-    let w : (N * u + E) / (k * u) ≡ N / k = ap (λ (z : ℕ). (N * u + E) / z) (mul-comm k u) ∙ sym (div-div-eq-div-mul (N * u + E) u k) ∙ ap (λ (z : ℕ). z / k) (digits-div N l) in
+    let w : (N * u + E) / (k * u) ≡ N / k =
+    ap (λ (z : ℕ). (N * u + E) / z) (mul-comm k u) ∙ sym (div-div-eq-div-mul (N * u + E) u k) ∙ ap (λ (z : ℕ). z / k) (digits-div N l) in
     let r : (N * u + E) % (k * u) ≡ N % k * u + E = mod-mul (N * u + E) K U ∙ (λ i. digits-div N l i % k * u + digits-mod N l i) in
     ap (λ (z : ℕ). nearest z (compare ((N * u + E) % (k * u) * 2) (k * u))) w
     ∙ ap (λ (z : ℕ). nearest (N / k) (compare (z * 2) (k * u))) r
     ∙ ap (nearest (N / k)) (same-side k (N % k) E u odd h)
 
 -- ---- so Y/k units, moved up by less than half of 2ᵈ units, round alike, where Y is a count that the format holds and Y/k is 2ᵈ times hid units at least
-settled : (f : Format) (Y E k d : ℕ) (D : Digits f Y) → 0 < k → k % 2 ≡ 1 → 2 * E < 2 ^ d → hid f * 2 ^ d * k ≤ Y → round f false (Y + E) (k * 2 ^ low f) ≡ round f false Y (k * 2 ^ low f)
+settled : (f : Format) (Y E k d : ℕ) (D : Digits f Y) → 0 < k → k % 2 ≡ 1 → 2 * E < 2 ^ d → hid f * 2 ^ d * k ≤ Y
+    → round f false (Y + E) (k * 2 ^ low f) ≡ round f false Y (k * 2 ^ low f)
 settled f Y E k d D K odd small big =
     let p = prec f in
     let l = 2 ^ low f in
@@ -77,47 +85,56 @@ settled f Y E k d D K odd small big =
     let W = Y / k in
     let z = size W - p in
     let W' = (Y + E) / k in
-    let reach : p - 1 + d < size W = size-gt W (p - 1 + d) (le-div-iff-mul-le K .1 (le-trans (le-of-eq (ap (λ (x : ℕ). x * k) (pow-add 2 (p - 1) d))) big)) in
+    let reach : p - 1 + d < size W =
+    size-gt W (p - 1 + d) (le-div-iff-mul-le K .1 (le-trans (le-of-eq (ap (λ (x : ℕ). x * k) (pow-add 2 (p - 1) d))) big)) in
     let P : p ≤ size W = omega (arith, two f) in
     let dz : d ≤ z = omega (arith, two f) in
     let full : size W ≡ p + z = omega arith in
-    let Y< : Y < 2 ^ (p + D .e) = lt-of-le-of-lt (le-of-eq (D .is)) (lt-of-lt-of-le (mul-lt-mul-of-pos-right (D .small) (pow-pos (D .e))) (le-of-eq (sym (pow-add 2 p (D .e))))) in
-    let ze : z ≤ D .e = omega (arith, two f, pow-lt-back (p - 1 + z) (p + D .e) (lt-of-le-of-lt (size-reaches W (p - 1 + z) (last-digit (size W) p (two f) P)) (lt-of-le-of-lt (div-le-self Y k) Y<))) in
+    let W> = size-reaches W (p - 1 + z) (last-digit (size W) p (two f) P) in
+    let W< : W < 2 ^ (p + D .e) = lt-of-le-of-lt (div-le-self Y k) (digits-under f Y D) in
+    let ze : z ≤ D .e = omega (arith, two f, pow-lt-back (p - 1 + z) (p + D .e) (lt-of-le-of-lt W> W<)) in
     let N = D .m * 2 ^ (D .e - z) in
-    let is : Y ≡ N * 2 ^ z = D .is ∙ ap (λ (x : ℕ). D .m * 2 ^ x) (sym (back (D .e) z ze)) ∙ ap (λ (x : ℕ). D .m * x) (pow-add 2 (D .e - z) z) ∙ sym (mul-assoc (D .m) (2 ^ (D .e - z)) (2 ^ z)) in
+    let is : Y ≡ N * 2 ^ z = D .is ∙ pow-split (D .m) (D .e) z ze in
     let E< : 2 * E < 2 ^ z = lt-of-lt-of-le small (pow-mono dz) in
     let top : Y < 2 ^ (p + z) * k = div-lt-iff-lt-mul K .0 (subst (λ (x : ℕ). W < 2 ^ x) full (size-lt W)) in
     let split : 2 ^ (p + z) * k ≡ 2 ^ p * k * 2 ^ z = ap (λ (x : ℕ). x * k) (pow-add 2 p z) ∙ mul-right-comm (2 ^ p) (2 ^ z) k in
-    let N< : N < 2 ^ p * k = lt-of-mul-lt-mul-right (2 ^ z) (lt-of-le-of-lt (le-of-eq (sym is)) (lt-of-lt-of-le top (le-of-eq split))) in
+    let N< : N < 2 ^ p * k = lt-of-mul-lt-mul-right (2 ^ z) (lt-by (sym is) top split) in
     let next : suc N * 2 ^ z ≤ 2 ^ p * k * 2 ^ z = mul-le-mul-right (2 ^ z) N< in
     let top' : Y + E < 2 ^ (p + z) * k = omega (arith, suc-mul N (2 ^ z)) in
     let same : size W' ≡ size W =
     le-antisymm (size-le W' (size W) (subst (λ (x : ℕ). W' < 2 ^ x) (sym full) (div-lt-iff-lt-mul K .1 top')))
     (size-le W (size W') (lt-of-le-of-lt (div-mono Y k (Y + E) k K K (mul-le-mul-right k (omega arith))) (size-lt W'))) in
     let u = l * 2 ^ z in
+    let Yl : Y * l ≡ N * u = ap (λ (x : ℕ). x * l) is ∙ mul-assoc N (2 ^ z) l ∙ ap (λ (x : ℕ). N * x) (mul-comm (2 ^ z) l) in
     let at : (e : ℕ) → 2 * e < 2 ^ z → closest ((Y + e) * l) (k * l * 2 ^ z) ≡ closest N k =
     λ e h.
-    (λ i. closest ((add-mul Y e l ∙ ap (λ (x : ℕ). x + e * l) (ap (λ (x : ℕ). x * l) is ∙ mul-assoc N (2 ^ z) l ∙ ap (λ (x : ℕ). N * x) (mul-comm (2 ^ z) l))) i) (mul-assoc k l (2 ^ z) i))
-    ∙ unmoved k N (e * l) u K odd (lt-of-le-of-lt (le-of-eq (sym (mul-assoc 2 e l))) (lt-of-lt-of-le (mul-lt-mul-of-pos-right h L) (le-of-eq (mul-comm (2 ^ z) l)))) in
+    (λ i. closest ((add-mul Y e l ∙ ap (λ (x : ℕ). x + e * l) Yl) i) (mul-assoc k l (2 ^ z) i))
+    ∙ unmoved k N (e * l) u K odd (lt-by (sym (mul-assoc 2 e l)) (mul-lt-mul-of-pos-right h L) (mul-comm (2 ^ z) l)) in
+    let rounded : ℕ → ℕ → Float = λ X x. units f false (closest (X * l) (k * l * 2 ^ x)) x in
     round-is f false (Y + E) (k * l)
-    ∙ ap (λ (x : ℕ). units f false (closest ((Y + E) * l) (k * l * 2 ^ x)) x) (ap (λ (x : ℕ). size x - p) (mul-div-mul-right (Y + E) k L) ∙ ap (λ (x : ℕ). x - p) same)
+    ∙ ap (rounded (Y + E)) (ap (λ (x : ℕ). size x - p) (mul-div-mul-right (Y + E) k L) ∙ ap (λ (x : ℕ). x - p) same)
     ∙ ap (λ (x : ℕ). units f false x z) (at E E< ∙ sym (at 0 (pow-pos z)) ∙ ap (λ (x : ℕ). closest (x * l) (k * l * 2 ^ z)) (add-zero Y))
-    ∙ sym (round-is f false Y (k * l) ∙ ap (λ (x : ℕ). units f false (closest (Y * l) (k * l * 2 ^ x)) x) (ap (λ (x : ℕ). size x - p) (mul-div-mul-right Y k L)))
+    ∙ sym (round-is f false Y (k * l) ∙ ap (rounded Y) (ap (λ (x : ℕ). size x - p) (mul-div-mul-right Y k L)))
 
 -- ---- what is near y·c, with k·c near 1, is near y/k: P and A are the bounds of a rounded product, α and β those that are asked for
-scaled-over : (P A Y C c k T α β : ℕ) → 0 < P * c → P * (T * c) ≤ A * (Y * C) → β * (A * (k * C)) ≤ α * (P * c) → β * (k * T) ≤ α * Y
-scaled-over P A Y C c k T α β pos h test =
-    let x : β * (k * T) * (P * c) ≡ β * k * (P * (T * c)) = simp (mul-assoc, mul-comm, mul-left-comm) in
-    let y : β * k * (A * (Y * C)) ≡ Y * (β * (A * (k * C))) = simp (mul-assoc, mul-comm, mul-left-comm) in
-    let z : Y * (α * (P * c)) ≡ α * Y * (P * c) = simp (mul-assoc, mul-comm, mul-left-comm) in
-    le-of-mul-le-mul-right (le-trans (le-of-eq x) (le-trans (mul-le-mul-left (β * k) h) (le-trans (le-of-eq y) (le-trans (mul-le-mul-left Y test) (le-of-eq z))))) pos
+module _ (P A Y C c k T α β : ℕ) (pos : 0 < P * c) where
+  asked : β * (k * T) * (P * c) ≡ β * k * (P * (T * c))
+  asked = simp (mul-assoc, mul-comm, mul-left-comm)
 
-scaled-below : (P A Y C c k T α β : ℕ) → 0 < P * c → A * (Y * C) ≤ P * (T * c) → α * (P * c) ≤ β * (A * (k * C)) → α * Y ≤ β * (k * T)
-scaled-below P A Y C c k T α β pos h test =
-    let x : β * (k * T) * (P * c) ≡ β * k * (P * (T * c)) = simp (mul-assoc, mul-comm, mul-left-comm) in
-    let y : β * k * (A * (Y * C)) ≡ Y * (β * (A * (k * C))) = simp (mul-assoc, mul-comm, mul-left-comm) in
-    let z : Y * (α * (P * c)) ≡ α * Y * (P * c) = simp (mul-assoc, mul-comm, mul-left-comm) in
-    le-of-mul-le-mul-right (le-trans (le-of-eq (sym z)) (le-trans (mul-le-mul-left Y test) (le-trans (le-of-eq (sym y)) (le-trans (mul-le-mul-left (β * k) h) (le-of-eq (sym x)))))) pos
+  middle : β * k * (A * (Y * C)) ≡ Y * (β * (A * (k * C)))
+  middle = simp (mul-assoc, mul-comm, mul-left-comm)
+
+  given : Y * (α * (P * c)) ≡ α * Y * (P * c)
+  given = simp (mul-assoc, mul-comm, mul-left-comm)
+
+  scaled-over : P * (T * c) ≤ A * (Y * C) → β * (A * (k * C)) ≤ α * (P * c) → β * (k * T) ≤ α * Y
+  scaled-over h test =
+      le-of-mul-le-mul-right (le-by asked (le-trans (mul-le-mul-left (β * k) h) (le-trans (le-of-eq middle) (mul-le-mul-left Y test))) given) pos
+
+  scaled-below : A * (Y * C) ≤ P * (T * c) → α * (P * c) ≤ β * (A * (k * C)) → α * Y ≤ β * (k * T)
+  scaled-below h test =
+      let back = le-trans (mul-le-mul-left Y test) (le-trans (le-of-eq (sym middle)) (mul-le-mul-left (β * k) h)) in
+      le-of-mul-le-mul-right (le-by (sym given) back (sym asked)) pos
 
 -- a product rounded is off by 2⁻⁵² of it at most
 just-below-over : (X c : ℕ) → 2 ^ 50 * X ≤ (2 ^ 50 - 1) * c → 1 * ((2 ^ 52 + 1) * X) ≤ 1 * (2 ^ 52 * c)
@@ -198,13 +215,19 @@ module _ (y k c h : Float) (Y n C c' H h' : ℕ)
 
   -- y·c, of which the units are no more than those of y/k, and few less
   first : Product binary64 Y C c' (mul binary64 y c)
-  first = product binary64 y c Y C c' vy vc c-pos hi c-under (le-trans (mul-le-mul-left (2 ^ 52) c-near) (le-trans (le-of-eq (sym (mul-assoc (2 ^ 52) 32 C))) (mul-le-mul-right C (le-trans (lit≤ tt) lo))))
+  first =
+      product binary64 y c Y C c' vy vc c-pos hi c-under
+      (le-trans (le-trans (mul-le-mul-left (2 ^ 52) c-near) (le-of-eq (sym (mul-assoc (2 ^ 52) 32 C)))) (mul-le-mul-right C (le-trans (lit≤ tt) lo)))
 
   no-more : n * first .g ≤ Y
-  no-more = omega (arith, scaled-over (2 ^ 52) (2 ^ 52 + 1) Y C c' n (first .g) 1 1 (mul-pos (pow-pos 52) c-pos) (first .over (2 ^ 52 - 1) refl) (just-below-over (n * C) c' c-high))
+  no-more =
+      let P = mul-pos (pow-pos 52) c-pos in
+      omega (arith, scaled-over (2 ^ 52) (2 ^ 52 + 1) Y C c' n (first .g) 1 1 P (first .over (2 ^ 52 - 1) refl) (just-below-over (n * C) c' c-high))
 
   not-much-less : (2 ^ 20 - 1) * Y ≤ 2 ^ 20 * (n * first .g)
-  not-much-less = scaled-below (2 ^ 52) (2 ^ 52 - 1) Y C c' n (first .g) (2 ^ 20 - 1) (2 ^ 20) (mul-pos (pow-pos 52) c-pos) (first .below (2 ^ 52 - 1) refl) (just-below-below (n * C) c' c-low)
+  not-much-less =
+      scaled-below (2 ^ 52) (2 ^ 52 - 1) Y C c' n (first .g) (2 ^ 20 - 1) (2 ^ 20) (mul-pos (pow-pos 52) c-pos)
+      (first .below (2 ^ 52 - 1) refl) (just-below-below (n * C) c' c-low)
 
   -- q, and its count Q of units
   abbrev d : ℕ
@@ -219,7 +242,8 @@ module _ (y k c h : Float) (Y n C c' H h' : ℕ)
   Q-digits : Digits binary64 Q
   Q-digits =
       let K = first .digits .m in
-      record { m = K - K % 32; e = d; is = refl; full = cut-full K (first .digits .full); small = lt-of-le-of-lt (sub-le K (K % 32)) (first .digits .small) }
+      let small = lt-of-le-of-lt (sub-le K (K % 32)) (first .digits .small) in
+      record { m = K - K % 32; e = d; is = refl; full = cut-full K (first .digits .full); small = small }
 
   Q-less : Q ≤ first .g
   Q-less = le-trans (mul-le-mul-right (2 ^ d) (sub-le (first .digits .m) (first .digits .m % 32))) (le-of-eq (sym (first .digits .is)))
@@ -228,7 +252,8 @@ module _ (y k c h : Float) (Y n C c' H h' : ℕ)
   unfolding Q-digits
   q-value =
       let K = first .digits .m in
-      let b : toBits binary64 (mul binary64 y c) ≡ d * 2 ^ 52 + K = bits-are binary64 (mul binary64 y c) (first .g) (first .digits) (first .value) in
+      let b : toBits binary64 (mul binary64 y c) ≡ d * 2 ^ 52 + K =
+      bits-are binary64 (mul binary64 y c) (first .g) (first .digits) (first .value) in
       subst (λ (x : Float). HasValue x false Q (2 ^ low binary64)) (ap (ofBits binary64) (sym (ap (λ (z : ℕ). z - z % 32) b ∙ cut-bits d K)))
       (of-bits binary64 Q Q-digits (le-trans Q-less (first .under)))
 
@@ -244,13 +269,12 @@ module _ (y k c h : Float) (Y n C c' H h' : ℕ)
       let is : Q * n ≡ J * n * 2 ^ (5 + d) =
       ap (λ (z : ℕ). z * 2 ^ d * n) (by-32 K) ∙ regrouped J 32 (2 ^ d) n ∙ ap (λ (z : ℕ). J * n * z) (sym (pow-add 2 5 d)) in
       let small : J * n < 2 ^ 53 = lt-of-le-of-lt (mul-le-mul (few-digits K (first .digits .small)) (le-of-lt few)) (lit< tt) in
-      subst (λ (x : Float). HasValue x false (Q * n) l) (sym (mul-of binary64 q k Q l n 1 (pow-pos (low binary64)) (pow-pos 0) q-value vk ∙ ap (round binary64 false (Q * n)) (mul-one l)))
+      let L = pow-pos (low binary64) in
+      subst (λ (x : Float). HasValue x false (Q * n) l)
+      (sym (mul-of binary64 q k Q l n 1 L (pow-pos 0) q-value vk ∙ ap (round binary64 false (Q * n)) (mul-one l)))
       (exact binary64 (Q * n) (J * n) (5 + d) is small (le-trans Qn-less hi))
 
   -- y − q·k is exact: a count of fewer than 2³⁹ times 2ᵈ units
-  Y-under : Y < 2 ^ (53 + D .e)
-  Y-under = lt-of-le-of-lt (le-of-eq (D .is)) (lt-of-lt-of-le (mul-lt-mul-of-pos-right (D .small) (pow-pos (D .e))) (le-of-eq (sym (pow-add 2 53 (D .e)))))
-
   G-above : 2 ^ 52 * 2 ^ d ≤ first .g
   G-above = le-trans (mul-le-mul-right (2 ^ d) (first .digits .full)) (le-of-eq (sym (first .digits .is)))
 
@@ -261,7 +285,9 @@ module _ (y k c h : Float) (Y n C c' H h' : ℕ)
   G-less = le-trans (le-trans (le-of-eq (sym (one-mul (first .g)))) (mul-le-mul-right (first .g) (le-trans (lit≤ tt) three))) no-more
 
   d-less : d ≤ D .e
-  d-less = omega (arith, pow-lt-back (52 + d) (53 + D .e) (lt-of-le-of-lt (le-of-eq (pow-add 2 52 d)) (lt-of-le-of-lt G-above (lt-of-le-of-lt G-less Y-under))))
+  d-less =
+      let G< : first .g < 2 ^ (53 + D .e) = lt-of-le-of-lt G-less (digits-under binary64 Y D) in
+      omega (arith, pow-lt-back (52 + d) (53 + D .e) (lt-of-le-of-lt (le-trans (le-of-eq (pow-add 2 52 d)) G-above) G<))
 
   abbrev R : ℕ
   R = Y - Q * n
@@ -273,13 +299,14 @@ module _ (y k c h : Float) (Y n C c' H h' : ℕ)
       let v = 2 ^ d in
       let pos : 0 < v = pow-pos d in
       let cut : K ≤ K - K % 32 + 31 = omega arith in
-      let near : G ≤ Q + 31 * v = le-trans (le-of-eq (first .digits .is)) (le-trans (mul-le-mul-right v cut) (le-of-eq (add-mul (K - K % 32) 31 v))) in
+      let near : G ≤ Q + 31 * v = le-by (first .digits .is) (mul-le-mul-right v cut) (add-mul (K - K % 32) 31 v) in
       let fifteen : n * G ≤ 15 * G = mul-le-mul-right G (le-of-suc-le-suc few) in
       let w : n * v ≤ 15 * v = mul-le-mul-right v (le-of-suc-le-suc few) in
-      let scaled : n * G ≤ Q * n + 31 * v * n = le-trans (le-of-eq (mul-comm n G)) (le-trans (mul-le-mul-right n near) (le-of-eq (add-mul Q (31 * v) n))) in
+      let scaled : n * G ≤ Q * n + 31 * v * n = le-by (mul-comm n G) (mul-le-mul-right n near) (add-mul Q (31 * v) n) in
       let e : 31 * v * n ≡ 31 * (n * v) = mul-assoc 31 v n ∙ ap (λ (z : ℕ). 31 * z) (mul-comm v n) in
       let X : n * G ≤ Q * n + 465 * v = omega arith in
-      let y< : Y ≤ n * G + 30 * (2 ^ 33 * v) = little Y (n * G) G (2 ^ 33 * v) not-much-less fifteen (lt-of-lt-of-le G-under (le-of-eq (mul-assoc (2 ^ 20) (2 ^ 33) v))) in
+      let G< : G < 2 ^ 20 * (2 ^ 33 * v) = lt-of-lt-of-le G-under (le-of-eq (mul-assoc (2 ^ 20) (2 ^ 33) v)) in
+      let y< : Y ≤ n * G + 30 * (2 ^ 33 * v) = little Y (n * G) G (2 ^ 33 * v) not-much-less fifteen G< in
       difference Y (Q * n) (2 ^ 39 * v) (left-over Y (n * G) (Q * n) v y< X pos) (mul-pos (pow-pos 39) pos)
 
   abbrev R' : ℕ
@@ -289,7 +316,7 @@ module _ (y k c h : Float) (Y n C c' H h' : ℕ)
   R-is =
       let A = D .m * 2 ^ (D .e - d) in
       let K = first .digits .m - first .digits .m % 32 in
-      let a : Y ≡ A * 2 ^ d = D .is ∙ ap (λ (z : ℕ). D .m * 2 ^ z) (sym (back (D .e) d d-less)) ∙ ap (λ (z : ℕ). D .m * z) (pow-add 2 (D .e - d) d) ∙ sym (mul-assoc (D .m) (2 ^ (D .e - d)) (2 ^ d)) in
+      let a : Y ≡ A * 2 ^ d = D .is ∙ pow-split (D .m) (D .e) d d-less in
       (λ i. a i - mul-right-comm K (2 ^ d) n i) ∙ sym (minus-times A (K * n) (2 ^ d))
 
   abbrev r : Float
@@ -302,44 +329,59 @@ module _ (y k c h : Float) (Y n C c' H h' : ℕ)
   r-value =
       let l = 2 ^ low binary64 in
       let small : R' < 2 ^ 53 = lt-of-lt-of-le (lt-of-mul-lt-mul-right (2 ^ d) (lt-of-le-of-lt (le-of-eq (sym R-is)) R-under)) (lit≤ tt) in
-      subst (λ (x : Float). HasValue x false R l) (sym (sub-of binary64 y (mul binary64 q k) Y (Q * n) l (pow-pos (low binary64)) vy qk-value Qn-less)) (exact binary64 R R' d R-is small R-less)
+      subst (λ (x : Float). HasValue x false R l)
+      (sym (sub-of binary64 y (mul binary64 q k) Y (Q * n) l (pow-pos (low binary64)) vy qk-value Qn-less))
+      (exact binary64 R R' d R-is small R-less)
 
   -- its product by h, which is no less than the rest of y/k, and little more
   d-big : 56 ≤ d
   d-big =
       let G = first .g in
       let below : Y ≤ 16 * G = sixteen Y (n * G) G not-much-less (mul-le-mul-right G (le-of-suc-le-suc few)) in
-      let far : 16 * G < 2 ^ (57 + d) = lt-of-lt-of-le (mul-lt-mul-of-pos-left G-under (pow-pos 4)) (le-of-eq (sym (mul-assoc 16 (2 ^ 53) (2 ^ d)) ∙ sym (pow-add 2 57 d))) in
+      let far : 16 * G < 2 ^ (57 + d) =
+      lt-of-lt-of-le (mul-lt-mul-of-pos-left G-under (pow-pos 4)) (le-of-eq (sym (mul-assoc 16 (2 ^ 53) (2 ^ d)) ∙ sym (pow-add 2 57 d))) in
       omega (arith, pow-lt-back 174 (57 + d) (lt-of-le-of-lt lo (lt-of-le-of-lt below far)))
 
-  rest : (g : ℕ) × HasValue (mul binary64 r h) false g (2 ^ low binary64) × (R ≤ n * g) × (2 ^ 40 * (n * g) ≤ (2 ^ 40 + 1) * R)
-  rest = go (eq-zero-or-pos R)
-    where
-      go : (R ≡ 0) ⊎ (0 < R) → (g : ℕ) × HasValue (mul binary64 r h) false g (2 ^ low binary64) × (R ≤ n * g) × (2 ^ 40 * (n * g) ≤ (2 ^ 40 + 1) * R)
-      go (inl z) =
-          let l = 2 ^ low binary64 in
-          let none : R * H * l ≡ 0 * (l * h') = ap (λ (x : ℕ). x * H * l) z ∙ ap (λ (x : ℕ). x * l) (zero-mul H) ∙ zero-mul l ∙ sym (zero-mul (l * h')) in (
-            0,
-            subst (λ (x : Float). HasValue x false 0 l)
-                (sym (mul-of binary64 r h R l H h' (pow-pos (low binary64)) h-pos r-value vh ∙ round-same binary64 false (R * H) (l * h') 0 l (mul-pos (pow-pos (low binary64)) h-pos) (pow-pos (low binary64)) none))
-                (exact binary64 0 0 0 refl (pow-pos 53) zero-le),
-            le-of-eq (z ∙ sym (mul-zero n)),
-            le-trans (le-of-eq (ap (λ (x : ℕ). 2 ^ 40 * x) (mul-zero n))) zero-le,
-          )
-      go (inr p) =
-          let big : 2 ^ 56 ≤ R = le-trans (pow-mono d-big) (le-trans (le-of-eq (sym (one-mul (2 ^ d)))) (le-trans (mul-le-mul-right (2 ^ d) (first-pos R' (2 ^ d) (subst (λ (x : ℕ). 0 < x) R-is p))) (le-of-eq (sym R-is)))) in
-          let s =
-          product binary64 r h R H h' r-value vh h-pos R-less h-under
-          (le-trans (mul-le-mul-left (2 ^ 52) h-near) (le-trans (le-of-eq (sym (mul-assoc (2 ^ 52) 16 H))) (mul-le-mul-right H big))) in
-          let P = mul-pos (pow-pos 52) h-pos in (
-            s .g,
-            s .value,
-            omega (arith, scaled-below (2 ^ 52) (2 ^ 52 - 1) R H h' n (s .g) 1 1 P (s .below (2 ^ 52 - 1) refl) (just-above-below (n * H) h' h-low)),
-            scaled-over (2 ^ 52) (2 ^ 52 + 1) R H h' n (s .g) (2 ^ 40 + 1) (2 ^ 40) P (s .over (2 ^ 52 - 1) refl) (just-above-over (n * H) h' h-high),
-          )
+  Rest : Type 0
+  Rest = (g : ℕ) × HasValue (mul binary64 r h) false g (2 ^ low binary64) × (R ≤ n * g) × (2 ^ 40 * (n * g) ≤ (2 ^ 40 + 1) * R)
+
+  none-left : R ≡ 0 → Rest
+  unfolding Rest
+  none-left z =
+      let l = 2 ^ low binary64 in
+      let L = pow-pos (low binary64) in
+      let LH = mul-pos L h-pos in
+      let none : R * H * l ≡ 0 * (l * h') =
+      ap (λ (x : ℕ). x * H * l) z ∙ ap (λ (x : ℕ). x * l) (zero-mul H) ∙ zero-mul l ∙ sym (zero-mul (l * h')) in (
+        0,
+        subst (λ (x : Float). HasValue x false 0 l)
+            (sym (mul-of binary64 r h R l H h' L h-pos r-value vh ∙ round-same binary64 false (R * H) (l * h') 0 l LH L none))
+            (exact binary64 0 0 0 refl (pow-pos 53) zero-le),
+        le-of-eq (z ∙ sym (mul-zero n)),
+        le-trans (le-of-eq (ap (λ (x : ℕ). 2 ^ 40 * x) (mul-zero n))) zero-le,
+      )
+
+  some-left : 0 < R → Rest
+  unfolding Rest
+  some-left p =
+      let one : 1 ≤ R' = first-pos R' (2 ^ d) (subst (λ (x : ℕ). 0 < x) R-is p) in
+      let big : 2 ^ 56 ≤ R = le-trans (pow-mono d-big) (le-by (sym (one-mul (2 ^ d))) (mul-le-mul-right (2 ^ d) one) (sym R-is)) in
+      let s =
+      product binary64 r h R H h' r-value vh h-pos R-less h-under
+      (le-trans (mul-le-mul-left (2 ^ 52) h-near) (le-trans (le-of-eq (sym (mul-assoc (2 ^ 52) 16 H))) (mul-le-mul-right H big))) in
+      let P = mul-pos (pow-pos 52) h-pos in (
+        s .g,
+        s .value,
+        omega (arith, scaled-below (2 ^ 52) (2 ^ 52 - 1) R H h' n (s .g) 1 1 P (s .below (2 ^ 52 - 1) refl) (just-above-below (n * H) h' h-low)),
+        scaled-over (2 ^ 52) (2 ^ 52 + 1) R H h' n (s .g) (2 ^ 40 + 1) (2 ^ 40) P (s .over (2 ^ 52 - 1) refl) (just-above-over (n * H) h' h-high),
+      )
+
+  rest : Rest
+  rest = elim (eq-zero-or-pos R) [ inl z ↦ none-left z | inr p ↦ some-left p ]
 
   -- the sum is y/k but for so little that rounding does not see it
   summed : add binary64 q (mul binary64 r h) ≡ round binary64 false Y (n * 2 ^ low binary64)
+  unfolding Rest
   summed =
       let l = 2 ^ low binary64 in
       let L : 0 < l = pow-pos (low binary64) in
@@ -347,11 +389,13 @@ module _ (y k c h : Float) (Y n C c' H h' : ℕ)
       let E = n * g - R in
       let pos : 0 < n = le-trans (lit≤ tt) three in
       let is : (Q + g) * n ≡ Y + E = add-mul Q g n ∙ ap (λ (z : ℕ). Q * n + z) (mul-comm g n) ∙ made-up Y (Q * n) (n * g) Qn-less (rest .2) in
+      let big : 2 ^ 52 * 2 ^ d * n ≤ Y = le-trans (mul-le-mul-right n G-above) (le-trans (le-of-eq (mul-comm (first .g) n)) no-more) in
       add-of binary64 q (mul binary64 r h) Q g l L q-value (rest .1)
       ∙ round-same binary64 false (Q + g) l (Y + E) (n * l) L (mul-pos pos L) (sym (mul-assoc (Q + g) n l) ∙ ap (λ (z : ℕ). z * l) is)
-      ∙ settled binary64 Y E n d D pos odd (excess R (n * g) (2 ^ d) R-under (rest .3)) (le-trans (mul-le-mul-right n G-above) (le-trans (le-of-eq (mul-comm (first .g) n)) no-more))
+      ∙ settled binary64 Y E n d D pos odd (excess R (n * g) (2 ^ d) R-under (rest .3)) big
 
-  worked : T (not (isNan (mul binary64 y c))) × T (not (nanBits binary64 (cut y c))) × (add binary64 q (mul binary64 r h) ≡ round binary64 false Y (n * 2 ^ low binary64))
+  worked : T (not (isNan (mul binary64 y c))) × T (not (nanBits binary64 (cut y c)))
+      × (add binary64 q (mul binary64 r h) ≡ round binary64 false Y (n * 2 ^ low binary64))
   worked = (
     a-number (mul binary64 y c) (first .g) (2 ^ low binary64) (first .value),
     subst (λ (b : Bool). T (not b)) (sym (nanBits-is binary64 (cut y c))) (a-number q Q (2 ^ low binary64) q-value),
@@ -368,9 +412,10 @@ counts-apart a b Y l u s e h B S k =
     le-of-mul-le-mul-right (le-of-mul-le-mul-right x B) S
 
 at-most-one : (a b Y l : ℕ) → a * l ≡ Y * b → a ≤ b → 0 < b → Y ≤ l
-at-most-one a b Y l e h B = le-of-mul-le-mul-right (le-trans (le-of-eq (sym e)) (le-trans (mul-le-mul-right l h) (le-of-eq (mul-comm b l)))) B
+at-most-one a b Y l e h B = le-of-mul-le-mul-right (le-by (sym e) (mul-le-mul-right l h) (mul-comm b l)) B
 
-quotient-of : (y k : Float) (Y : ℕ) → T (positive y) → T (positive k) → den k ≡ 1 → HasValue y false Y (2 ^ low binary64) → div binary64 y k ≡ round binary64 false Y (num k * 2 ^ low binary64)
+quotient-of : (y k : Float) (Y : ℕ) → T (positive y) → T (positive k) → den k ≡ 1 → HasValue y false Y (2 ^ low binary64)
+    → div binary64 y k ≡ round binary64 false Y (num k * 2 ^ low binary64)
 quotient-of y k Y p q one v =
     let l = 2 ^ low binary64 in
     let n = num k in
@@ -386,7 +431,8 @@ quotient-of y k Y p q one v =
 pub record Parted (y k c h : Float) : Type 0 where
   pub number : T (not (isNan (mul binary64 y c)))
   pub pattern : T (not (nanBits binary64 (cut y c)))
-  pub quotient : add binary64 (ofBits binary64 (cut y c)) (mul binary64 (sub binary64 y (mul binary64 (ofBits binary64 (cut y c)) k)) h) ≡ div binary64 y k
+  pub quotient : add binary64 (ofBits binary64 (cut y c)) (mul binary64 (sub binary64 y (mul binary64 (ofBits binary64 (cut y c)) k)) h)
+      ≡ div binary64 y k
 
 pub parted : (y k c h : Float) → T (fits binary64 y) → T (normal y) → T (divisor k) → T (justBelow k c) → T (justAbove k h) → Parted y k c h
 unfolding divisor justBelow justAbove normal
@@ -398,7 +444,8 @@ parted y k c h fit ty tk tc th =
     let Y = s .0 * 2 ^ s .1 in
     let v = s .3 in
     let x = value→cross y Y (2 ^ low binary64) v in
-    let big : 2 ^ 174 ≤ Y = counts-apart (num y) (den y) Y (2 ^ low binary64) (2 ^ 174) (2 ^ 900) x (Halves.at-least y lo hi) (den-pos y) (pow-pos 900) (lit≤ tt) in
+    let big : 2 ^ 174 ≤ Y =
+    counts-apart (num y) (den y) Y (2 ^ low binary64) (2 ^ 174) (2 ^ 900) x (Halves.at-least y lo hi) (den-pos y) (pow-pos 900) (lit≤ tt) in
     let k1 = positive k in
     let k2 = eqb (den k) 1 in
     let k3 = eqb (num k % 2) 1 in

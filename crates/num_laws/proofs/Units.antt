@@ -1,9 +1,15 @@
--- Numbers from 0 to 1 counted in the smallest value of their format: what the operations make of such counts, how near rounding comes to a fraction, and which bits a count has. Assumes nothing.
+-- Numbers from 0 to 1 counted in the smallest value of their format: what the operations make of such counts, how near rounding comes to a fraction,
+-- and which bits a count has. Assumes nothing.
 use mathlib.Core.Path.{_≡_, refl, sym, ap, _∙_, subst}
 use mathlib.Core.Logic.{_⊎_, inl, inr}
 use mathlib.Core.Bool.{Bool, true, false, _&&_, cond, true≢false}
 use Prim.Native.Nat.{ℕ, zero, suc, _+_, _-_, _*_, _/_, _%_, _^_, _≤_, _<_, compare}
-use native.Mathlib.Nat.{le-trans, le-of-eq, le-of-suc-le-suc, lt-of-le-of-lt, lt-of-lt-of-le, lt-of-not-le, not-le-of-lt, lt-irrefl, lt-suc-self, mul-lt-mul-of-pos-right, zero-add, eq-or-lt-of-le, mul-one, one-mul, mul-comm, mul-assoc, mul-left-comm, mul-right-comm, mul-mul-mul-comm, mul-pos, add-mul, mul-add, suc-mul, mul-sub, mul-le-mul, mul-le-mul-left, mul-le-mul-right, le-of-mul-le-mul-right, lt-of-mul-lt-mul-right, le-mul-of-pos-right, add-sub-of-le, mul-div-cancel, div-one, mod-one, div-mul-le-self, lt-div-mul-add, le-div-iff-mul-le, div-lt-iff-lt-mul}
+use native.Mathlib.Nat.{le-trans, le-of-eq, le-of-suc-le-suc, lt-of-le-of-lt, lt-of-lt-of-le, lt-of-not-le, not-le-of-lt, lt-irrefl}
+use native.Mathlib.Nat.{lt-suc-self, eq-or-lt-of-le, le-of-mul-le-mul-right, lt-of-mul-lt-mul-right, le-mul-of-pos-right, lt-div-mul-add}
+use native.Mathlib.Nat.{le-div-iff-mul-le}
+use native.Mathlib.Nat.{mul-lt-mul-of-pos-right, mul-one, one-mul, mul-comm, mul-assoc, mul-left-comm, mul-right-comm, mul-mul-mul-comm}
+use native.Mathlib.Nat.{mul-pos, add-mul, mul-add, suc-mul, mul-sub, mul-le-mul, mul-le-mul-left, mul-le-mul-right, mul-div-cancel}
+use native.Mathlib.Nat.{zero-add, add-sub-of-le, div-one, mod-one, div-mul-le-self, div-lt-iff-lt-mul}
 use native.Mathlib.Omega.{arith}
 use lib.IntN.{ℤ, pos, negsuc}
 use lib.Dec.{T, leb, ltb, eqb, leb→le, ltb→lt}
@@ -17,7 +23,7 @@ use lib.Ieee.Nearest.{closest, closest-mono, nearest-ge}
 use lib.Ieee.Order.{kept, drop}
 use lib.Ieee.Scale.{round-same, grid, overflow, normal-of-fraction, round-val}
 use lib.Ieee.Positive.{positive}
-use Rattle.num_laws.proofs.Halves.{bits-of-value, kept-le}
+use Rattle.num_laws.proofs.Halves.{le-by, lt-by, pow-split, bits-of-value, kept-le}
 
 -- ---- the operations, by fractions that the operands equal
 shown : (x : Float) (a c : ℕ) → HasValue x false a c → (m : ℕ) × (e : ℤ) × (x ≡ fin false m e) × (m * up e * c ≡ a * down e)
@@ -30,19 +36,21 @@ mul-fin : (f : Format) (m : ℕ) (e : ℤ) (n : ℕ) (d : ℤ) → mul f (fin fa
 unfolding mul
 mul-fin f m e n d = refl
 
-add-fin : (f : Format) (m : ℕ) (e : ℤ) (n : ℕ) (d : ℤ) → add f (fin false m e) (fin false n d) ≡ round f false (m * up e * down d + n * up d * down e) (down e * down d)
+add-fin : (f : Format) (m : ℕ) (e : ℤ) (n : ℕ) (d : ℤ)
+    → add f (fin false m e) (fin false n d) ≡ round f false (m * up e * down d + n * up d * down e) (down e * down d)
 unfolding add sum
 add-fin f m e n d = refl
 
-pick : (f : Format) (a b c : ℕ) → b ≤ a → sum f false a true b c ≡ round f false (a - b) c
+no-borrow : (f : Format) (a b c : ℕ) → b ≤ a → sum f false a true b c ≡ round f false (a - b) c
 unfolding sum
-pick f a b c h = go (ltb a b) (ltb→lt a b)
+no-borrow f a b c h = go (ltb a b) (ltb→lt a b)
   where
     go : (t : Bool) → (T t → a < b) → cond t (round f true (b - a) c) (round f false (a - b) c) ≡ round f false (a - b) c
     go true k = absurd (not-le-of-lt (k tt) h)
     go false k = refl
 
-sub-fin : (f : Format) (m : ℕ) (e : ℤ) (n : ℕ) (d : ℤ) → sub f (fin false m e) (fin false n d) ≡ sum f false (m * up e * down d) true (n * up d * down e) (down e * down d)
+sub-fin : (f : Format) (m : ℕ) (e : ℤ) (n : ℕ) (d : ℤ)
+    → sub f (fin false m e) (fin false n d) ≡ sum f false (m * up e * down d) true (n * up d * down e) (down e * down d)
 unfolding sub
 sub-fin f m e n d = refl
 
@@ -93,7 +101,7 @@ module _ (f : Format) (x y : Float) (a b c : ℕ) (C : 0 < c) (h : HasValue x fa
       let m : Y * v ≤ X * w = le-of-mul-le-mul-right (le-trans (le-of-eq q) (le-trans (mul-le-mul-right (v * w) l) (le-of-eq (sym p)))) C in
       (λ i. sub f (s .2 i) (t .2 i))
       ∙ sub-fin f (s .0) (s .1) (t .0) (t .1)
-      ∙ pick f (X * w) (Y * v) (v * w) m
+      ∙ no-borrow f (X * w) (Y * v) (v * w) m
       ∙ round-same f false (X * w - Y * v) (v * w) (a - b) c (mul-pos (down-pos (s .1)) (down-pos (t .1))) C
       (minus-times (X * w) (Y * v) c ∙ (λ i. p i - q i) ∙ sym (minus-times a b (v * w)))
 
@@ -107,6 +115,10 @@ pub record Digits (f : Format) (g : ℕ) : Type 0 where
 
 pub pow-lt-back : (i j : ℕ) → 2 ^ i < 2 ^ j → i < j
 pow-lt-back i j h = lt-of-not-le (λ (g : j ≤ i). lt-irrefl (2 ^ i) (lt-of-lt-of-le h (pow-mono g)))
+
+-- a count of so many digits
+pub digits-under : (f : Format) (g : ℕ) (D : Digits f g) → g < 2 ^ (prec f + D .e)
+digits-under f g D = lt-by (D .is) (mul-lt-mul-of-pos-right (D .small) (pow-pos (D .e))) (sym (pow-add 2 (prec f) (D .e)))
 
 pub size-gt : (n j : ℕ) → 2 ^ j ≤ n → j < size n
 size-gt n j h = pow-lt-back j (size n) (lt-of-le-of-lt h (size-lt n))
@@ -123,15 +135,15 @@ digits-of f m j g is l h =
     let e = size g - p in
     let P : p ≤ size g = omega (arith, two f, size-gt g (p - 1) h) in
     let E : e ≤ j = dropped (size g) p j (size-le g (p + j) (subst (λ (z : ℕ). z < 2 ^ (p + j)) (sym is) (shl-lt p j l))) in
-    let same : g ≡ m * 2 ^ (j - e) * 2 ^ e = is ∙ ap (λ (z : ℕ). m * 2 ^ z) (sym (back j e E)) ∙ ap (λ (z : ℕ). m * z) (pow-add 2 (j - e) e) ∙ sym (mul-assoc m (2 ^ (j - e)) (2 ^ e)) in
+    let same : g ≡ m * 2 ^ (j - e) * 2 ^ e = is ∙ pow-split m j e E in
+    let all : 2 ^ size g ≡ 2 ^ p * 2 ^ e = ap (λ (z : ℕ). 2 ^ z) (sym (add-sub-of-le P)) ∙ pow-add 2 p e in
+    let reached = size-reaches g (p - 1 + e) (last-digit (size g) p (two f) P) in
     record {
       m = m * 2 ^ (j - e);
       e = e;
       is = same;
-      full = le-of-mul-le-mul-right (le-trans (le-of-eq (sym (pow-add 2 (p - 1) e))) (le-trans (size-reaches g (p - 1 + e) (last-digit (size g) p (two f) P)) (le-of-eq same))) (pow-pos e);
-      small =
-          lt-of-mul-lt-mul-right (2 ^ e)
-          (lt-of-le-of-lt (le-of-eq (sym same)) (lt-of-lt-of-le (size-lt g) (le-of-eq (ap (λ (z : ℕ). 2 ^ z) (sym (add-sub-of-le P)) ∙ pow-add 2 p e))));
+      full = le-of-mul-le-mul-right (le-by (sym (pow-add 2 (p - 1) e)) reached same) (pow-pos e);
+      small = lt-of-mul-lt-mul-right (2 ^ e) (lt-by (sym same) (size-lt g) all);
     }
 
 -- ---- in the normal range rounding moves a fraction by 2 ^ -(prec - 1) of it at most
@@ -150,7 +162,9 @@ module _ (f : Format) (a c : ℕ) (C : 0 < c) (N : prec f ≤ size (a * 2 ^ low 
       let p = prec f in
       let w = a * 2 ^ low f / c in
       let k = size w - p in
-      le-trans (le-of-eq (ap (λ (z : ℕ). hid f * z) (mul-comm c (2 ^ k)) ∙ sym (mul-assoc (hid f) (2 ^ k) c) ∙ ap (λ (z : ℕ). z * c) (sym (pow-add 2 (p - 1) k))))
+      let is : hid f * (c * 2 ^ k) ≡ 2 ^ (p - 1 + k) * c =
+      ap (λ (z : ℕ). hid f * z) (mul-comm c (2 ^ k)) ∙ sym (mul-assoc (hid f) (2 ^ k) c) ∙ ap (λ (z : ℕ). z * c) (sym (pow-add 2 (p - 1) k)) in
+      le-trans (le-of-eq is)
       (le-div-iff-mul-le C .0 (size-reaches w (p - 1 + k) (last-digit (size w) p (two f) N)))
 
   unit-pos : 0 < c * 2 ^ drop (prec f) (a * 2 ^ low f) c
@@ -162,7 +176,8 @@ module _ (f : Format) (a c : ℕ) (C : 0 < c) (N : prec f ≤ size (a * 2 ^ low 
       let u = c * 2 ^ drop (prec f) n c in
       le-trans (le-div-iff-mul-le unit-pos .1 all-kept) (nearest-ge (n / u) (compare (n % u * 2) u))
 
-  pub near : (A : ℕ) → suc A ≡ hid f → (suc A * (grid f a c * c) ≤ suc (suc A) * (a * 2 ^ low f)) × (A * (a * 2 ^ low f) ≤ suc A * (grid f a c * c))
+  pub near : (A : ℕ) → suc A ≡ hid f
+      → (suc A * (grid f a c * c) ≤ suc (suc A) * (a * 2 ^ low f)) × (A * (a * 2 ^ low f) ≤ suc A * (grid f a c * c))
   near A e =
       let n = a * 2 ^ low f in
       let k = drop (prec f) n c in
@@ -177,7 +192,9 @@ module _ (f : Format) (a c : ℕ) (C : 0 < c) (N : prec f ≤ size (a * 2 ^ low 
       spread A n u (grid f a c * c) (omega arith) (omega arith) (subst (λ (z : ℕ). z * u ≤ n) (sym e) all-kept)
 
   grid-full : hid f ≤ grid f a c
-  grid-full = le-trans kept-full (le-mul-of-pos-right (kept (prec f) (a * 2 ^ low f) c) (pow-pos (drop (prec f) (a * 2 ^ low f) c)))
+  grid-full =
+      let n = a * 2 ^ low f in
+      le-trans kept-full (le-mul-of-pos-right (kept (prec f) n c) (pow-pos (drop (prec f) n c)))
 
   pub grid-digits : Digits f (grid f a c)
   grid-digits = go (eq-or-lt-of-le (kept-le (prec f) (a * 2 ^ low f) c))
@@ -186,8 +203,11 @@ module _ (f : Format) (a c : ℕ) (C : 0 < c) (N : prec f ≤ size (a * 2 ^ low 
       go (inl e) =
           let p = prec f in
           let k = drop p (a * 2 ^ low f) c in
-          digits-of f 1 (p + k) (grid f a c) (ap (λ (z : ℕ). z * 2 ^ k) e ∙ sym (pow-add 2 p k) ∙ sym (one-mul (2 ^ (p + k)))) (pow-lt (two-le-pos p (two f))) grid-full
-      go (inr l) = digits-of f (kept (prec f) (a * 2 ^ low f) c) (drop (prec f) (a * 2 ^ low f) c) (grid f a c) refl l grid-full
+          let is : grid f a c ≡ 1 * 2 ^ (p + k) = ap (λ (z : ℕ). z * 2 ^ k) e ∙ sym (pow-add 2 p k) ∙ sym (one-mul (2 ^ (p + k))) in
+          digits-of f 1 (p + k) (grid f a c) is (pow-lt (two-le-pos p (two f))) grid-full
+      go (inr l) =
+          let n = a * 2 ^ low f in
+          digits-of f (kept (prec f) n c) (drop (prec f) n c) (grid f a c) refl l grid-full
 
 -- ---- what is no more than 1 is rounded to no more than 1
 closest-whole : (n : ℕ) → closest n 1 ≡ n
@@ -201,14 +221,15 @@ grid-unit f a c C h =
     let l = low f in
     let n = a * 2 ^ l in
     let k = drop (prec f) n c in
-    let under : n / c < 2 ^ suc l = div-lt-iff-lt-mul C .1 (lt-of-le-of-lt (mul-le-mul-right (2 ^ l) h) (lt-of-le-of-lt (le-of-eq (mul-comm c (2 ^ l))) (mul-lt-mul-of-pos-right (pow-lt (lt-suc-self l)) C))) in
+    let twice : 2 ^ l * c < 2 ^ suc l * c = mul-lt-mul-of-pos-right (pow-lt (lt-suc-self l)) C in
+    let under : n / c < 2 ^ suc l =
+    div-lt-iff-lt-mul C .1 (lt-of-le-of-lt (le-trans (mul-le-mul-right (2 ^ l) h) (le-of-eq (mul-comm c (2 ^ l)))) twice) in
     let K : k ≤ l = fewer (size (n / c)) l (prec f) (size-le (n / c) (suc l) under) (two f) in
     let whole : 2 ^ (l - k) * 2 ^ k ≡ 2 ^ l = sym (pow-add 2 (l - k) k) ∙ ap (λ (z : ℕ). 2 ^ z) (back l k K) in
     let cross : n * 1 ≤ 2 ^ (l - k) * (c * 2 ^ k) =
-    le-trans (le-of-eq (mul-one n))
-    (le-trans (mul-le-mul-right (2 ^ l) h)
-    (le-of-eq (ap (λ (z : ℕ). c * z) (sym whole) ∙ mul-left-comm c (2 ^ (l - k)) (2 ^ k)))) in
-    le-trans (mul-le-mul-right (2 ^ k) (le-trans (closest-mono n (c * 2 ^ k) (2 ^ (l - k)) 1 (mul-pos C (pow-pos k)) (pow-pos 0) cross) (le-of-eq (closest-whole (2 ^ (l - k)))))) (le-of-eq whole)
+    le-by (mul-one n) (mul-le-mul-right (2 ^ l) h) (ap (λ (z : ℕ). c * z) (sym whole) ∙ mul-left-comm c (2 ^ (l - k)) (2 ^ k)) in
+    let most = closest-mono n (c * 2 ^ k) (2 ^ (l - k)) 1 (mul-pos C (pow-pos k)) (pow-pos 0) cross in
+    le-trans (mul-le-mul-right (2 ^ k) (le-trans most (le-of-eq (closest-whole (2 ^ (l - k)))))) (le-of-eq whole)
 
 one-under : (f : Format) (g : ℕ) → g ≤ 2 ^ low f → g < overflow f
 one-under f g h = lt-of-le-of-lt h (pow-lt (room (low f) (emax f)))
@@ -222,7 +243,9 @@ count f a c C h = round-val f a c (one-under f (grid f a c) (grid-unit f a c C h
 
 -- a count that the format holds is not rounded
 pub exact : (f : Format) (g m j : ℕ) → g ≡ m * 2 ^ j → m < 2 ^ prec f → g ≤ 2 ^ low f → HasValue (round f false g (2 ^ low f)) false g (2 ^ low f)
-exact f g m j is l h = round-exact f false g (2 ^ low f) m j (pow-pos (low f)) l (subst (λ (z : ℕ). z < overflow f) is (one-under f g h)) (ap (λ (z : ℕ). z * 2 ^ low f) is)
+exact f g m j is l h =
+    round-exact f false g (2 ^ low f) m j (pow-pos (low f)) l
+    (subst (λ (z : ℕ). z < overflow f) is (one-under f g h)) (ap (λ (z : ℕ). z * 2 ^ low f) is)
 
 -- ---- the bits of a count: the digits, and above them the exponent
 size-digits : (f : Format) (g : ℕ) (D : Digits f g) → size g - prec f ≡ D .e
@@ -230,7 +253,7 @@ size-digits f g D =
     let p = prec f in
     let e = D .e in
     let hi : size g ≤ p + e = size-le g (p + e) (subst (λ (z : ℕ). z < 2 ^ (p + e)) (sym (D .is)) (shl-lt p e (D .small))) in
-    let lo : p - 1 + e < size g = size-gt g (p - 1 + e) (le-trans (le-of-eq (pow-add 2 (p - 1) e)) (le-trans (mul-le-mul-right (2 ^ e) (D .full)) (le-of-eq (sym (D .is))))) in
+    let lo : p - 1 + e < size g = size-gt g (p - 1 + e) (le-by (pow-add 2 (p - 1) e) (mul-le-mul-right (2 ^ e) (D .full)) (sym (D .is))) in
     omega (arith, two f)
 
 pub bits-are : (f : Format) (x : Float) (g : ℕ) (D : Digits f g) → HasValue x false g (2 ^ low f) → toBits f x ≡ D .e * hid f + D .m
@@ -244,7 +267,8 @@ pub of-bits : (f : Format) (g : ℕ) (D : Digits f g) → g ≤ 2 ^ low f → Ha
 of-bits f g D h =
     let v = exact f g (D .m) (D .e) (D .is) (D .small) h in
     let x = round f false g (2 ^ low f) in
-    subst (λ (z : Float). HasValue z false g (2 ^ low f)) (sym (ofBits-toBits f x (round-fits f false g (2 ^ low f))) ∙ ap (ofBits f) (bits-are f x g D v)) v
+    subst (λ (z : Float). HasValue z false g (2 ^ low f))
+    (sym (ofBits-toBits f x (round-fits f false g (2 ^ low f))) ∙ ap (ofBits f) (bits-are f x g D v)) v
 
 -- ---- a value that its format holds has a count
 held : (f : Format) (m : ℕ) (e : ℤ) → down e ≤ 2 ^ low f → (j : ℕ) × (m * up e * 2 ^ low f ≡ m * 2 ^ j * down e)
@@ -288,14 +312,16 @@ pub record Product (f : Format) (X a c : ℕ) (p : Float) : Type 0 where
 regroup : (p g l c : ℕ) → p * (g * (l * c)) ≡ p * (g * c) * l
 regroup p g l c = simp (mul-assoc, mul-comm)
 
-pub product : (f : Format) (x y : Float) (X a c : ℕ) → HasValue x false X (2 ^ low f) → HasValue y false a c → 0 < c → X ≤ 2 ^ low f → a ≤ c → hid f * c ≤ X * a → Product f X a c (mul f x y)
+pub product : (f : Format) (x y : Float) (X a c : ℕ) → HasValue x false X (2 ^ low f) → HasValue y false a c
+    → 0 < c → X ≤ 2 ^ low f → a ≤ c → hid f * c ≤ X * a → Product f X a c (mul f x y)
 product f x y X a c v w C h k n =
     let l = 2 ^ low f in
     let L : 0 < l = pow-pos (low f) in
     let LC : 0 < l * c = mul-pos L C in
     let small : X * a ≤ l * c = mul-le-mul h k in
     let N : prec f ≤ size (X * a * l / (l * c)) =
-    normal-of-fraction f (X * a) (l * c) LC (le-trans (le-of-eq (ap (λ (z : ℕ). hid f * z) (mul-comm l c) ∙ sym (mul-assoc (hid f) c l))) (mul-le-mul-right l n)) in
+    normal-of-fraction f (X * a) (l * c) LC
+    (le-trans (le-of-eq (ap (λ (z : ℕ). hid f * z) (mul-comm l c) ∙ sym (mul-assoc (hid f) c l))) (mul-le-mul-right l n)) in
     let g = grid f (X * a) (l * c) in
     let r = near f (X * a) (l * c) LC N in
     record {
@@ -303,6 +329,6 @@ product f x y X a c v w C h k n =
       value = subst (λ (z : Float). HasValue z false g l) (sym (mul-of f x y X l a c L C v w)) (count f (X * a) (l * c) LC small);
       under = grid-unit f (X * a) (l * c) LC small;
       digits = grid-digits f (X * a) (l * c) LC N;
-      over = λ A e. le-of-mul-le-mul-right (le-trans (le-of-eq (sym (regroup (suc A) g l c))) (le-trans (r A e .0) (le-of-eq (sym (mul-assoc (suc (suc A)) (X * a) l))))) L;
-      below = λ A e. le-of-mul-le-mul-right (le-trans (le-of-eq (mul-assoc A (X * a) l)) (le-trans (r A e .1) (le-of-eq (regroup (suc A) g l c)))) L;
+      over = λ A e. le-of-mul-le-mul-right (le-by (sym (regroup (suc A) g l c)) (r A e .0) (sym (mul-assoc (suc (suc A)) (X * a) l))) L;
+      below = λ A e. le-of-mul-le-mul-right (le-by (mul-assoc A (X * a) l) (r A e .1) (regroup (suc A) g l c)) L;
     }

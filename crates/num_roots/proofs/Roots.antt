@@ -11,15 +11,16 @@ use Rattle.num_working.specs.declared.Worked.{Worked}
 use Rattle.num_working.specs.declared.Worked.the-variants.{Number, Failed}
 use Rattle.num_halving.specs.declared.Crossing.the-variants.{At, Nowhere, Broke}
 use Rattle.num_working.specs.Number.{whole, nonneg}
-use Rattle.num_working.specs.Working.{checked, then}
+use Rattle.num_working.specs.Working.{checked}
 use Rattle.num_powers.specs.Power.{power, _^ᵂ_}
 use Rattle.num_halving.specs.Halving.{halve, NotAbove, Above, worthy, failed, second-not-above, at-second}
 use Rattle.num_roots.specs.Root.{powerAt, rootBits, rootOf, searched}
 use Rattle.num_exponential.proofs.Tables.{at}
 use Rattle.num_working.proofs.Numbers.{infinity}
+use Rattle.num_working.proofs.Cases.{by-working}
 use Rattle.num_working.proofs.Workings.{checked-number}
 use Rattle.num_powers.proofs.Powers.{power-next, checked-power}
-use Rattle.num_halving.proofs.Halvings.{Rises, answer, nowhere-back, breaks-back, unique-crossing}
+use Rattle.num_halving.proofs.Halvings.{Rises, Works, answer, nowhere-back, breaks-back, unique-crossing}
 use Rattle.num_laws.proofs.Orders.{Ordered, bits-mono, power-mono, never-falls}
 
 -- the bits of 2²⁰
@@ -41,7 +42,8 @@ nonneg-checked (inf s) p = absurd p
 nonneg-checked (fin s m e) p = refl
 
 -- ---- it rises
-figure-mono : (k b c : ℕ) → b ≤ c → c < infinity → T (finite (power (ofBits binary64 c) k)) → Ordered (power (ofBits binary64 b) k) (power (ofBits binary64 c) k)
+figure-mono : (k b c : ℕ) → b ≤ c → c < infinity → T (finite (power (ofBits binary64 c) k))
+    → Ordered (power (ofBits binary64 b) k) (power (ofBits binary64 c) k)
 figure-mono k b c l h f = power-mono (ofBits binary64 b) (ofBits binary64 c) k (bits-mono b c l h) f
 
 rises : (k : ℕ) (t : Float) → T (nonneg t) → Rises (powerAt k) t top
@@ -87,7 +89,9 @@ unfolding ofBits power whole ofInt mul
 top-infinite zero = refl
 top-infinite (suc j) =
     let e : suc j + 52 ≡ j + 52 + 1 = omega arith in
-    ap (power (ofBits binary64 top)) e ∙ sym (power-next (ofBits binary64 top) (j + 52) (omega arith)) ∙ ap (λ (x : Float). mul binary64 x (ofBits binary64 top)) (top-infinite j)
+    ap (power (ofBits binary64 top)) e
+    ∙ sym (power-next (ofBits binary64 top) (j + 52) (omega arith))
+    ∙ ap (λ (x : Float). mul binary64 x (ofBits binary64 top)) (top-infinite j)
 
 -- ---- so, for k up to 51, every figure of the search is a number
 pub works : (k b : ℕ) → k ≤ 51 → b ≤ top → powerAt k b ≡ Number (power (ofBits binary64 b) k)
@@ -105,8 +109,9 @@ bounded-at k b h l = nonneg-finite (power (ofBits binary64 b) k) (figure-mono k 
 pub fails : (k : ℕ) (t : Float) → 52 ≤ k → rootBits k t ≡ Broke
 fails k t h =
     let e : k ≡ k - 52 + 52 = omega arith in
-    root-bits-is k t
-    ∙ breaks-back (powerAt k) t 0 top (omega arith) (omega arith) (at-second (failed (power-at-is k top ∙ ap (λ (i : ℕ). checked (power (ofBits binary64 top) i)) e ∙ ap checked (top-infinite (k - 52)))))
+    let f : powerAt k top ≡ Failed =
+    power-at-is k top ∙ ap (λ (i : ℕ). checked (power (ofBits binary64 top) i)) e ∙ ap checked (top-infinite (k - 52)) in
+    root-bits-is k t ∙ breaks-back (powerAt k) t 0 top (omega arith) (omega arith) (at-second (failed f))
 
 -- a figure that code worked, and what it tested of it
 pub above-at : (k b : ℕ) (t x : Float) → k ≤ 51 → b ≤ top → x ≡ power (ofBits binary64 b) k → lt t x ≡ true → Above (powerAt k) t b
@@ -120,14 +125,18 @@ module _ (k : ℕ) (t : Float) (one : 1 ≤ k) (few : k ≤ 51) (p : T (nonneg t
   last-above b h a = go (lt t (power (ofBits binary64 top) k)) refl
     where
       go : (x : Bool) → lt t (power (ofBits binary64 top) k) ≡ x → Above (powerAt k) t top
-      go true e = record { number = power (ofBits binary64 top) k; worked = works k top few (omega arith); bounded = bounded-at k top few (omega arith); stands = e }
-      go false e = absurd (rises k t p b top h (omega arith) a (record { number = power (ofBits binary64 top) k; worked = works k top few (omega arith); bounded = bounded-at k top few (omega arith); stands = e }))
+      go true e = above-at k top t _ few (omega arith) refl e
+      go false e = absurd (rises k t p b top h (omega arith) a (not-above-at k top t _ few (omega arith) refl e))
+
+  every-worthy : Works (powerAt k) 0 top
+  every-worthy c l u = worthy (power (ofBits binary64 c) k) (works k c few u) (bounded-at k c few u)
 
   -- the two neighbours between which the power passes t, however they were come by
   pub crossing-is : (r s : ℕ) → s ≡ r + 1 → s ≤ top → NotAbove (powerAt k) t r → Above (powerAt k) t s → rootBits k t ≡ At r
   crossing-is r s e h a b =
       root-bits-is k t
-      ∙ unique-crossing (powerAt k) t 0 top r (rises k t p) (λ c l u. worthy (power (ofBits binary64 c) k) (works k c few u) (bounded-at k c few u)) (omega arith) (first-not-above k t one p) (last-above s h b) (omega arith) (omega arith) a (rw e at b)
+      ∙ unique-crossing (powerAt k) t 0 top r (rises k t p) every-worthy (omega arith) (first-not-above k t one p) (last-above s h b)
+      (omega arith) (omega arith) a (rw e at b)
 
   pub no-crossing : NotAbove (powerAt k) t top → rootBits k t ≡ Nowhere
   no-crossing b = root-bits-is k t ∙ nowhere-back (powerAt k) t 0 top (second-not-above (worthy (whole 0) (at-0 k one) zero-finite) b)
@@ -139,8 +148,4 @@ crossing-below k t b e = let h = answer (powerAt k) t 0 top b (omega arith) (sym
 -- past k = 51 the search fails, whatever x is
 pub search-fails : (m k : ℕ) (x : Float) → 52 ≤ k → searched m k x ≡ Failed
 unfolding searched
-search-fails m k x h = go (checked x ^ᵂ m)
-  where
-    go : (w : Worked) → then w (λ t. rootOf (rootBits k t)) ≡ Failed
-    go Failed = refl
-    go (Number t) = ap rootOf (fails k t h)
+search-fails m k x h = by-working (λ (w : Worked). w ≡ Failed) (checked x ^ᵂ m) Failed _ (λ _. refl) (λ t _. ap rootOf (fails k t h))

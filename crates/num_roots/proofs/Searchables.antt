@@ -7,14 +7,13 @@ use lib.Dec.{T, ltb, ltb→lt}
 use lib.Ieee.{Float, binary64, ofBits, lt, le, eq}
 use lib.Ieee.Scale.{finite}
 use Rattle.num_working.specs.Number.{whole, nonneg}
-use Rattle.num_working.specs.Working.{checked, then}
+use Rattle.num_working.specs.Working.{checked, orElse}
 use Rattle.num_working.specs.declared.Worked.{Worked}
-use Rattle.num_working.specs.declared.Worked.the-variants.{Number}
+use Rattle.num_working.specs.declared.Worked.the-variants.{Number, Failed}
 use Rattle.num_halving.specs.declared.Crossing.the-variants.{At}
 use Rattle.num_roots.specs.declared.root.Exponent.{Exponent}
-use Rattle.num_powers.specs.Power.{power}
 use Rattle.num_roots.specs.Root.{root, searched, rootBits, rootOf}
-use Rattle.num_roots.specs.Side.{searchable, PowersAbout}
+use Rattle.num_roots.specs.Side.{Guessed, searchable, PowersAbout}
 use Rattle.num_working.proofs.Numbers.{above-0}
 use Rattle.num_powers.proofs.Powers.{checked-power}
 use Rattle.num_laws.proofs.Orders.{le-not-lt, power-under}
@@ -43,38 +42,47 @@ module _ (e : Exponent) (x : Float) (u : T (searchable e x)) where
   pub unsigned : T (nonneg x)
   unsigned = above-0 x (tests .4) (tests .2) (tests .3)
 
+  -- what a guess asks
+  pub few : (e .k ≤ 51) × (e .m < 102)
+  few = (bounds .1, bounds .2)
+
   searched-for : root e x ≡ searched (e .m) (e .k) x
   unfolding root
   searched-for = simp (root, tests .0, tests .4, tests .2, tests .3)
 
-  module _ (t : Float) (p : t ≡ power x (e .m)) where
-    -- a target with something above it is a number
-    unsigned-target : (y : Float) → lt t y ≡ true → T (nonneg t)
-    unsigned-target y h = rw p (power-under x y (e .m) unsigned (rw p at h))
+-- ---- a guess, and the powers about it
+module _ (e : Exponent) (x t : Float) (at : ℕ) (c : Guessed e x t at) where
+  pub powers-asked : (1 ≤ e .k) × ((0 < at) × (at < top))
+  powers-asked = (bounds e x (c .searched) .0, (c .some, c .within))
 
-    -- the root is where the power passes it
-    told : (r : ℕ) → T (nonneg t) → rootBits (e .k) t ≡ At r → root e x ≡ Number (ofBits binary64 r)
-    unfolding searched
-    told r n b =
-        searched-for
-        ∙ ap (λ (w : Worked). then w (λ s. rootOf (rootBits (e .k) s))) (sym (checked-power x (e .m)) ∙ ap checked (sym p) ∙ nonneg-checked t n)
-        ∙ ap rootOf b
+  -- a target with something above it is a number
+  unsigned-target : (y : Float) → lt t y ≡ true → T (nonneg t)
+  unsigned-target y h = rw (c .target) (power-under x y (e .m) (unsigned e x (c .searched)) (rw (c .target) at h))
 
-    module _ (at : ℕ) (below here above : Float) (some : 0 < at) (less : at < top) (powers : PowersAbout at (e .k) below here above) where
-      pub at-below : lt t here ≡ true → le below t ≡ true → root e x ≡ Number (ofBits binary64 (at - 1))
-      at-below h l =
-          let b = bounds in
-          let n = unsigned-target here h in
-          told (at - 1) n
-          (crossing-is (e .k) t (b .0) (b .1) n (at - 1) at (omega arith) (omega arith)
-          (not-above-at (e .k) (at - 1) t below (b .1) (omega arith) (powers .0) (le-not-lt below t n l))
-          (above-at (e .k) at t here (b .1) (omega arith) (powers .1) h))
+  -- the root is where the power passes it
+  told : (r : ℕ) → T (nonneg t) → rootBits (e .k) t ≡ At r → root e x ≡ Number (ofBits binary64 r)
+  unfolding searched
+  told r n b =
+      searched-for e x (c .searched)
+      ∙ ap (λ (w : Worked). orElse w Failed (λ s. rootOf (rootBits (e .k) s)))
+      (sym (checked-power x (e .m)) ∙ ap checked (sym (c .target)) ∙ nonneg-checked t n)
+      ∙ ap rootOf b
 
-      pub at-here : lt t here ≡ false → lt t above ≡ true → root e x ≡ Number (ofBits binary64 at)
-      at-here h l =
-          let b = bounds in
-          let n = unsigned-target above l in
-          told at n
-          (crossing-is (e .k) t (b .0) (b .1) n at (at + 1) refl (omega arith)
-          (not-above-at (e .k) at t here (b .1) (omega arith) (powers .1) h)
-          (above-at (e .k) (at + 1) t above (b .1) (omega arith) (powers .2) l))
+  module _ (below here above : Float) (powers : PowersAbout at (e .k) below here above) where
+    pub at-below : lt t here ≡ true → le below t ≡ true → root e x ≡ Number (ofBits binary64 (at - 1))
+    at-below h l =
+        let b = bounds e x (c .searched) in
+        let n = unsigned-target here h in
+        told (at - 1) n
+        (crossing-is (e .k) t (b .0) (b .1) n (at - 1) at (omega arith) (omega arith)
+        (not-above-at (e .k) (at - 1) t below (b .1) (omega arith) (powers .0) (le-not-lt below t n l))
+        (above-at (e .k) at t here (b .1) (omega arith) (powers .1) h))
+
+    pub at-here : lt t here ≡ false → lt t above ≡ true → root e x ≡ Number (ofBits binary64 at)
+    at-here h l =
+        let b = bounds e x (c .searched) in
+        let n = unsigned-target above l in
+        told at n
+        (crossing-is (e .k) t (b .0) (b .1) n at (at + 1) refl (omega arith)
+        (not-above-at (e .k) at t here (b .1) (omega arith) (powers .1) h)
+        (above-at (e .k) (at + 1) t above (b .1) (omega arith) (powers .2) l))

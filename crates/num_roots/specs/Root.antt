@@ -1,11 +1,12 @@
 -- Document 01: "Root x^(m/k), for m/k below 2." Definitions only.
 use Prim.Native.Nat.{ℕ, _*_}
+use mathlib.Core.Bool.{cond}
 use lib.Dec.{ltb}
 use lib.Ieee as Ieee
 use lib.Ieee.{Float, binary64}
 use lib.Ieee.Scale.{finite}
 use Rattle.num_working.specs.Number.{whole}
-use Rattle.num_working.specs.Working.{checked, then, pick}
+use Rattle.num_working.specs.Working.{checked, orElse}
 use Rattle.num_powers.specs.Power.{_^ᵂ_}
 use Rattle.num_halving.specs.Halving.{Figure, halve}
 use Rattle.num_working.specs.declared.Worked.{Worked}
@@ -30,15 +31,15 @@ rootOf Broke = Failed
 
 -- "looking for the place where the k-th whole power passes the m-th whole power of x"
 unfoldable pub searched : ℕ → ℕ → Float → Worked
-searched m k x = then (checked x ^ᵂ m) (λ t. rootOf (rootBits k t))
+searched m k x = orElse (checked x ^ᵂ m) Failed (λ t. rootOf (rootBits k t))
 
 -- "x negative or not finite: refused. x = 0: 0. Otherwise halve". An m/k that is not below 2 is refused too.
 unfoldable pub root : Exponent → Float → Worked
 root e x =
     let rest = searched (e .m) (e .k) x in
-    pick (ltb (e .m) (2 * e .k))
-    (pick (finite x)
-    (pick (Ieee.lt x (whole 0)) Failed
-    (pick (Ieee.eq x (whole 0)) (Number (whole 0)) rest))
+    cond (ltb (e .m) (2 * e .k))
+    (cond (finite x)
+    (cond (Ieee.lt x (whole 0)) Failed
+    (cond (Ieee.eq x (whole 0)) (Number (whole 0)) rest))
     Failed)
     Failed

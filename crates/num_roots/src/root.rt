@@ -8,7 +8,7 @@ ghost use lib.Ieee.{binary64, ofBits};
 ghost use Rattle.num_working.specs.Number.{nonneg};
 ghost use Rattle.num_powers.specs.Power.{power};
 ghost use Rattle.num_roots.specs.Root.{root, rootBits, searched};
-ghost use Rattle.num_roots.specs.Side.{PowersAbout, searchable};
+ghost use Rattle.num_roots.specs.Side.{Guessed, PowersAbout, searchable};
 use num_halving::Crossing;
 use num_powers::whole_power;
 use num_working::Worked;
@@ -276,9 +276,7 @@ pub(crate) fn searchable(x: f64, e: Exponent) -> bool
 // As a rule the root is the guess or the float below it, and is looked for only where it is neither. Which of the two it is
 // no processor foresees: the place is chosen and not branched to.
 pub(crate) fn root_about(x: f64, e: Exponent, t: f64, at: u64, p: Three) -> Worked
-    requires { ⌜ T (searchable e x) ⌝ }
-    requires { ⌜ t ≡ power x (e .m) ⌝ }
-    requires { ⌜ (0 < at) × (at < 0x4130_0000_0000_0000) ⌝ }
+    requires { ⌜ Guessed e x t at ⌝ }
     requires { ⌜ PowersAbout at (e .k) (p .below) (p .here) (p .above) ⌝ }
     ensures { λ r. ⌜ r ≡ root e x ⌝ }
 {

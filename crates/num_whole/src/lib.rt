@@ -1,5 +1,4 @@
-// "the whole number at or below it" (document 01, "The sheet"). An f64 is cast to a whole number only where it is one, so
-// the number is halved for, over whole numbers that an f64 holds.
+// "the whole number at or below it" (document 01, "The sheet").
 ghost use mathlib.Core.Path.{_≡_};
 ghost use Rattle.num_whole.specs.Whole.{wholeBelow};
 
@@ -17,15 +16,5 @@ pub fn whole_below(x: f64) -> Below
     if 9007199254740992.0 <= x {
         return Below::Out;
     }
-    let mut lo: u64 = 0;
-    let mut hi: u64 = 9007199254740992;
-    while hi - lo > 1 {
-        let mid = lo + (hi - lo) / 2;
-        if mid as f64 <= x {
-            lo = mid;
-        } else {
-            hi = mid;
-        }
-    }
-    Below::At(lo)
+    Below::At(std::num::truncating_f64_to_u64(x))
 }

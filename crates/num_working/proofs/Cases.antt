@@ -1,6 +1,9 @@
--- What holds of both cases of a choice holds of the choice: of `cond`, and of `orElse`; and a number that is tested is a choice by whether it is finite. Assumes nothing.
+-- What holds of both cases of a choice holds of the choice: of `cond`, and of `orElse`; a number that is tested is a choice by whether it is finite; and a case that
+-- can't be. Assumes nothing.
 use mathlib.Core.Path.{_≡_, refl}
 use mathlib.Core.Bool.{Bool, true, false, cond}
+use Prim.Native.Nat.{ℕ}
+use native.Mathlib.Omega.{arith}
 use lib.Ieee.{Float, nan, inf, fin}
 use lib.Ieee.Scale.{finite}
 use Rattle.num_working.specs.Working.{checked, orElse}
@@ -20,3 +23,7 @@ pub tested-choice : {A : Type 0} (x : Float) (z : A) (f : Float → A) → orEls
 tested-choice nan z f = refl
 tested-choice (inf s) z f = refl
 tested-choice (fin s m e) z f = refl
+
+-- where two constructors would be one: `never (cc)`
+pub never : {A : Type 0} → _≡_ {A = ℕ} 0 1 → A
+never z = absurd (omega arith)

@@ -1,13 +1,12 @@
 -- A number is tested once at the end: what is not finite stays so through +, −, × and a division by a finite number. Assumes nothing.
 use mathlib.Core.Path.{_≡_, refl, sym}
-use Prim.Native.Nat.{ℕ}
-use native.Mathlib.Omega.{arith}
 use mathlib.Core.Bool.{Bool, true, false, cond, not, true≢false, Bool·beq}
 use lib.Dec.{T, eqb}
 use lib.Ieee as Ieee
 use lib.Ieee.{Float, nan, inf, fin, binary64, unlike}
 use lib.Ieee.Scale.{finite}
 use Rattle.num_working.specs.declared.Worked.the-variants.{Number, Failed}
+use Rattle.num_working.proofs.Cases.{never}
 use Rattle.num_working.specs.Working.{checked, _+ᵂ_, _-ᵂ_, _*ᵂ_, _/ᵂ_}
 
 -- ---- the test
@@ -22,8 +21,8 @@ checked-failed (inf s) h = refl
 checked-failed (fin s m e) h = absurd (true≢false h)
 
 pub checked-number : (x y : Float) → checked x ≡ Number y → (x ≡ y) × T (finite x)
-checked-number nan y e = let z : _≡_ {A = ℕ} 0 1 = cc in absurd (omega arith)
-checked-number (inf s) y e = let z : _≡_ {A = ℕ} 0 1 = cc in absurd (omega arith)
+checked-number nan y e = never (cc)
+checked-number (inf s) y e = never (cc)
 checked-number (fin s m e) y g = (cc, tt)
 
 -- ---- the operations

@@ -7,13 +7,15 @@ use eos_ideal::ideal_part;
 use eos_isotherm::at_temperature;
 use eos_non_analytic::figures::add_figures;
 use eos_non_analytic::parts::at_critical;
-use eos_pressure::pressure_at;
 use eos_residual::term::at_density;
 use eos_rows::non_analytics;
 use eos_saturation::vapour_pressure;
+use eos_state::Phase;
 use eos_state::State;
 use eos_state::Stated;
-use eos_state::state_at;
+use equation::curve_at;
+use equation::pressure_on;
+use equation::state_on;
 use num_working::Worked;
 use num_working::checked;
 use run_print::bits::figure;
@@ -30,15 +32,15 @@ fn at(name: &[u8], t: f64, rho: f64) {
 
 fn pressure(t: f64, rho: f64) {
     at(b"pressure at ", t, rho);
-    tell(pressure_at(t, rho));
+    tell(pressure_on(curve_at(t), rho));
 }
 
-// The eight numbers, or that there is no state.
+// The eight numbers, which don't hang on the phase, or that there is no state.
 fn state(t: f64, rho: f64) {
     pressure(t, rho);
     at(b"state at ", t, rho);
     say(b" is");
-    match state_at(t, rho) {
+    match state_on(curve_at(t), Phase::Supercritical, rho) {
         Stated::Known(s) => eight(s),
         Stated::Unknown => say(b" refused"),
     }
@@ -180,7 +182,7 @@ fn three(a: f64, b: f64, c: f64) {
 
 // The figures of the non-analytic rows by themselves, which are small in the sums: δφ_δ of each row, δ²φ_δδ, and so on.
 // Added to −0 a number is itself.
-fn sharp(t: f64, rho: f64) {
+fn non_analytic(t: f64, rho: f64) {
     let iso = at_temperature(t);
     let tau = iso.tau;
     let delta = rho / 467.6;
@@ -252,8 +254,8 @@ fn main() {
     ideal_gases();
     states();
     no_states();
-    sharp(290.1, 567.9);
-    sharp(295.4, 588.8);
-    sharp(312.2, 580.6);
-    sharp(290.4, 404.2);
+    non_analytic(290.1, 567.9);
+    non_analytic(295.4, 588.8);
+    non_analytic(312.2, 580.6);
+    non_analytic(290.4, 404.2);
 }

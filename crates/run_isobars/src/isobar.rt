@@ -1,10 +1,10 @@
 // 004's Table 35, its isobars, against the pressure door at the printed temperature and pressure (document 01, end of
 // "Readings on each side of a boundary"; docs/READING.md, D).
 use door_answers::Answer;
-use door_answers::State;
 use door_limits::document_01;
 use door_limits::is_outside;
 use door_pressure::from_pressure;
+use eos_state::State;
 use run_print::decimal::Cell;
 use run_print::decimal::unit;
 use run_print::decimal::value;
@@ -114,7 +114,7 @@ fn compared(text: &[u8], line: usize, tally: Tally, x: State) -> Tally {
 
 // What the pressure door says of a row that is on neither line. A refusal but that of the critical box is a failure.
 fn asked(text: &[u8], line: usize, tally: Tally, t: f64, p: f64) -> Tally {
-    match from_pressure(t, p) {
+    match from_pressure(document_01(), t, p) {
         Answer::State(x) => {
             let tally = compared(text, line, counted(tally, COMPARED), x);
             difference(text, line, tally, p)

@@ -1,10 +1,11 @@
 // The doors: document 01's readings that are run, the ends of each range and the floats beside them, both sides of the
 // saturation line, the edges of the critical box, and what is no number. Bits worked elsewhere (crosscheck/doors.py).
 use door_answers::Answer;
-use door_answers::Phase;
-use door_answers::State;
 use door_density::from_density;
+use door_limits::document_01;
 use door_pressure::from_pressure;
+use eos_state::Phase;
+use eos_state::State;
 use libc::STDOUT_FILENO;
 use run_print::bits::say;
 use run_print::bits::show;
@@ -51,18 +52,18 @@ fn tell_answer(a: Answer) {
 fn by_pressure(t: f64, p: f64) {
     tell_number(b"T ", t);
     tell_number(b" and p ", p);
-    tell_answer(from_pressure(t, p));
+    tell_answer(from_pressure(document_01(), t, p));
 }
 
 fn by_density(t: f64, rho: f64) {
     tell_number(b"T ", t);
     tell_number(b" and rho ", rho);
-    tell_answer(from_density(t, rho));
+    tell_answer(from_density(document_01(), t, rho));
 }
 
 // The density that the pressure door gives, put to the other door.
 fn by_both(t: f64, p: f64) {
-    let Answer::State(x) = from_pressure(t, p) else {
+    let Answer::State(x) = from_pressure(document_01(), t, p) else {
         return;
     };
     by_density(x.t, x.rho);

@@ -1,6 +1,5 @@
 -- Each turn puts the next row's power in its place. Assumes nothing.
-use mathlib.Core.Path.{_≡_, refl, sym, subst, _∙_}
-use mathlib.Core.List.{List}
+use mathlib.Core.Path.{_≡_, refl, sym, _∙_}
 use Prim.Native.Nat.{ℕ, _/_, _%_, _<_, _≤_, _-_}
 use native.Mathlib.Omega.{arith}
 use borrow.Author.Needs.{needs}
@@ -18,57 +17,39 @@ unfolding tauPowers
 long tau quarter = length-map quarters (λ (j : ℕ). value (tauPower tau quarter j)) ∙ count
 
 abbrev Inv-loop : tie.InvT-loop
-Inv-loop tau quarter t q js a₀ i₀ a i = (i ≤ 39) × Filled (tauPowers tau quarter) i a
+Inv-loop tau quarter t q a₀ i₀ a i = (i ≤ 39) × Filled (tauPowers tau quarter) i a
 
 abbrev μ-loop : tie.MeasureT-loop
-μ-loop tau quarter t q js a₀ i₀ a i = 39 - i
+μ-loop tau quarter t q a₀ i₀ a i = 39 - i
 
--- the exponent at the place that a turn comes to
-low : (c : tie.At-loop Inv-loop μ-loop) → getD (c .before .tau-quarters .result) (c .loop .i) 0 < 113
-low c = subst (λ (l : List ℕ). getD l (c .loop .i) 0 < 113) (sym (c .before .tau-quarters .ensures)) (small (c .loop .i))
+-- the exponent that a turn comes to
+low : (c : tie.After-quarters-at Inv-loop μ-loop) → c .quarters-at .result < 113
+low c = rw (c .quarters-at .ensures) (small (c .before .before .loop .i))
 
 loop-holds : tie.Need-loop-holds Inv-loop μ-loop
 loop-holds c =
-    let a = c .before .before .before .args in
+    let a = c .before .before .args in
     (omega arith, record { long = sym (long (a .tau) (a .quarter)); same = refl })
-
-cast-j : tie.Need-cast-j Inv-loop μ-loop
-cast-j c = let l = low (c .before) in omega arith
-
-mul-a : tie.Need-mul-a Inv-loop μ-loop
-mul-a c = let l = low (c .before) in omega arith
-
-array-read-a : tie.Need-array-read-a Inv-loop μ-loop
-array-read-a c = let l = low (c .before) in omega arith
-
-mul-a-3 : tie.Need-mul-a-3 Inv-loop μ-loop
-mul-a-3 c = omega arith
-
-add-i : tie.Need-add-i Inv-loop μ-loop
-add-i c = omega arith
-
-loop-less : tie.Need-loop-less Inv-loop μ-loop
-loop-less c = omega arith
 
 loop-again : tie.Need-loop-again Inv-loop μ-loop
 loop-again c =
-    let l = c .before in
-    let js = l .before in
-    let qs = js .before in
+    let l = c .before .before in
+    let qs = l .before in
     let ts = qs .before in
     let a = ts .before .args in
     let i = l .loop .i in
-    let j = getD (js .tau-quarters .result) i 0 in
+    let j = c .quarters-at .result in
     let x = mul binary64 (getD (ts .powers-to-28 .result) (j / 4) nan) (getD (qs .powers-to-3 .result) (j % 4) nan) in
     let v : x ≡ getD (tauPowers (a .tau) (a .quarter)) i nan =
-    rw (js .tau-quarters .ensures, qs .powers-to-3 .ensures, ts .powers-to-28 .ensures) (power-there (a .tau) (a .quarter) i (omega arith))
-    in
-    (omega arith, fill-more (tauPowers (a .tau) (a .quarter)) i (l .loop .a) x nan (rw (long (a .tau) (a .quarter)) (omega arith)) (l .loop .inv .1) v)
+    rw (qs .powers-to-3 .ensures, ts .powers-to-28 .ensures)
+    (power-there (a .tau) (a .quarter) i j (omega arith) (c .quarters-at .ensures)) in
+    let h : i < length (tauPowers (a .tau) (a .quarter)) = rw (long (a .tau) (a .quarter)) (omega arith) in
+    (omega arith, fill-more (tauPowers (a .tau) (a .quarter)) i (l .loop .a) x nan h (l .loop .inv .1) v)
 
 returns : tie.Need-returns Inv-loop μ-loop
 returns c =
     let l = c .before in
-    let a = l .before .before .before .before .args in
+    let a = l .before .before .before .args in
     fill-all (tauPowers (a .tau) (a .quarter)) (l .loop .i) (l .loop .a) (rw (long (a .tau) (a .quarter)) (omega arith)) (l .loop .inv .1)
 
 pub tau-powers-spec : {M : Type 1} → statement M
@@ -79,17 +60,16 @@ tau-powers-spec =
     μ-loop
     (λ c κs. search needs)
     (λ c κs. search needs)
-    (λ c κs. search needs)
     loop-holds
+    (λ c κs. search needs)
+    (λ c. let l = low c in omega arith)
+    (λ c. let l = low c in omega arith)
+    (λ c. let l = low c in omega arith)
     (λ c. search needs)
-    cast-j
-    mul-a
-    array-read-a
     (λ c. search needs)
+    (λ c. omega arith)
     (λ c. search needs)
-    mul-a-3
-    (λ c. search needs)
-    add-i
-    loop-less
+    (λ c. omega arith)
+    (λ c. omega arith)
     loop-again
     returns)

@@ -4,7 +4,7 @@ use Rattle.interface.proofs.makhroeng_from_density.Statement.{statement
 use Rattle.interface.proofs.makhroeng_from_density.Tie as tie
 
 returns : tie.Need-returns
-returns c = rw (← c .before .before .before .before .from-density .ensures) (c .before .before .hand .ensures)
+returns c = rw (← c .before .before .before .before .from-density .ensures) (c .before .before .put-answer .ensures)
 
 pub makhroeng-from-density-spec : {M : Type 1} → statement M
 makhroeng-from-density-spec =

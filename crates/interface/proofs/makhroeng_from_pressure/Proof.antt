@@ -4,7 +4,7 @@ use Rattle.interface.proofs.makhroeng_from_pressure.Statement.{statemen
 use Rattle.interface.proofs.makhroeng_from_pressure.Tie as tie
 
 returns : tie.Need-returns
-returns c = rw (← c .before .before .before .before .from-pressure .ensures) (c .before .before .hand .ensures)
+returns c = rw (← c .before .before .before .before .from-pressure .ensures) (c .before .before .put-answer .ensures)
 
 pub makhroeng-from-pressure-spec : {M : Type 1} → statement M
 makhroeng-from-pressure-spec =

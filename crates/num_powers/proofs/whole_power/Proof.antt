@@ -1,3 +1,4 @@
+-- The product so far is the i-th whole power, and the loop ends at n. Assumes nothing.
 use mathlib.Core.Path.{_≡_, refl, ap, _∙_}
 use Prim.Native.Nat.{_≤_, _-_}
 use native.Mathlib.Omega.{arith}

@@ -1,3 +1,4 @@
+-- A finite number is handed on, and any other has failed. Assumes nothing.
 use mathlib.Core.Path.{sym, _∙_}
 use borrow.Author.Needs.{needs}
 use Rattle.num_working.proofs.Workings.{checked-finite, checked-failed}

@@ -1,3 +1,4 @@
+-- What is finite is below the infinity and above its negative, and nothing else is. Assumes nothing.
 use mathlib.Core.Path.{_≡_, refl, sym}
 use mathlib.Core.Bool.{true, false}
 use lib.Ieee.{Float, nan, inf, fin, ofBits, neg, div, lt, binary64}

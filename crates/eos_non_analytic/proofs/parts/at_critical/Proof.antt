@@ -12,7 +12,7 @@ unfolding critical value nonAnalytics
 returns c =
     let t = c .before .before .before in
     let s = t .before .before .before in
-    let n = s .before .before .before .before .before in
+    let r = s .before .before .before in
     rw (
       c .edge-at3 .ensures,
       c .before .edge-at2 .ensures,
@@ -21,9 +21,11 @@ returns c =
       t .before .worked-as2 .ensures,
       t .before .before .worked-as .ensures,
       s .shared-by2 .ensures,
+      s .before .non-analytic-row3 .ensures,
       s .before .before .shared-by .ensures,
-      n .near-critical .ensures,
-      n .before .non-analytics .ensures,
+      r .non-analytic-row2 .ensures,
+      r .before .non-analytic-row .ensures,
+      r .before .before .near-critical .ensures,
     ) refl
 
 pub at-critical-spec : {M : Type 1} → statement M
@@ -32,10 +34,9 @@ at-critical-spec =
     (tie.spec
     (λ c κs. search needs)
     (λ c κs. search needs)
-    (λ c. search needs)
-    (λ c. search needs)
     (λ c κs. search needs)
-    (λ c. search needs)
+    (λ c κs. search needs)
+    (λ c κs. search needs)
     (λ c κs. search needs)
     (λ c κs. search needs)
     (λ c κs. search needs)

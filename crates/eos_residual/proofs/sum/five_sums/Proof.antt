@@ -2,6 +2,7 @@
 use mathlib.Core.Path.{_∙_}
 use Rattle.num_working.specs.Working.{checked}
 use Rattle.eos_brackets.specs.Derivative.{of}
+use Rattle.eos_brackets.proofs.Derivatives.{all-asked}
 use Rattle.eos_residual.specs.Sum.{residual, fiveSums}
 use Rattle.eos_residual.proofs.Totals.{all-five-same}
 use borrow.Author.Needs.{needs}
@@ -13,7 +14,8 @@ unfolding fiveSums
 returns c =
     let t = c .before in
     let a = t .before .args in
-    c .all-five .ensures ∙ all-five-same (λ k. checked (of (t .sums-at .result) k)) (residual (a .iso) (a .delta)) (λ k. t .sums-at .ensures k tt)
+    c .all-five .ensures
+    ∙ all-five-same (λ k. checked (of (t .sums-at .result) k)) (residual (a .iso) (a .delta)) (λ k. t .sums-at .ensures k (all-asked k))
 
 pub five-sums-spec : {M : Type 1} → statement M
 five-sums-spec =

@@ -1,55 +1,42 @@
--- The three rows one after the other. Assumes nothing.
-use mathlib.Core.Path.{_≡_, ap, _∙_}
-use mathlib.Core.List.{List}
-use Prim.Native.Nat.{ℕ}
-use lib.ListN.{getD}
-use Rattle.num_working.specs.Working.{_+ᵂ_}
-use Rattle.num_working.specs.declared.Worked.{Worked}
-use Rattle.eos_rows.specs.Row.{nonAnalytics}
-use Rattle.eos_rows.specs.declared.NonAnalytic.{NonAnalytic}
-use Rattle.eos_non_analytic.specs.Parts.{around, parts, psi, blank, row, critical}
-use Rattle.eos_non_analytic.specs.declared.parts.Critical.{Critical}
-use Rattle.eos_non_analytic.specs.Figures.{nonAnalyticFigure, nonAnalyticFigures}
-use Rattle.eos_non_analytic.proofs.Rows.{figures-added}
-use Rattle.eos_residual.specs.Sum.{onto}
-use Rattle.eos_residual.proofs.Psis.{psi-first, psi-other}
+-- Of the first alone no other is asked for. Assumes nothing.
+use mathlib.Core.Path.{_≡_, subst}
+use mathlib.Core.Bool.{Bool, false}
+use lib.Dec.{T}
+use lib.Ieee.{Float}
 use borrow.Author.Needs.{needs}
+use Rattle.num_working.specs.Working.{checked}
+use Rattle.num_working.specs.declared.Worked.{Worked}
+use Rattle.eos_brackets.specs.Derivative.{Derivative, Delta, DeltaDelta, Tau, TauTau, DeltaTau, asked, of}
+use Rattle.eos_brackets.specs.declared.Five.{Five}
+use Rattle.eos_brackets.proofs.Derivatives.{all-asked}
+use Rattle.eos_non_analytic.specs.Figures.{nonAnalyticFigures}
+use Rattle.eos_residual.specs.Sum.{onto, Meet}
 use Rattle.eos_residual.proofs.sum.non_analytic_sums.Statement.{statement}
 use Rattle.eos_residual.proofs.sum.non_analytic_sums.Tie as tie
 
+first-alone : (start : Five) (d : Float) (goal : Derivative → Worked) → checked d ≡ goal Delta
+    → Meet false (record { d = d; dd = start .dd; t = start .t; tt = start .tt; dt = start .dt }) goal
+first-alone start d goal e Delta h = e
+first-alone start d goal e DeltaDelta h = absurd h
+first-alone start d goal e Tau h = absurd h
+first-alone start d goal e TauTau h = absurd h
+first-alone start d goal e DeltaTau h = absurd h
+
 returns : tie.Need-returns
-unfolding onto nonAnalyticFigures nonAnalytics critical
-returns c =
-    let c2 = c .before .before in
-    let c1 = c2 .before .before in
-    let t = c1 .before .before .before in
-    let s = t .before in
-    let a = s .args in
-    let d = a .p .delta in
-    let n = around d in
-    let e = s .pre .1 in
-    let first = psi-first (a .iso) (a .p) (s .pre .0) in
-    let its : (i : ℕ) → getD (t .non-analytics .result) i blank ≡ row i = λ i. ap (λ (l : List NonAnalytic). getD l i blank) (t .non-analytics .ensures) in
-    let near = ap (λ (x : Critical). x .near) e in
-    λ k h.
-    figures-added _ (row 2) _ n _ (parts (row 2) n (a .iso .tau)) _ (psi (row 2) n (a .iso .psi)) d (a .iso .tau) (c2 .add-figures2 .result) (c .add-figures3 .result) k (its 2) near (ap (λ (x : Critical). x .third) e) (psi-other (a .iso) (a .p) (s .pre .0)) (c .add-figures3 .ensures)
-    ∙ ap (λ (u : Worked). u +ᵂ nonAnalyticFigure (a .iso) d k (row 2))
-    (figures-added _ (row 1) _ n _ (parts (row 1) n (a .iso .tau)) _ (psi (row 1) n (a .iso .psi)) d (a .iso .tau) (c1 .add-figures .result) (c2 .add-figures2 .result) k (its 1) near (ap (λ (x : Critical). x .second) e) first (c2 .add-figures2 .ensures)
-    ∙ ap (λ (u : Worked). u +ᵂ nonAnalyticFigure (a .iso) d k (row 1))
-    (figures-added _ (row 0) _ n _ (parts (row 0) n (a .iso .tau)) _ (psi (row 0) n (a .iso .psi)) d (a .iso .tau) (a .start) (c1 .add-figures .result) k (its 0) near (ap (λ (x : Critical). x .first) e) first (c1 .add-figures .ensures)))
+returns c = λ k h. c .non-analytic-five .ensures k (all-asked k)
+
+returns-2 : tie.Need-returns-2
+returns-2 c =
+    let a = c .before .before .args in
+    let goal : Derivative → Worked = λ k. onto (checked (of (a .start) k)) (nonAnalyticFigures (a .iso) (a .p .delta) k) in
+    λ k h. first-alone (a .start) (c .non-analytic-slope .result) goal (c .non-analytic-slope .ensures) k
+    (subst (λ (b : Bool). T (asked b k)) (c .before .if1 .left) h)
 
 pub non-analytic-sums-spec : {M : Type 1} → statement M
 non-analytic-sums-spec =
     tie.close
     (tie.spec
     (λ c κs. search needs)
-    (λ c. search needs)
-    (λ c. search needs)
+    returns
     (λ c κs. search needs)
-    (λ c. search needs)
-    (λ c. search needs)
-    (λ c κs. search needs)
-    (λ c. search needs)
-    (λ c. search needs)
-    (λ c κs. search needs)
-    returns)
+    returns-2)

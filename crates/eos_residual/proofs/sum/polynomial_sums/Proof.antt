@@ -1,16 +1,15 @@
 -- Each turn adds the next row's figures; what is left to add gives the sums that are asked for. Assumes nothing.
-use mathlib.Core.Path.{_≡_, refl, sym, ap}
+use mathlib.Core.Path.{_≡_, refl, ap}
 use Prim.Native.Nat.{_-_, _<_, _≤_}
 use native.Mathlib.Omega.{arith}
 use borrow.Author.Needs.{needs}
 use lib.Ieee.{Float}
 use Rattle.num_powers.specs.Power.{powers}
+use Rattle.eos_rows.specs.Row.{polynomials}
 use Rattle.eos_rows.specs.declared.Polynomial.{Polynomial}
 use Rattle.eos_isotherm.specs.declared.Isotherm.{Isotherm}
-use Rattle.eos_rows.specs.Row.{polynomials}
-use Rattle.eos_residual.specs.declared.term.Point.{Point}
-use Rattle.eos_residual.specs.Term.{point}
 use Rattle.eos_residual.specs.Sum.{total, polynomialFigures}
+use Rattle.eos_residual.proofs.Points.{its-powers}
 use Rattle.eos_residual.proofs.Sums.{Dues, dues-first, dues-more, dues-none}
 use Rattle.eos_residual.proofs.Figures.{polynomial-small, polynomial-length, polynomial-placed}
 use Rattle.eos_residual.proofs.sum.polynomial_sums.Statement.{statement}
@@ -36,30 +35,9 @@ loop-holds c =
     let one : x .polynomial-row .result .d ≡ 1 = ap (λ (r : Polynomial). r .d) (x .polynomial-row .ensures) in (
       omega arith,
       λ iso delta y d.
-          dues-first (a .all) (polynomialFigures iso delta) (c .first .result) _ _ (c .first .ensures)
+          dues-first (a .all) (polynomialFigures iso delta) (c .times .result) _ _ (c .times .ensures)
           (rw one at (polynomial-placed iso delta y d 0 (omega arith) (x .polynomial-row .ensures) (b .polynomial-brackets .ensures))),
     )
-
-cast-d : tie.Need-cast-d Inv-loop μ-loop
-cast-d c = let l = low (c .before) in omega arith
-
-mul-grow : tie.Need-mul-grow Inv-loop μ-loop
-mul-grow c = let l = low (c .before) in omega arith
-
-array-read-grow : tie.Need-array-read-grow Inv-loop μ-loop
-array-read-grow c = let l = low (c .before) in omega arith
-
-mul-grow-2 : tie.Need-mul-grow-2 Inv-loop μ-loop
-mul-grow-2 c = omega arith
-
-array-read-grow-2 : tie.Need-array-read-grow-2 Inv-loop μ-loop
-array-read-grow-2 c = omega arith
-
-add-i : tie.Need-add-i Inv-loop μ-loop
-add-i c = omega arith
-
-loop-less : tie.Need-loop-less Inv-loop μ-loop
-loop-less c = omega arith
 
 loop-again : tie.Need-loop-again Inv-loop μ-loop
 loop-again c =
@@ -70,16 +48,17 @@ loop-again c =
       omega arith,
       λ iso delta y d.
           dues-more (a .all) _ _ _ _ _ _ _ (c .grow .ensures)
-          (polynomial-placed iso delta y d _ (omega arith) (x .polynomial-row2 .ensures) (b .polynomial-brackets2 .ensures)) (l .loop .inv .1 iso delta y d),
+          (polynomial-placed iso delta y d _ (omega arith) (x .polynomial-row2 .ensures) (b .polynomial-brackets2 .ensures))
+          (l .loop .inv .1 iso delta y d),
     )
 
 returns : tie.Need-returns Inv-loop μ-loop
-unfolding point
 returns c =
     let l = c .before in
     let b = l .before .before .before .before .before .before .before in
     let a = b .args in
-    dues-none (a .all) _ _ (l .loop .i) _ (l .loop .inv .1 (a .iso) (a .p .delta) refl (sym (ap (λ (q : Point). q .powers) (b .pre))))
+    dues-none (a .all) _ _ (l .loop .i) _
+    (l .loop .inv .1 (a .iso) (a .p .delta) refl (its-powers (a .iso) (a .p) (b .pre)))
     (polynomial-length (a .iso) (a .p .delta)) (omega arith)
 
 pub polynomial-sums-spec : {M : Type 1} → statement M
@@ -95,14 +74,14 @@ polynomial-sums-spec =
     (λ c κs. search needs)
     loop-holds
     (λ c κs. search needs)
-    cast-d
-    mul-grow
-    array-read-grow
-    mul-grow-2
-    array-read-grow-2
+    (λ c. let l = low (c .before) in omega arith)
+    (λ c. let l = low (c .before) in omega arith)
+    (λ c. let l = low (c .before) in omega arith)
+    (λ c. omega arith)
+    (λ c. omega arith)
     (λ c κs. search needs)
     (λ c κs. search needs)
-    add-i
-    loop-less
+    (λ c. omega arith)
+    (λ c. omega arith)
     loop-again
     returns)

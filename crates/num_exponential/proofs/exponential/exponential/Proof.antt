@@ -42,7 +42,9 @@ returns-5 c = sym (rising (c .before .before) ∙ ap (λ (w : Worked). checked (
 
 returns-6 : tie.Need-returns-6
 unfolding _/ᵂ_ ofBits ofInt whole
-returns-6 c = c .checked .ensures ∙ sym (rising (c .before .before .before .before) ∙ ap (λ (w : Worked). checked (whole 1) /ᵂ w) (c .before .before .e .given .1))
+returns-6 c =
+    let e = c .before .before in
+    c .checked .ensures ∙ sym (rising (e .before .before) ∙ ap (λ (w : Worked). checked (whole 1) /ᵂ w) (e .e .given .1))
 
 pub exponential-spec : {M : Type 1} → statement M
 exponential-spec =

@@ -16,11 +16,19 @@ eased-requires c κs = range (neg (c .before .before .args .x)) (subst T (sym (c
 
 returns : tie.Need-returns
 unfolding whole ofBits ofInt round
-returns c = c .checked .ensures ∙ c .before .squared .ensures ∙ ap (squared 10) (c .before .before .eased .ensures) ∙ sym (falling-is (c .before .before .before .before .before .args .x))
+returns c =
+    c .checked .ensures
+    ∙ c .before .squared .ensures
+    ∙ ap (squared 10) (c .before .before .eased .ensures)
+    ∙ sym (falling-is (c .before .before .before .before .before .args .x))
 
 returns-2 : tie.Need-returns-2
 unfolding whole ofBits ofInt round
-returns-2 c = c .checked2 .ensures ∙ c .before .squared2 .ensures ∙ ap (squared 10) (c .before .before .series .ensures) ∙ sym (falling-is (c .before .before .before .before .before .args .x))
+returns-2 c =
+    c .checked2 .ensures
+    ∙ c .before .squared2 .ensures
+    ∙ ap (squared 10) (c .before .before .series .ensures)
+    ∙ sym (falling-is (c .before .before .before .before .before .args .x))
 
 pub falling-spec : {M : Type 1} → statement M
 falling-spec =

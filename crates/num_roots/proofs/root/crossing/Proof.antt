@@ -73,7 +73,8 @@ returns : tie.Need-returns Inv-loop μ-loop
 returns c =
     let l = c .before .before .loop in
     let a = c .before .before .before in
-    sym (crossing-is (a .args .k) (a .args .t) (omega arith) (omega arith) (a .pre .0) (l .lo) (l .hi) (omega arith) (omega arith) (l .inv .here) (l .inv .next (omega arith)))
+    let b = l .inv .next (omega arith) in
+    sym (crossing-is (a .args .k) (a .args .t) (omega arith) (omega arith) (a .pre .0) (l .lo) (l .hi) (omega arith) (omega arith) (l .inv .here) b)
 
 power-at-requires-2 : tie.Need-power-at-requires-2 Inv-loop μ-loop
 power-at-requires-2 c κs = omega arith

@@ -15,15 +15,18 @@ use Rattle.num_roots.proofs.Roots.{search-fails}
 use Rattle.num_roots.proofs.root.looked_for.Statement.{statement}
 use Rattle.num_roots.proofs.root.looked_for.Tie as tie
 
-finite-so : (c : tie.Else4) → finite (c .before .before .before .before .before .args .x) ≡ true
+abbrev begun : tie.Else4 → tie.Start
+begun c = c .before .before .before .before .before
+
+finite-so : (c : tie.Else4) → finite (begun c .args .x) ≡ true
 finite-so c = sym (c .before .before .before .is-finite .ensures) ∙ c .before .before .if2 .taken
 
 -- past the exact cases
-rest : (c : tie.Else4) → root (c .before .before .before .before .before .args .e) (c .before .before .before .before .before .args .x)
-    ≡ searched (c .before .before .before .before .before .args .e .m) (c .before .before .before .before .before .args .e .k) (c .before .before .before .before .before .args .x)
+rest : (c : tie.Else4)
+    → root (begun c .args .e) (begun c .args .x) ≡ searched (begun c .args .e .m) (begun c .args .e .k) (begun c .args .x)
 unfolding root ofBits ofInt whole
 rest c =
-    let e = c .before .before .before .before .before .args .e in
+    let e = begun c .args .e in
     let b : ltb (e .m) (2 * e .k) ≡ true = lt-ltb (e .m) (2 * e .k) (omega arith) in
     simp (root, b, finite-so c, c .before .if3 .left, c .if4 .left)
 
@@ -49,18 +52,19 @@ returns-4 : tie.Need-returns-4
 unfolding root ofBits ofInt whole
 returns-4 c =
     let e = c .before .before .before .before .before .args .e in
-    simp (root, lt-ltb (e .m) (2 * e .k) (omega arith), sym (c .before .before .before .is-finite .ensures) ∙ c .before .before .if2 .taken, c .before .if3 .left, c .if4 .taken)
+    let f = sym (c .before .before .before .is-finite .ensures) ∙ c .before .before .if2 .taken in
+    simp (root, lt-ltb (e .m) (2 * e .k) (omega arith), f, c .before .if3 .left, c .if4 .taken)
 
 returns-5 : tie.Need-returns-5
 returns-5 c =
-    let a = c .before .before .before .before .before .before .args in
+    let a = begun (c .before) .args in
     sym (rest (c .before) ∙ search-fails (a .e .m) (a .e .k) (a .x) (omega arith))
 
 searched-requires : tie.Need-searched-requires
 unfolding ofBits ofInt whole
 searched-requires c κs =
     let d = c .before in
-    (above-0 (d .before .before .before .before .before .args .x) (finite-so d) (d .before .if3 .left) (d .if4 .left), (omega arith, omega arith, omega arith))
+    (above-0 (begun d .args .x) (finite-so d) (d .before .if3 .left) (d .if4 .left), (omega arith, omega arith, omega arith))
 
 returns-6 : tie.Need-returns-6
 returns-6 c = c .searched .ensures ∙ sym (rest (c .before .before))

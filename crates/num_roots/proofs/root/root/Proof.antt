@@ -2,8 +2,8 @@
 use mathlib.Core.Path.{sym, _∙_}
 use lib.Dec.{T}
 use borrow.Author.Needs.{needs}
-use Rattle.num_roots.specs.Side.{searchable}
-use Rattle.num_roots.proofs.Searchables.{unsigned, bounds}
+use Rattle.num_roots.specs.Side.{Guessed, searchable}
+use Rattle.num_roots.proofs.Searchables.{unsigned, few, powers-asked}
 use Rattle.num_roots.proofs.root.root.Statement.{statement}
 use Rattle.num_roots.proofs.root.root.Tie as tie
 
@@ -14,15 +14,23 @@ about-log-requires : tie.Need-about-log-requires
 about-log-requires c κs = unsigned _ _ (is-searchable (c .before))
 
 guess-requires : tie.Need-guess-requires
-guess-requires c κs = let b = bounds _ _ (is-searchable (c .before .before)) in (b .1, b .2)
+guess-requires c κs = few _ _ (is-searchable (c .before .before))
+
+guessed : (c : tie.Then2)
+    → Guessed (c .before .before .before .before .before .before .args .e) (c .before .before .before .before .before .before .args .x)
+    (c .before .before .before .whole-power .result) (c .before .guess .result)
+guessed c = record {
+  searched = is-searchable (c .before .before .before .before);
+  target = c .before .before .before .whole-power .ensures;
+  some = c .if2 .taken;
+  within = c .before .guess .ensures;
+}
 
 powers-about-requires : tie.Need-powers-about-requires
-powers-about-requires c κs = (bounds _ _ (is-searchable (c .before .before .before .before)) .0, (c .if2 .taken, c .before .guess .ensures))
+powers-about-requires c κs = powers-asked _ _ _ _ (guessed c)
 
 root-about-requires : tie.Need-root-about-requires
-root-about-requires c κs =
-    let g = c .before in
-    (is-searchable (g .before .before .before .before), (g .before .before .before .whole-power .ensures, ((g .if2 .taken, g .before .guess .ensures), c .powers-about .ensures)))
+root-about-requires c κs = (guessed (c .before), c .powers-about .ensures)
 
 pub root-spec : {M : Type 1} → statement M
 root-spec =

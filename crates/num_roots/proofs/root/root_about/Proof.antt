@@ -17,15 +17,16 @@ float-from-bits-t12 c = no-nan _ (⊎-elim (λ w. omega arith) (λ w. omega arit
 returns : tie.Need-returns
 returns c =
     let s = c .before .before .before .before in
-    let p = s .pre in
+    let below = at-below (s .args .e) (s .args .x) (s .args .t) (s .args .at) (s .pre .0) _ _ _ (s .pre .1) in
+    let here = at-here (s .args .e) (s .args .x) (s .args .t) (s .args .at) (s .pre .0) _ _ _ (s .pre .1) in
     ⊎-elim
     (λ i. ⊎-elim
-    (λ j. ap (λ b. Number (ofBits binary64 b)) (i .1) ∙ sym (at-below (s .args .e) (s .args .x) (p .0) (s .args .t) (p .1 .0) (s .args .at) _ _ _ (p .1 .1 .0 .0) (p .1 .1 .0 .1) (p .1 .1 .1) (i .0 .taken) (sym (j .2) ∙ c .if3 .taken)))
+    (λ j. ap (λ b. Number (ofBits binary64 b)) (i .1) ∙ sym (below (i .0 .taken) (sym (j .2) ∙ c .if3 .taken)))
     (λ j. absurd (true≢false (sym (i .0 .taken) ∙ j .0 .left)))
     (c .before .if2 .came))
     (λ i. ⊎-elim
     (λ j. absurd (true≢false (sym (j .0 .taken) ∙ i .0 .left)))
-    (λ j. ap (λ b. Number (ofBits binary64 b)) (i .1) ∙ sym (at-here (s .args .e) (s .args .x) (p .0) (s .args .t) (p .1 .0) (s .args .at) _ _ _ (p .1 .1 .0 .0) (p .1 .1 .0 .1) (p .1 .1 .1) (i .0 .left) (sym (j .2) ∙ c .if3 .taken)))
+    (λ j. ap (λ b. Number (ofBits binary64 b)) (i .1) ∙ sym (here (i .0 .left) (sym (j .2) ∙ c .if3 .taken)))
     (c .before .if2 .came))
     (c .before .before .if1 .came)
 

@@ -38,7 +38,9 @@ returns-5 : tie.Need-returns-5
 unfolding searchable ofBits ofInt whole
 returns-5 c =
     let e = c .before .before .before .before .before .args .e in
-    c .is-finite .ensures ∙ sym (simp (searchable, lt-ltb (e .m) (2 * e .k) (omega arith), lt-ltb (e .k) 52 (omega arith), c .before .before .if3 .left, c .before .if4 .left))
+    let d = c .before in
+    c .is-finite .ensures
+    ∙ sym (simp (searchable, lt-ltb (e .m) (2 * e .k) (omega arith), lt-ltb (e .k) 52 (omega arith), d .before .if3 .left, d .if4 .left))
 
 pub searchable-spec : {M : Type 1} → statement M
 searchable-spec =

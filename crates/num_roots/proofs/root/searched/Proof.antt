@@ -7,9 +7,10 @@ use lib.Dec.{T}
 use lib.Ieee.{Float}
 use lib.Ieee.Scale.{finite}
 use Rattle.num_working.specs.declared.Worked.{Worked}
+use Rattle.num_working.specs.declared.Worked.the-variants.{Failed}
 use Rattle.num_working.specs.Number.{nonneg}
 use Rattle.num_powers.specs.Power.{power}
-use Rattle.num_working.specs.Working.{checked, then}
+use Rattle.num_working.specs.Working.{checked, orElse}
 use Rattle.num_roots.specs.Root.{searched, rootBits, rootOf}
 use Rattle.num_working.proofs.Numbers.{no-nan}
 use Rattle.num_powers.proofs.Powers.{checked-power}
@@ -20,17 +21,20 @@ use Rattle.num_roots.proofs.root.searched.Statement.{statement}
 use Rattle.num_roots.proofs.root.searched.Tie as tie
 
 abbrev lookedFor : ℕ → Worked → Worked
-lookedFor k w = then w (λ t. rootOf (rootBits k t))
+lookedFor k w = orElse w Failed (λ t. rootOf (rootBits k t))
+
+abbrev asked : tie.Start → Worked
+asked s = searched (s .args .m) (s .args .k) (s .args .x)
 
 -- the power, as it was worked
-raised : (c : tie.After-checked) → searched (c .before .before .args .m) (c .before .before .args .k) (c .before .before .args .x) ≡ lookedFor (c .before .before .args .k) (c .checked .result)
+raised : (c : tie.After-checked) → asked (c .before .before) ≡ lookedFor (c .before .before .args .k) (c .checked .result)
 unfolding searched
 raised c =
     let a = c .before .before .args in
     ap (lookedFor (a .k)) (sym (checked-power (a .x) (a .m)) ∙ sym (ap checked (c .before .whole-power .ensures)) ∙ sym (c .checked .ensures))
 
 -- and the crossing, as it was found
-told : (c : tie.After-crossing) → rootOf (c .crossing .result) ≡ searched (c .before .before .before .before .before .before .before .before .args .m) (c .before .before .before .before .before .before .before .before .args .k) (c .before .before .before .before .before .before .before .before .args .x)
+told : (c : tie.After-crossing) → rootOf (c .crossing .result) ≡ asked (c .before .before .before .before .before .before .before .before)
 told c =
     let t = c .before .before .before .before in
     ap rootOf (c .crossing .ensures) ∙ sym (raised (t .before .before) ∙ ap (lookedFor _) (t .t .given .1))

@@ -1,10 +1,10 @@
 -- Eight places are set, and there are eight. Assumes nothing.
 use native.Mathlib.Omega.{arith}
 use lib.ListN.{length-set}
-use Rattle.interface.proofs.Interfaces.{laid-over}
+use Rattle.interface.proofs.Interfaces.{eight-over}
 use borrow.Author.Needs.{needs}
-use Rattle.interface.proofs.lay.Statement.{statement}
-use Rattle.interface.proofs.lay.Tie as tie
+use Rattle.interface.proofs.put_eight.Statement.{statement}
+use Rattle.interface.proofs.put_eight.Tie as tie
 
 slice-write-figures-2 : tie.Need-slice-write-figures-2
 slice-write-figures-2 c = simp length-set (omega arith)
@@ -25,10 +25,10 @@ slice-write-figures-7 : tie.Need-slice-write-figures-7
 slice-write-figures-7 c = simp length-set (omega arith)
 
 returns : tie.Need-returns
-returns c = laid-over _ _ (c .pre)
+returns c = eight-over _ _ (c .pre)
 
-pub lay-spec : {M : Type 1} → statement M
-lay-spec =
+pub put-eight-spec : {M : Type 1} → statement M
+put-eight-spec =
     tie.close
     (tie.spec
     (λ c. search needs)

@@ -3,10 +3,10 @@ use mathlib.Core.Path.{sym, ap, _∙_}
 use borrow.Author.Needs.{needs}
 use denote.Ref.{now}
 use Rattle.door_answers.specs.declared.Answer.{Answer}
-use Rattle.interface.specs.Interface.{told, held}
+use Rattle.interface.specs.Interface.{numberOf, figuresOf}
 use Rattle.interface.proofs.Interfaces.{too-few, enough}
-use Rattle.interface.proofs.hand.Statement.{statement}
-use Rattle.interface.proofs.hand.Tie as tie
+use Rattle.interface.proofs.put_answer.Statement.{statement}
+use Rattle.interface.proofs.put_answer.Tie as tie
 
 returns : tie.Need-returns
 returns c = too-few _ _ (c .if1 .taken)
@@ -17,15 +17,17 @@ returns-2 c =
     let k = l .before .before .before in
     let f = k .before .before in
     let old = now (f .before .before .args .figures) in
-    enough _ _ _ _ (f .if1 .left) (c .phase-number .ensures ∙ ap told (sym (k .a .given .1))) (l .lay .ensures ∙ ap (λ (a : Answer). held a old) (sym (k .a .given .1)))
+    let e = sym (k .a .given .1) in
+    enough _ _ _ _ (f .if1 .left) (c .phase-number .ensures ∙ ap numberOf e) (l .put-eight .ensures ∙ ap (λ (a : Answer). figuresOf a old) e)
 
 returns-3 : tie.Need-returns-3
 returns-3 c =
     let b = c .before .before .before .before .before .args in
-    enough _ _ _ _ (c .before .before .before .if1 .left) (ap told (sym (c .before .a2 .given .1))) (ap (λ (a : Answer). held a (now (b .figures))) (sym (c .before .a2 .given .1)))
+    let e = sym (c .before .a2 .given .1) in
+    enough _ _ _ _ (c .before .before .before .if1 .left) (ap numberOf e) (ap (λ (a : Answer). figuresOf a (now (b .figures))) e)
 
-pub hand-spec : {M : Type 1} → statement M
-hand-spec =
+pub put-answer-spec : {M : Type 1} → statement M
+put-answer-spec =
     tie.close
     (tie.spec
     returns

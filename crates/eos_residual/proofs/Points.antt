@@ -1,0 +1,39 @@
+-- What a point holds, by the density that it was worked at. Assumes nothing.
+use mathlib.Core.Path.{_≡_, sym, ap, _∙_}
+use mathlib.Core.List.{List}
+use lib.ListN.{getD}
+use lib.Ieee.{Float, nan}
+use Rattle.num_powers.specs.Power.{powers}
+use Rattle.num_formulas.specs.Formula.{value}
+use Rattle.eos_rows.specs.Row.{row40, row42}
+use Rattle.eos_isotherm.specs.declared.Isotherm.{Isotherm}
+use Rattle.eos_non_analytic.specs.Parts.{around, psi}
+use Rattle.eos_residual.specs.declared.term.Point.{Point}
+use Rattle.eos_residual.specs.Term.{point, decays, bells, psis}
+
+module _ (iso : Isotherm) (p : Point) (e : p ≡ point iso (p .delta)) where
+  pub its-powers : powers 10 (p .delta) ≡ p .powers
+  unfolding point
+  its-powers = sym (ap (λ (q : Point). q .powers) e)
+
+  pub its-decays : decays (p .delta) ≡ p .decays
+  unfolding point
+  its-decays = sym (ap (λ (q : Point). q .decays) e)
+
+  pub its-bells : bells (iso .bell) (p .delta) ≡ p .bells
+  unfolding point
+  its-bells = sym (ap (λ (q : Point). q .bells) e)
+
+  -- Ψ of rows 40 and 41, and of row 42
+  pub first-psi : getD (p .psis) 0 nan ≡ value (psi row40 (around (p .delta)) (iso .psi))
+  unfolding point psis
+  first-psi = ap (λ (q : Point). getD (q .psis) 0 nan) e
+
+  pub other-psi : getD (p .psis) 1 nan ≡ value (psi row42 (around (p .delta)) (iso .psi))
+  unfolding point psis
+  other-psi = ap (λ (q : Point). getD (q .psis) 1 nan) e
+
+-- the point at a density is that of its own density
+pub own : (iso : Isotherm) (delta : Float) (p : Point) → p ≡ point iso delta → (p ≡ point iso (p .delta)) × (p .delta ≡ delta)
+unfolding point
+own iso delta p e = let d = ap (λ (q : Point). q .delta) e in (e ∙ ap (point iso) (sym d), d)

@@ -5,17 +5,29 @@ use mathlib.Core.Option.{some}
 use Prim.Native.Nat.{ℕ}
 use lib.Dec.{eqb}
 use borrow.Author.Tests.{eqb-true}
+use Rattle.num_working.proofs.Cases.{by-test}
 use Rattle.sheet_text.specs.Parse.{byte}
 use Rattle.sheet_text.specs.Field.{Small, fieldText, fieldTo, fieldAfter}
-use Rattle.sheet_text.proofs.Parses.{All, bind-all, pass-all, Says, cond-says, then-says, byte-back, byte-says}
+use Rattle.sheet_text.proofs.Parses.{All, bind-all, pass-all, Says, then-says, byte-back, byte-says}
 use Rattle.sheet_text.proofs.Printed.{to-back, to-says, to-small, after-back, after-says, after-small}
 use Rattle.sheet_line.specs.Cylinder.{kindLetter, cylinderText, AllSmall, kind, reading, cylinder}
 use Rattle.sheet_line.specs.declared.cylinder.Kind.{Kind}
 use Rattle.sheet_line.specs.declared.cylinder.Kind.the-variants.{Pressure, Density}
 use Rattle.sheet_line.specs.declared.cylinder.Cylinder.{Cylinder}
 
--- the text of a line with what follows it
-pub opened : (c : Cylinder) (rest : List ℕ) → cylinderText c ++ rest ≡ 67 ∷ 32 ∷ fieldText (c .number) ++ (32 ∷ fieldText (c .temperature) ++ (32 ∷ kindLetter (c .kind) ∷ 32 ∷ fieldText (c .value) ++ (32 ∷ fieldText (c .volume) ++ (10 ∷ rest))))
+-- ---- the text of a line with what follows it, part by part
+
+abbrev volumed : Cylinder → List ℕ → List ℕ
+volumed c rest = fieldText (c .volume) ++ (10 ∷ rest)
+
+abbrev valued : Cylinder → List ℕ → List ℕ
+valued c rest = fieldText (c .value) ++ (32 ∷ volumed c rest)
+
+abbrev read : Cylinder → List ℕ → List ℕ
+read c rest = kindLetter (c .kind) ∷ 32 ∷ valued c rest
+
+pub opened : (c : Cylinder) (rest : List ℕ)
+    → cylinderText c ++ rest ≡ 67 ∷ 32 ∷ fieldText (c .number) ++ (32 ∷ fieldText (c .temperature) ++ (32 ∷ read c rest))
 unfolding cylinderText
 opened c rest = simp append-assoc
 
@@ -31,11 +43,11 @@ unfolding cylinder reading
 cylinder-back c w rest =
     rw (opened c rest)
     (rw (
-      after-back 67 32 refl (c .number) (w .number) (fieldText (c .temperature) ++ (32 ∷ kindLetter (c .kind) ∷ 32 ∷ fieldText (c .value) ++ (32 ∷ fieldText (c .volume) ++ (10 ∷ rest)))),
-      to-back 32 refl (c .temperature) (w .temperature) (kindLetter (c .kind) ∷ 32 ∷ fieldText (c .value) ++ (32 ∷ fieldText (c .volume) ++ (10 ∷ rest))),
-      kind-back (c .kind) (32 ∷ fieldText (c .value) ++ (32 ∷ fieldText (c .volume) ++ (10 ∷ rest))),
-      byte-back 32 (fieldText (c .value) ++ (32 ∷ fieldText (c .volume) ++ (10 ∷ rest))),
-      to-back 32 refl (c .value) (w .value) (fieldText (c .volume) ++ (10 ∷ rest)),
+      after-back 67 32 refl (c .number) (w .number) (fieldText (c .temperature) ++ (32 ∷ read c rest)),
+      to-back 32 refl (c .temperature) (w .temperature) (read c rest),
+      kind-back (c .kind) (32 ∷ valued c rest),
+      byte-back 32 (valued c rest),
+      to-back 32 refl (c .value) (w .value) (volumed c rest),
       to-back 10 refl (c .volume) (w .volume) rest,
     ))
 
@@ -45,8 +57,8 @@ kind-says : (u : List ℕ) → Says (λ (k : Kind). kindLetter k ∷ []) u (kind
 unfolding kind
 kind-says [] = tt
 kind-says (x ∷ rest) =
-    cond-says (λ (k : Kind). kindLetter k ∷ []) _ (eqb x 80) _ _ (λ e. ap (λ (y : ℕ). y ∷ rest) (eqb-true x 80 e))
-    (λ _. cond-says (λ (k : Kind). kindLetter k ∷ []) _ (eqb x 68) _ _ (λ e. ap (λ (y : ℕ). y ∷ rest) (eqb-true x 68 e)) (λ _. tt))
+    by-test (Says (λ (k : Kind). kindLetter k ∷ []) (x ∷ rest)) (eqb x 80) _ _ (λ e. ap (λ (y : ℕ). y ∷ rest) (eqb-true x 80 e))
+    (λ _. by-test (Says (λ (k : Kind). kindLetter k ∷ []) (x ∷ rest)) (eqb x 68) _ _ (λ e. ap (λ (y : ℕ). y ∷ rest) (eqb-true x 68 e)) (λ _. tt))
 
 pub cylinder-says : (u : List ℕ) → Says cylinderText u (cylinder u)
 unfolding cylinder reading
@@ -57,7 +69,9 @@ cylinder-says u =
     (λ k u₃ e₃. then-says _ cylinderText u₃ u (byte 32 u₃) _ (byte-says 32 u₃)
     (λ _ u₄ e₄. then-says _ cylinderText u₄ u (fieldTo 32 u₄) _ (to-says 32 u₄)
     (λ v u₅ e₅. then-says _ cylinderText u₅ u (fieldTo 10 u₅) _ (to-says 10 u₅)
-    (λ m u₆ e₆. rw (opened _ u₆) (e₁ ∙ ap (λ (l : List ℕ). 67 ∷ 32 ∷ l) (append-assoc (fieldText n) (32 ∷ []) u₁) ∙ rw (e₂, e₃, e₄, e₅, e₆) (simp append-assoc))))))))
+    (λ m u₆ e₆.
+    rw (opened _ u₆)
+    (e₁ ∙ ap (λ (l : List ℕ). 67 ∷ 32 ∷ l) (append-assoc (fieldText n) (32 ∷ []) u₁) ∙ rw (e₂, e₃, e₄, e₅, e₆) (simp append-assoc))))))))
 
 -- ---- what is read has 10 digits at most
 

@@ -1,1 +1,1 @@
-pub mod Verdict
+pub mod Outcome

@@ -1,11 +1,41 @@
-// What a sheet comes to: whether it is sent back before its lines are worked, and its ending after.
+// What came of a line and of a sheet: whether the sheet is sent back before its lines are worked, and its ending after
+// (document 01, "Refusal numbers", "The sheet").
 ghost use mathlib.Core.Path.{_≡_};
-ghost use Rattle.sheet_outcome.specs.Verdict.{isNeed, checked, ending};
-use sheet_report::Ending;
+ghost use Rattle.sheet_outcome.specs.Outcome.{isNeed, needed, admitted, ending};
 use sheet_text::Field;
 
-// A sheet that is worked line by line, with its need in mg, or one that is sent back before.
-pub enum Checked {
+// A cylinder line's milligrams, or the number of its refusal.
+pub enum Weighed {
+    Mass(u64),
+    Refused(u8),
+}
+
+// An array holds structs: what came of a line, in one.
+pub struct Mark {
+    pub weighed: Weighed,
+}
+
+// The first `count` marks are the sheet's lines.
+pub struct Marks {
+    pub marks: [Mark; 32],
+    pub count: usize,
+}
+
+// The total's milligrams and what they come to, or the number that the sheet is sent back with.
+pub enum Ending {
+    Covered(u64),
+    Short(u64),
+    SentBack(u8),
+}
+
+// What came of a sheet. One that is sent back before its lines are worked has no marks.
+pub struct Outcome {
+    pub marks: Marks,
+    pub ending: Ending,
+}
+
+// A sheet whose lines are to be worked, with its need in mg, or one that is sent back before.
+pub enum Admitted {
     Need(u64),
     SentBack(u8),
 }
@@ -22,28 +52,35 @@ fn is_need(mg: u64) -> bool
     mg >= 1 && mg <= 9_999_999_999
 }
 
-pub fn check_sheet(ok: bool, count: usize, need: Field) -> Checked
-    ensures { λ r. ⌜ r ≡ checked ok count need ⌝ }
+fn need_of(need: Field) -> Admitted
+    ensures { λ r. ⌜ r ≡ needed need ⌝ }
 {
-    if !ok {
-        return Checked::SentBack(14);
-    }
-    if count == 0 {
-        return Checked::SentBack(10);
-    }
-    if count > 32 {
-        return Checked::SentBack(11);
-    }
     let Field::Number(mg) = need else {
-        return Checked::SentBack(12);
+        return Admitted::SentBack(12);
     };
     if is_need(mg) {
-        return Checked::Need(mg);
+        return Admitted::Need(mg);
     }
-    Checked::SentBack(12)
+    Admitted::SentBack(12)
 }
 
-pub fn ending(need: u64, t: Summed) -> Ending
+// ok: the text is in the form.
+pub fn admit(ok: bool, count: usize, need: Field) -> Admitted
+    ensures { λ r. ⌜ r ≡ admitted ok count need ⌝ }
+{
+    if !ok {
+        return Admitted::SentBack(14);
+    }
+    if count == 0 {
+        return Admitted::SentBack(10);
+    }
+    if count > 32 {
+        return Admitted::SentBack(11);
+    }
+    need_of(need)
+}
+
+pub fn conclude(need: u64, t: Summed) -> Ending
     ensures { λ r. ⌜ r ≡ ending need t ⌝ }
 {
     let Summed::Sum(mg) = t else {

@@ -1,7 +1,6 @@
 -- Reading and printing undo each other: what is printed is read back, and what is read is what the text has. So a text is in the form
 -- exactly where it is the printing of a sheet, and of one sheet.
 use mathlib.Core.Path.{_≡_, refl, sym, ap, subst, _∙_}
-use mathlib.Core.Bool.{Bool, true, false, cond}
 use mathlib.Core.List.{List, [], _∷_, _++_, append-assoc}
 use mathlib.Core.Logic.{_↔_}
 use mathlib.Core.Option.{Option, none, some, Option·map}
@@ -10,6 +9,7 @@ use native.Mathlib.Omega.{arith}
 use lib.Dec.{leb}
 use lib.ListN.{length, length-append}
 use borrow.Author.Tests.{le-leb, leb-true}
+use Rattle.num_working.proofs.Cases.{by-test}
 use Rattle.sheet_text.specs.Parse.{andThen}
 use Rattle.sheet_text.specs.Field.{Small, fieldText, fieldAfter}
 use Rattle.sheet_text.specs.declared.Field.{Field}
@@ -59,12 +59,14 @@ unfolding cylindersText
 end-whole [] o h = (refl, tt)
 end-whole (b ∷ rest) o h = h
 
-after-line : (u : List ℕ) (c : Cylinder) (r : List ℕ) → u ≡ cylinderText c ++ r → AllSmall c → (o : Option (List Cylinder)) → Whole r o → Whole u (Option·map (λ cs. c ∷ cs) o)
+after-line : (u : List ℕ) (c : Cylinder) (r : List ℕ) → u ≡ cylinderText c ++ r → AllSmall c
+    → (o : Option (List Cylinder)) → Whole r o → Whole u (Option·map (λ cs. c ∷ cs) o)
 unfolding cylindersText
 after-line u c r e a none g = tt
 after-line u c r e a (some cs) g = (e ∙ ap (λ (l : List ℕ). cylinderText c ++ l) (g .0), (a, g .1))
 
-line-whole : (u : List ℕ) (o : Option (Cylinder × List ℕ)) (f : List ℕ → Option (List Cylinder)) → Says cylinderText u o → All AllSmall o → ((r : List ℕ) → Whole r (f r)) → Whole u (andThen o (λ c rest. Option·map (λ cs. c ∷ cs) (f rest)))
+line-whole : (u : List ℕ) (o : Option (Cylinder × List ℕ)) (f : List ℕ → Option (List Cylinder))
+    → Says cylinderText u o → All AllSmall o → ((r : List ℕ) → Whole r (f r)) → Whole u (andThen o (λ c rest. Option·map (λ cs. c ∷ cs) (f rest)))
 line-whole u none f h a k = tt
 line-whole u (some p) f h a k = after-line u (p .0) (p .1) h a (f (p .1)) (k (p .1))
 
@@ -79,14 +81,19 @@ module _ (t : List ℕ) where
   Is (some b) = (t ≡ text b) × Fair b × (length t ≤ 65536)
 
   module _ (h : length t ≤ 65536) where
-    with-need : (need : Field) (r : List ℕ) → t ≡ 78 ∷ 32 ∷ fieldText need ++ (10 ∷ r) → Small need → (o : Option (List Cylinder)) → Whole r o → Is (withNeed need o)
+    with-need : (need : Field) (r : List ℕ) → t ≡ 78 ∷ 32 ∷ fieldText need ++ (10 ∷ r) → Small need
+        → (o : Option (List Cylinder)) → Whole r o → Is (withNeed need o)
     unfolding text
     with-need need r e a none g = tt
     with-need need r e a (some cs) g = (e ∙ ap (λ (l : List ℕ). 78 ∷ 32 ∷ fieldText need ++ (10 ∷ l)) (g .0), record { need = a; cylinders = g .1 }, h)
 
-    after-need : (k : ℕ) (o : Option (Field × List ℕ)) → Says (λ (f : Field). 78 ∷ 32 ∷ fieldText f ++ (10 ∷ [])) t o → All Small o → Is (andThen o (λ need rest. withNeed need (cylinders k rest)))
+    after-need : (k : ℕ) (o : Option (Field × List ℕ)) → Says (λ (f : Field). 78 ∷ 32 ∷ fieldText f ++ (10 ∷ [])) t o → All Small o
+        → Is (andThen o (λ need rest. withNeed need (cylinders k rest)))
     after-need k none e a = tt
-    after-need k (some p) e a = with-need (p .0) (p .1) (e ∙ ap (λ (l : List ℕ). 78 ∷ 32 ∷ l) (append-assoc (fieldText (p .0)) (10 ∷ []) (p .1))) a (cylinders k (p .1)) (cylinders-whole k (p .1))
+    after-need k (some p) e a =
+        with-need (p .0) (p .1)
+        (e ∙ ap (λ (l : List ℕ). 78 ∷ 32 ∷ l) (append-assoc (fieldText (p .0)) (10 ∷ []) (p .1)))
+        a (cylinders k (p .1)) (cylinders-whole k (p .1))
 
     bank-is : (k : ℕ) → Is (bank k t)
     unfolding bank
@@ -94,11 +101,7 @@ module _ (t : List ℕ) where
 
   in-form-is : Is (inForm t)
   unfolding inForm
-  in-form-is = go (leb (length t) 65536) refl
-    where
-      go : (b : Bool) → leb (length t) 65536 ≡ b → Is (cond b (bank (length t) t) none)
-      go true e = bank-is (leb-true (length t) 65536 e) (length t)
-      go false e = tt
+  in-form-is = by-test Is (leb (length t) 65536) _ _ (λ e. bank-is (leb-true (length t) 65536 e) (length t)) (λ _. tt)
 
 -- THE FORM: a text is read as the bank b exactly where it is the printing of b, the numbers of b have 10 digits at most, and it has 65,536 bytes at most
 pub the-form : (t : List ℕ) (b : Bank) → (inForm t ≡ some b) ↔ ((t ≡ text b) × Fair b × (length t ≤ 65536))

@@ -83,7 +83,8 @@ first s from h =
     record { cs = []; counted = refl; held = refl; rest = rw (z, after-none); passed = omega arith; within = h }
 
 module _ (s : List ℕ) (from : ℕ) (lines : List Line) (count at : ℕ) (t : Turn s from lines count at) where
-  pub done : (need : Field) → length s ≤ at → record { ok = true; sheet = record { need = need; lines = lines; count = count } } ≡ sheetRead (withNeed need (cylinders (length s) (drop from s)))
+  pub done : (need : Field) → length s ≤ at
+      → record { ok = true; sheet = record { need = need; lines = lines; count = count } } ≡ sheetRead (withNeed need (cylinders (length s) (drop from s)))
   unfolding sheetRead sheetOf
   done need h = rw (t .rest, drop-of-length-le s h, cylinders-end, append-nil, t .held, t .counted)
 
@@ -101,13 +102,20 @@ module _ (s : List ℕ) (from : ℕ) (lines : List Line) (count at : ℕ) (t : T
     pub bad : line (drop at s) ≡ none → cylinders (length s) (drop from s) ≡ none
     bad e = t .rest ∙ rw (left, cylinders-bad _ (drop at s) _ _ (front s at h) (no-line (drop at s) e))
 
-    pub more : (c : Cylinder) (next : ℕ) → cylinder (drop at s) ≡ some (c, drop next s) → at < next → next ≤ length s → (lines′ : List Line) → lines′ ≡ kept (t .cs ++ (c ∷ [])) → Turn s from lines′ (count + 1) next
+    one-more : (c : Cylinder) (v : List ℕ) → cylinder (drop at s) ≡ some (c, v)
+        → after (t .cs) (cylinders (suc (length s - (count + 1))) (drop at s)) ≡ after (t .cs ++ (c ∷ [])) (cylinders (length s - (count + 1)) v)
+    one-more c v e =
+        ap (after (t .cs)) (cylinders-more _ (drop at s) _ _ (front s at h) c v e)
+        ∙ after-more (t .cs) c (cylinders (length s - (count + 1)) v)
+
+    pub more : (c : Cylinder) (next : ℕ) → cylinder (drop at s) ≡ some (c, drop next s) → at < next → next ≤ length s
+        → (lines′ : List Line) → lines′ ≡ kept (t .cs ++ (c ∷ [])) → Turn s from lines′ (count + 1) next
     more c next e l m lines′ k =
         record {
           cs = t .cs ++ (c ∷ []);
           counted = simp length-append (omega (arith, t .counted));
           held = k;
-          rest = t .rest ∙ rw left (ap (after (t .cs)) (cylinders-more _ (drop at s) _ _ (front s at h) c (drop next s) e) ∙ after-more (t .cs) c (cylinders (length s - (count + 1)) (drop next s)));
+          rest = t .rest ∙ rw left (one-more c (drop next s) e);
           passed = omega (arith, t .passed);
           within = m;
         }

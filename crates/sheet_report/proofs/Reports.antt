@@ -1,18 +1,19 @@
 -- The report's parts: how long each is, and the lines one after the other. Assumes nothing.
-use mathlib.Core.Path.{_≡_, refl, sym, ap, _∙_}
-use mathlib.Core.List.{List, [], _++_, map, append-assoc, append-nil}
+use mathlib.Core.Path.{_≡_, refl, ap, _∙_}
+use mathlib.Core.List.{List, [], _++_, append-assoc, append-nil}
 use Prim.Native.Nat.{ℕ, _+_, _≤_, _<_}
 use native.Mathlib.Numerals.{add-one}
 use native.Mathlib.Omega.{arith}
-use lib.ListN.{length, drop, getD, length-append, length-take, length-map, drop-of-length-le}
+use lib.ListN.{length, drop, getD, length-append, length-take, drop-of-length-le}
 use lib.Seq.{drop-cons, getD-take}
 use Rattle.sheet_text.specs.Decimal.{decimal}
 use Rattle.sheet_write.specs.Writing.{ascii, Wrote}
 use Rattle.sheet_write.proofs.Writings.{nothing, from, back, long, inside, room, then}
-use Rattle.sheet_report.specs.Report.{weighedBytes, lineBytes, linesBytes, marksOf}
-use Rattle.sheet_report.specs.declared.Weighed.{Weighed}
-use Rattle.sheet_report.specs.declared.Mark.{Mark}
-use Rattle.sheet_report.specs.declared.Marks.{Marks}
+use Rattle.sheet_outcome.specs.Outcome.{marksOf}
+use Rattle.sheet_outcome.specs.declared.Weighed.{Weighed}
+use Rattle.sheet_outcome.specs.declared.Marks.{Marks}
+use Rattle.sheet_outcome.proofs.Arrays.{pastEnd, markAt}
+use Rattle.sheet_report.specs.Report.{weighedBytes, lineBytes, linesBytes}
 
 pub between-length : (front : List ℕ) (n : ℕ) (back : List ℕ) → length (front ++ decimal n ++ back) ≡ length front + (length (decimal n) + length back)
 between-length front n back = simp length-append (omega arith)
@@ -28,21 +29,14 @@ number-of (Weighed.Refused number) = number
 
 pub line-size : (i : ℕ) (w : Weighed) → length (lineBytes i w) ≡ length (decimal i) + length (decimal (number-of w)) + 6
 unfolding weighedBytes
-line-size i (Weighed.Mass mg) = omega (arith, line-length i (Weighed.Mass mg), between-length (ascii "L ") i (ascii " "), between-length (ascii "M ") mg (ascii "\n"))
-line-size i (Weighed.Refused n) = omega (arith, line-length i (Weighed.Refused n), between-length (ascii "L ") i (ascii " "), between-length (ascii "R ") n (ascii "\n"))
+line-size i (Weighed.Mass mg) =
+    let front = between-length (ascii "L ") i (ascii " ") in
+    omega (arith, line-length i (Weighed.Mass mg), front, between-length (ascii "M ") mg (ascii "\n"))
+line-size i (Weighed.Refused n) =
+    let front = between-length (ascii "L ") i (ascii " ") in
+    omega (arith, line-length i (Weighed.Refused n), front, between-length (ascii "R ") n (ascii "\n"))
 
 -- ---- the marks of a sheet's lines
-
--- of an array of structs the length of its elements' values is known
-pub unmapped : (X Y : Type 0) (f : X → Y) (l : List X) (n : ℕ) → length (map f l) ≡ n → length l ≡ n
-unmapped X Y f l n p = sym (length-map l f) ∙ p
-
--- what is read past an array's end
-abbrev pub noMark : Mark
-noMark = record { weighed = Weighed.Mass 0 }
-
-abbrev pub markAt : Marks → ℕ → Mark
-markAt m i = getD (m .marks) i noMark
 
 -- the lines after the first i
 abbrev pub linesAfter : ℕ → Marks → List ℕ
@@ -52,8 +46,8 @@ module _ (m : Marks) (i : ℕ) where
   pub next-line : i < length (marksOf m) → linesAfter i m ≡ lineBytes (i + 1) (markAt m i .weighed) ++ linesAfter (i + 1) m
   unfolding linesBytes
   next-line h =
-      let e : getD (marksOf m) i noMark ≡ markAt m i = getD-take (m .count) (m .marks) i noMark (omega (arith, length-take (m .count) (m .marks))) in
-      rw (drop-cons (marksOf m) i noMark h, e, add-one i)
+      let e : getD (marksOf m) i pastEnd ≡ markAt m i = getD-take (m .count) (m .marks) i pastEnd (omega (arith, length-take (m .count) (m .marks))) in
+      rw (drop-cons (marksOf m) i pastEnd h, e, add-one i)
 
   pub next-length : i < length (marksOf m) → length (linesAfter i m) ≡ length (lineBytes (i + 1) (markAt m i .weighed)) + length (linesAfter (i + 1) m)
   next-length h = simp length-append at (ap length (next-line h))

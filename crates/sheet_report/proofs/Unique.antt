@@ -1,4 +1,5 @@
--- No second answer meets a public function's promise, and no other bytes: two runs over the same output leave the same answer and the same bytes. Assumes nothing.
+-- No second answer meets a public function's promise, and no other bytes: two runs over the same output leave the
+-- same answer and the same bytes. Assumes nothing.
 use mathlib.Core.Path.{_≡_, ap}
 use mathlib.Core.List.{List}
 use Prim.Native.Nat.{ℕ}

@@ -2,13 +2,14 @@
 use Prim.Native.Nat.{ℕ, _+_, _≤_, _<_}
 use mathlib.Core.Path.{_≡_}
 use mathlib.Core.List.{List, [], _∷_, _++_}
-use lib.ListN.{length, take}
+use lib.ListN.{length}
 use Rattle.sheet_text.specs.Decimal.{decimal}
 use Rattle.sheet_write.specs.Writing.{ascii, Wrote}
-use Rattle.sheet_report.specs.declared.Weighed.{Weighed}
-use Rattle.sheet_report.specs.declared.Mark.{Mark}
-use Rattle.sheet_report.specs.declared.Marks.{Marks}
-use Rattle.sheet_report.specs.declared.Ending.{Ending}
+use Rattle.sheet_outcome.specs.Outcome.{marksOf}
+use Rattle.sheet_outcome.specs.declared.Weighed.{Weighed}
+use Rattle.sheet_outcome.specs.declared.Mark.{Mark}
+use Rattle.sheet_outcome.specs.declared.Ending.{Ending}
+use Rattle.sheet_outcome.specs.declared.Outcome.{Outcome}
 use Rattle.sheet_report.specs.declared.Written.{Written}
 
 -- "`M mg`" or "`R no`", and the line's end
@@ -25,23 +26,15 @@ unfoldable pub linesBytes : ℕ → List Mark → List ℕ
 linesBytes i [] = []
 linesBytes i (m ∷ ms) = lineBytes i (m .weighed) ++ linesBytes (i + 1) ms
 
--- "Lines on a sheet 1 to 32": of the 32 marks the first `count` are the sheet's lines
-abbrev pub marksOf : Marks → List Mark
-marksOf m = take (m .count) (m .marks)
-
 -- "then `TOTAL mg COVERED` .. else `TOTAL mg SHORT`; with refusal 13 `SENT BACK 13` instead"
 unfoldable pub endingBytes : Ending → List ℕ
 endingBytes (Ending.Covered mg) = ascii "TOTAL " ++ decimal mg ++ ascii " COVERED\n"
 endingBytes (Ending.Short mg) = ascii "TOTAL " ++ decimal mg ++ ascii " SHORT\n"
 endingBytes (Ending.SentBack number) = ascii "SENT BACK " ++ decimal number ++ ascii "\n"
 
--- "with 10, 11, 12 or 14 the report is `SENT BACK` and that number, one line alone"
-abbrev pub sentBack : ℕ → List ℕ
-sentBack number = endingBytes (Ending.SentBack number)
-
 -- "i counts the cylinder lines from 1"
-unfoldable pub reportBytes : Marks → Ending → List ℕ
-reportBytes m e = linesBytes 1 (marksOf m) ++ endingBytes e
+unfoldable pub reportBytes : Outcome → List ℕ
+reportBytes o = linesBytes 1 (marksOf (o .marks)) ++ endingBytes (o .ending)
 
 -- what a function ensures that writes the report bs into the lent output o, which becomes xs
 -- 15, "report longer than the lent output", "leaves the output's every byte; otherwise bytes after the report's length are unchanged"

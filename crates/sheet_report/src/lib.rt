@@ -5,35 +5,16 @@ ghost use mathlib.Core.List.{_++_};
 ghost use Prim.Native.Nat.{_+_, _≤_};
 ghost use lib.ListN.{length};
 ghost use Rattle.sheet_text.specs.Decimal.{decimal};
+ghost use Rattle.sheet_outcome.specs.Outcome.{marksOf};
 ghost use Rattle.sheet_write.specs.Writing.{Wrote};
-ghost use Rattle.sheet_report.specs.Report.{weighedBytes, lineBytes, linesBytes, marksOf, endingBytes, reportBytes, ReportIs};
+ghost use Rattle.sheet_report.specs.Report.{weighedBytes, lineBytes, linesBytes, endingBytes, reportBytes, ReportIs};
+use sheet_outcome::Ending;
+use sheet_outcome::Marks;
+use sheet_outcome::Outcome;
+use sheet_outcome::Weighed;
 use sheet_write::number_len;
 use sheet_write::put;
 use sheet_write::put_number;
-
-// A cylinder line's milligrams, or the number of its refusal.
-pub enum Weighed {
-    Mass(u64),
-    Refused(u8),
-}
-
-// An array holds structs: what came of a line, in one.
-pub struct Mark {
-    pub weighed: Weighed,
-}
-
-// The first `count` marks are the sheet's lines.
-pub struct Marks {
-    pub marks: [Mark; 32],
-    pub count: usize,
-}
-
-// The total's milligrams and what they come to, or the number that the sheet is sent back with.
-pub enum Ending {
-    Covered(u64),
-    Short(u64),
-    SentBack(u8),
-}
 
 // How many bytes were written, or the number of the refusal.
 pub enum Written {
@@ -141,9 +122,11 @@ fn ending_len(e: Ending) -> usize
     }
 }
 
-pub fn write_report(out: &mut [u8], m: Marks, e: Ending) -> Written
-    ensures { λ r. ⌜ ReportIs (now (out .entry)) (now (out .exit)) (reportBytes m e) r ⌝ }
+pub fn write_report(out: &mut [u8], o: Outcome) -> Written
+    ensures { λ r. ⌜ ReportIs (now (out .entry)) (now (out .exit)) (reportBytes o) r ⌝ }
 {
+    let m = o.marks;
+    let e = o.ending;
     let long = lines_len(m) + ending_len(e);
     if long > out.len() {
         return Written::Refused(TOO_LONG);

@@ -36,7 +36,9 @@ pub digits-most : (k n : ℕ) → n < 10 ^ suc k → length (decimal n) ≤ suc 
 digits-most zero n h = by-size n 1 (omega arith) (decLt n 10) (λ l. absurd (omega arith))
 digits-most (suc k) n h =
     by-size n (suc (suc k)) (omega arith) (decLt n 10)
-    (λ l. let ih : length (decimal (n / 10)) ≤ suc k = digits-most k (n / 10) (div-lt-iff-lt-mul (omega arith) .1 (rw pow-suc at h)) in rw (decimal-large n l, length-append) (omega arith))
+    (λ l.
+    let ih : length (decimal (n / 10)) ≤ suc k = digits-most k (n / 10) (div-lt-iff-lt-mul (omega arith) .1 (rw pow-suc at h)) in
+    rw (decimal-large n l, length-append) (omega arith))
 
 pub length-small : (n : ℕ) → n < 10 → length (decimal n) ≡ 1
 length-small n h = rw (decimal-small n h)

@@ -1,6 +1,6 @@
 -- One step of reading a field, by what stands at the place.
-use mathlib.Core.Path.{_≡_, refl}
-use mathlib.Core.Bool.{Bool, true, false, _&&_}
+use mathlib.Core.Path.{_≡_}
+use mathlib.Core.Bool.{true, false, and-eq-true-iff}
 use mathlib.Core.List.{List}
 use mathlib.Core.Option.{none, some}
 use Prim.Native.Nat.{ℕ, _+_, _-_, _*_, _≤_, _<_}
@@ -13,20 +13,11 @@ use Rattle.sheet_text.specs.declared.Field.{Field}
 use Rattle.sheet_text.specs.declared.Field.the-variants.{Blank, Number}
 use Rattle.sheet_text.proofs.Parses.{front}
 
-and-left : (x y : Bool) → (x && y) ≡ true → x ≡ true
-and-left true y e = refl
-and-left false y e = e
-
-and-right : (x y : Bool) → (x && y) ≡ true → y ≡ true
-and-right true y e = e
-and-right false true e = refl
-and-right false false e = e
-
 pub digit-low : (b : ℕ) → digit b ≡ true → 48 ≤ b
-digit-low b e = leb-true 48 b (and-left (leb 48 b) (leb b 57) e)
+digit-low b e = leb-true 48 b (and-eq-true-iff (leb 48 b) (leb b 57) .0 e .0)
 
 pub digit-high : (b : ℕ) → digit b ≡ true → b ≤ 57
-digit-high b e = leb-true b 57 (and-right (leb 48 b) (leb b 57) e)
+digit-high b e = leb-true b 57 (and-eq-true-iff (leb 48 b) (leb b 57) .0 e .1)
 
 module _ (s : List ℕ) (at : ℕ) where
   pub field-end : length s ≤ at → field (drop at s) ≡ none
@@ -42,7 +33,8 @@ module _ (s : List ℕ) (at : ℕ) where
     unfolding field
     field-bad n e = rw (front s at h, ne-eqb _ _ n, e)
 
-    pub field-digits : (getD s at 0 ≡ 45 → ⊥) → digit (getD s at 0) ≡ true → (v : ℕ) → v ≡ getD s at 0 - 48 → field (drop at s) ≡ digitsAfter v (drop (at + 1) s)
+    pub field-digits : (getD s at 0 ≡ 45 → ⊥) → digit (getD s at 0) ≡ true → (v : ℕ) → v ≡ getD s at 0 - 48
+        → field (drop at s) ≡ digitsAfter v (drop (at + 1) s)
     unfolding field
     field-digits n e v ev = rw (front s at h, ne-eqb _ _ n, e, ev)
 

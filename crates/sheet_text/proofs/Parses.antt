@@ -1,6 +1,5 @@
 -- What holds of whatever a parser reads: a property of it (`All`), and that the text is its printing (`Says`). And the byte that stands at a place.
 use mathlib.Core.Path.{_≡_, refl, ap}
-use mathlib.Core.Bool.{Bool, true, false, cond}
 use mathlib.Core.List.{List, [], _∷_, _++_}
 use mathlib.Core.Option.{Option, none, some}
 use Prim.Native.Nat.{ℕ, _+_, _≤_, _<_}
@@ -10,6 +9,7 @@ use lib.Dec.{eqb}
 use lib.ListN.{length, drop, getD, drop-of-length-le}
 use lib.Seq.{drop-cons}
 use borrow.Author.Tests.{ne-eqb, eq-eqb, eqb-true}
+use Rattle.num_working.proofs.Cases.{by-test}
 use Rattle.sheet_text.specs.Parse.{Parser, andThen, byte}
 
 -- ---- a property of what is read
@@ -18,7 +18,8 @@ abbrev pub All : {A : Type 0} → (A → Type 0) → Option (A × List ℕ) → 
 All P none = Unit {0}
 All P (some p) = P (p .0)
 
-pub bind-all : {A B : Type 0} (P : A → Type 0) (Q : B → Type 0) (o : Option (A × List ℕ)) (f : A → Parser B) → All P o → ((a : A) (r : List ℕ) → P a → All Q (f a r)) → All Q (andThen o f)
+pub bind-all : {A B : Type 0} (P : A → Type 0) (Q : B → Type 0) (o : Option (A × List ℕ)) (f : A → Parser B)
+    → All P o → ((a : A) (r : List ℕ) → P a → All Q (f a r)) → All Q (andThen o f)
 bind-all P Q none f h k = tt
 bind-all P Q (some p) f h k = k (p .0) (p .1) h
 
@@ -26,25 +27,19 @@ pub pass-all : {A B : Type 0} (Q : B → Type 0) (o : Option (A × List ℕ)) (f
 pass-all Q none f k = tt
 pass-all Q (some p) f k = k (p .0) (p .1)
 
-pub cond-all : {A : Type 0} (P : A → Type 0) (t : Bool) (x y : Option (A × List ℕ)) → (t ≡ true → All P x) → (t ≡ false → All P y) → All P (cond t x y)
-cond-all P true x y h k = h refl
-cond-all P false x y h k = k refl
-
 -- ---- where o has read something of w, w is the text of that and then the rest
 
 abbrev pub Says : {A : Type 0} → (A → List ℕ) → List ℕ → Option (A × List ℕ) → Type 0
 Says pr w none = Unit {0}
 Says pr w (some p) = w ≡ pr (p .0) ++ p .1
 
-pub cond-says : {A : Type 0} (pr : A → List ℕ) (w : List ℕ) (t : Bool) (x y : Option (A × List ℕ)) → (t ≡ true → Says pr w x) → (t ≡ false → Says pr w y) → Says pr w (cond t x y)
-cond-says pr w true x y h k = h refl
-cond-says pr w false x y h k = k refl
-
-pub then-says : {A B : Type 0} (pa : A → List ℕ) (pb : B → List ℕ) (u w : List ℕ) (o : Option (A × List ℕ)) (f : A → Parser B) → Says pa u o → ((a : A) (r : List ℕ) → u ≡ pa a ++ r → Says pb w (f a r)) → Says pb w (andThen o f)
+pub then-says : {A B : Type 0} (pa : A → List ℕ) (pb : B → List ℕ) (u w : List ℕ) (o : Option (A × List ℕ)) (f : A → Parser B)
+    → Says pa u o → ((a : A) (r : List ℕ) → u ≡ pa a ++ r → Says pb w (f a r)) → Says pb w (andThen o f)
 then-says pa pb u w none f h k = tt
 then-says pa pb u w (some p) f h k = k (p .0) (p .1) h
 
-pub longer-says : {A : Type 0} (pa pb : A → List ℕ) (u w : List ℕ) (o : Option (A × List ℕ)) → Says pa u o → ((a : A) (r : List ℕ) → u ≡ pa a ++ r → w ≡ pb a ++ r) → Says pb w o
+pub longer-says : {A : Type 0} (pa pb : A → List ℕ) (u w : List ℕ) (o : Option (A × List ℕ))
+    → Says pa u o → ((a : A) (r : List ℕ) → u ≡ pa a ++ r → w ≡ pb a ++ r) → Says pb w o
 longer-says pa pb u w none h k = tt
 longer-says pa pb u w (some p) h k = k (p .0) (p .1) h
 
@@ -84,4 +79,4 @@ byte-back b rest = rw (eq-eqb b b refl)
 pub byte-says : (b : ℕ) (u : List ℕ) → Says (λ (_ : Unit {0}). b ∷ []) u (byte b u)
 unfolding byte
 byte-says b [] = tt
-byte-says b (x ∷ rest) = cond-says (λ (_ : Unit {0}). b ∷ []) _ (eqb x b) _ _ (λ e. ap (λ (y : ℕ). y ∷ rest) (eqb-true x b e)) (λ _. tt)
+byte-says b (x ∷ rest) = by-test (Says (λ (_ : Unit {0}). b ∷ []) (x ∷ rest)) (eqb x b) _ _ (λ e. ap (λ (y : ℕ). y ∷ rest) (eqb-true x b e)) (λ _. tt)

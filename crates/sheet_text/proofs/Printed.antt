@@ -8,13 +8,14 @@ use native.Mathlib.Decide.{decLt}
 use native.Mathlib.Omega.{arith}
 use lib.Dec.{eqb, leb}
 use borrow.Author.Tests.{le-leb, lt-leb, ne-eqb, eqb-true, eqb-false, leb-false}
+use Rattle.num_working.proofs.Cases.{by-test}
 use Rattle.sheet_text.specs.Parse.{byte}
 use Rattle.sheet_text.specs.Decimal.{decimal}
 use Rattle.sheet_text.specs.Field.{Small, digit, fieldText, field, digitsAfter, fieldTo, fieldAfter}
 use Rattle.sheet_text.specs.declared.Field.{Field}
 use Rattle.sheet_text.specs.declared.Field.the-variants.{Blank, Number}
 use Rattle.sheet_text.proofs.Decimals.{decimal-small, decimal-large}
-use Rattle.sheet_text.proofs.Parses.{All, bind-all, pass-all, cond-all, Says, cond-says, then-says, longer-says, byte-back, byte-says}
+use Rattle.sheet_text.proofs.Parses.{All, bind-all, pass-all, Says, then-says, longer-says, byte-back, byte-says}
 use Rattle.sheet_text.proofs.Fields.{digit-low, digit-high, to-some}
 
 -- ---- what is printed is read back
@@ -56,9 +57,11 @@ field-back sep e (Number n) h rest = digits-back n n (omega arith) h (sep ∷ re
 pub to-back : (sep : ℕ) → digit sep ≡ false → (f : Field) → Small f → (rest : List ℕ) → fieldTo sep (fieldText f ++ (sep ∷ rest)) ≡ some (f, rest)
 to-back sep e f h rest = to-some sep _ (field-back sep e f h rest) (byte-back sep rest)
 
-pub after-back : (letter sep : ℕ) → digit sep ≡ false → (f : Field) → Small f → (rest : List ℕ) → fieldAfter letter sep (letter ∷ 32 ∷ fieldText f ++ (sep ∷ rest)) ≡ some (f, rest)
+pub after-back : (letter sep : ℕ) → digit sep ≡ false → (f : Field) → Small f → (rest : List ℕ)
+    → fieldAfter letter sep (letter ∷ 32 ∷ fieldText f ++ (sep ∷ rest)) ≡ some (f, rest)
 unfolding fieldAfter
-after-back letter sep e f h rest = rw (byte-back letter (32 ∷ fieldText f ++ (sep ∷ rest)), byte-back 32 (fieldText f ++ (sep ∷ rest))) (to-back sep e f h rest)
+after-back letter sep e f h rest =
+    rw (byte-back letter (32 ∷ fieldText f ++ (sep ∷ rest)), byte-back 32 (fieldText f ++ (sep ∷ rest))) (to-back sep e f h rest)
 
 -- ---- what is read is what the text has
 
@@ -72,19 +75,22 @@ digits-say : (v : ℕ) (u : List ℕ) → Says fieldText (decimal v ++ u) (digit
 unfolding digitsAfter fieldText
 digits-say v [] = refl
 digits-say v (b ∷ rest) =
-    cond-says fieldText _ (digit b) _ _
-    (λ d. cond-says fieldText _ (eqb v 0) _ _ (λ _. tt)
-    (λ z. cond-says fieldText _ (leb 10_000_000_000 (v * 10 + (b - 48))) _ _ (λ _. tt)
-    (λ _. let e : decimal (v * 10 + (b - 48)) ++ rest ≡ decimal v ++ (b ∷ rest) = rw (next-digit v b (eqb-false v 0 z) (digit-low b d) (digit-high b d), append-assoc) in
-    subst (λ (w : List ℕ). Says fieldText w (digitsAfter (v * 10 + (b - 48)) rest)) e (digits-say (v * 10 + (b - 48)) rest))))
+    let w = decimal v ++ (b ∷ rest) in
+    let n = v * 10 + (b - 48) in
+    by-test (Says fieldText w) (digit b) _ _
+    (λ d. by-test (Says fieldText w) (eqb v 0) _ _ (λ _. tt)
+    (λ z. by-test (Says fieldText w) (leb 10_000_000_000 n) _ _ (λ _. tt)
+    (λ _.
+    let e : decimal n ++ rest ≡ w = rw (next-digit v b (eqb-false v 0 z) (digit-low b d) (digit-high b d), append-assoc) in
+    subst (λ (u : List ℕ). Says fieldText u (digitsAfter n rest)) e (digits-say n rest))))
     (λ _. refl)
 
 pub field-says : (u : List ℕ) → Says fieldText u (field u)
 unfolding field fieldText
 field-says [] = tt
 field-says (b ∷ rest) =
-    cond-says fieldText _ (eqb b 45) _ _ (λ e. ap (λ (x : ℕ). x ∷ rest) (eqb-true b 45 e))
-    (λ _. cond-says fieldText _ (digit b) _ _
+    by-test (Says fieldText (b ∷ rest)) (eqb b 45) _ _ (λ e. ap (λ (x : ℕ). x ∷ rest) (eqb-true b 45 e))
+    (λ _. by-test (Says fieldText (b ∷ rest)) (digit b) _ _
     (λ d. let l = digit-low b d in let h = digit-high b d in
     let z : 48 + (b - 48) % 10 ≡ b = omega arith in
     let e : decimal (b - 48) ++ rest ≡ b ∷ rest = rw (decimal-small (b - 48) (omega arith), z) in
@@ -111,17 +117,17 @@ digits-small : (v : ℕ) (u : List ℕ) → v < 10_000_000_000 → All Small (di
 unfolding digitsAfter
 digits-small v [] h = h
 digits-small v (b ∷ rest) h =
-    cond-all Small (digit b) _ _
-    (λ _. cond-all Small (eqb v 0) _ _ (λ _. tt)
-    (λ _. cond-all Small (leb 10_000_000_000 (v * 10 + (b - 48))) _ _ (λ _. tt) (λ e. digits-small (v * 10 + (b - 48)) rest (leb-false _ _ e))))
+    by-test (All Small) (digit b) _ _
+    (λ _. by-test (All Small) (eqb v 0) _ _ (λ _. tt)
+    (λ _. by-test (All Small) (leb 10_000_000_000 (v * 10 + (b - 48))) _ _ (λ _. tt) (λ e. digits-small (v * 10 + (b - 48)) rest (leb-false _ _ e))))
     (λ _. h)
 
 field-small : (u : List ℕ) → All Small (field u)
 unfolding field
 field-small [] = tt
 field-small (b ∷ rest) =
-    cond-all Small (eqb b 45) _ _ (λ _. tt)
-    (λ _. cond-all Small (digit b) _ _ (λ e. digits-small (b - 48) rest (omega (arith, digit-high b e))) (λ _. tt))
+    by-test (All Small) (eqb b 45) _ _ (λ _. tt)
+    (λ _. by-test (All Small) (digit b) _ _ (λ e. digits-small (b - 48) rest (omega (arith, digit-high b e))) (λ _. tt))
 
 pub to-small : (end : ℕ) (u : List ℕ) → All Small (fieldTo end u)
 unfolding fieldTo

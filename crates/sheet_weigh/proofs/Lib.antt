@@ -1,3 +1,4 @@
-pub mod Weighings
 pub mod Weights
+pub mod Weighings
+pub mod Markings
 pub mod Unique

@@ -1,6 +1,6 @@
 -- A line's working, by what its parts are. Assumes nothing.
 use mathlib.Core.Path.{_≡_, refl, ap}
-use mathlib.Core.Bool.{Bool, true, false, _&&_}
+use mathlib.Core.Bool.{true, false, and-eq-true-iff}
 use Prim.Native.Nat.{ℕ, _^_, _≤_}
 use native.Mathlib.Omega.{arith}
 use lib.Dec.{T, leb, le→leb}
@@ -10,30 +10,25 @@ use borrow.Author.Tests.{leb-true}
 use Rattle.num_working.specs.Number.{whole}
 use Rattle.num_whole.specs.Whole.{wholeBelow}
 use Rattle.num_whole.specs.declared.Below.{Below}
-use Rattle.sheet_report.specs.declared.Weighed.{Weighed}
-use Rattle.sheet_line.specs.declared.line.Reading.{Reading}
-use Rattle.sheet_weigh.specs.Weighing.{isVolume, milligrams, mass, asked, answered, filled}
+use Rattle.door_answers.specs.declared.Answer.{Answer}
+use Rattle.sheet_outcome.specs.declared.Weighed.{Weighed}
+use Rattle.sheet_weigh.specs.Weighing.{isVolume, mass, milligrams, answered, filled}
 
 pub in-float : (v : ℕ) → v ≤ 1_000_000 → T (inFloat binary64 (pos v))
 unfolding inFloat
 in-float v h = le→leb v (2 ^ 53) (omega arith)
 
-and-right : (x y : Bool) → (x && y) ≡ true → y ≡ true
-and-right true y e = e
-and-right false true e = refl
-and-right false false e = e
-
 pub volume-most : (v : ℕ) → isVolume v ≡ true → v ≤ 1_000_000
-volume-most v e = leb-true v 1_000_000 (and-right (leb 1 v) (leb v 1_000_000) e)
+volume-most v e = leb-true v 1_000_000 (and-eq-true-iff (leb 1 v) (leb v 1_000_000) .0 e .1)
 
 pub mass-of : (rho : Float) (v : ℕ) (b : Below) → b ≡ wholeBelow (mul binary64 rho (whole v)) → mass b ≡ milligrams rho v
 unfolding milligrams
 mass-of rho v b e = ap mass e
 
-pub out-of-range : (t : Float) (r : Reading) (v : ℕ) → isVolume v ≡ false → Weighed.Refused 2 ≡ filled t r v
+pub out-of-range : (v : ℕ) (a : Answer) → isVolume v ≡ false → Weighed.Refused 2 ≡ filled v a
 unfolding filled
-out-of-range t r v e = rw e refl
+out-of-range v a e = rw e refl
 
-pub in-range : (t : Float) (r : Reading) (v : ℕ) → isVolume v ≡ true → answered (asked t r) v ≡ filled t r v
+pub in-range : (v : ℕ) (a : Answer) → isVolume v ≡ true → answered a v ≡ filled v a
 unfolding filled
-in-range t r v e = rw e refl
+in-range v a e = rw e refl

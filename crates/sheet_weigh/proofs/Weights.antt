@@ -1,19 +1,25 @@
 -- A line's milligrams are below 2⁵³, whatever its figures are. Assumes nothing.
 use mathlib.Core.Path.{_≡_, refl}
-use mathlib.Core.Bool.{Bool, true, false}
-use Prim.Native.Nat.{ℕ}
+use Prim.Native.Nat.{ℕ, _^_, _<_}
 use lib.Ieee.{Float, binary64, mul}
 use Rattle.num_working.specs.Number.{whole}
+use Rattle.num_working.proofs.Cases.{by-test}
+use Rattle.num_whole.specs.Whole.{wholeBelow}
+use Rattle.num_whole.specs.declared.Below.{Below}
+use Rattle.num_whole.proofs.Wholes.{is-at-or-below}
+use Rattle.door_limits.specs.declared.Limits.{Limits}
+use Rattle.door_answers.specs.declared.Answer.{Answer}
 use Rattle.sheet_text.specs.declared.Field.{Field}
 use Rattle.sheet_line.specs.declared.line.Temperature.{Temperature}
 use Rattle.sheet_line.specs.declared.line.Reading.{Reading}
 use Rattle.sheet_line.specs.declared.line.Line.{Line}
-use Rattle.door_answers.specs.declared.Answer.{Answer}
-use Rattle.num_whole.specs.Whole.{wholeBelow}
-use Rattle.num_whole.specs.declared.Below.{Below}
-use Rattle.num_whole.proofs.Wholes.{is-at-or-below}
-use Rattle.sheet_weigh.specs.Weighing.{Under, ifNumber, ifKelvin, isBlank, isVolume, asked, mass, milligrams, answered, when, filled, weighed}
-use Rattle.sheet_report.specs.declared.Weighed.{Weighed}
+use Rattle.sheet_outcome.specs.declared.Weighed.{Weighed}
+use Rattle.sheet_weigh.specs.Weighing.{ifNumber, ifKelvin, isVolume, mass, milligrams, answered, filled, byReading, weighed}
+
+-- one that was refused has none
+abbrev pub Under : Weighed → Type 0
+Under (Weighed.Mass mg) = mg < 2 ^ 53
+Under (Weighed.Refused n) = Unit {0}
 
 mass-under : (x : Float) (b : Below) → wholeBelow x ≡ b → Under (mass b)
 mass-under x (Below.At n) e = is-at-or-below x n e .2
@@ -24,24 +30,25 @@ unfolding milligrams
 answered-under (Answer.State s) v = let x = mul binary64 (s .rho) (whole v) in mass-under x (wholeBelow x) refl
 answered-under (Answer.Refused n) v = tt
 
-when-under : (b : Bool) (w u : Weighed) → Under w → Under u → Under (when b w u)
-when-under true w u h k = h
-when-under false w u h k = k
-
 number-under : (f : Field) (g : ℕ → Weighed) → ((n : ℕ) → Under (g n)) → Under (ifNumber f g)
 number-under Field.Blank g h = tt
 number-under (Field.Number n) g h = h n
 
-kelvin-under : (t : Temperature) (g : Float → Weighed) → ((x : Float) → Under (g x)) → Under (ifKelvin t g)
+kelvin-under : (k : Temperature) (g : Float → Weighed) → ((t : Float) → Under (g t)) → Under (ifKelvin k g)
 kelvin-under Temperature.Blank g h = tt
-kelvin-under (Temperature.Kelvin x) g h = h x
+kelvin-under (Temperature.Kelvin t) g h = h t
 
-filled-under : (t : Float) (r : Reading) (v : ℕ) → Under (filled t r v)
+filled-under : (v : ℕ) (a : Answer) → Under (filled v a)
 unfolding filled
-filled-under t r v = when-under (isVolume v) (answered (asked t r) v) (Weighed.Refused 2) (answered-under (asked t r) v) tt
+filled-under v a = by-test Under (isVolume v) (answered a v) (Weighed.Refused 2) (λ _. answered-under a v) (λ _. tt)
 
-pub weighed-under : (l : Line) → Under (weighed l)
-unfolding weighed
-weighed-under l =
-    number-under (l .number) _ (λ _. kelvin-under (l .temperature) _ (λ t. number-under (l .volume) _
-    (λ v. when-under (isBlank (l .reading)) (Weighed.Refused 1) (filled t (l .reading) v) tt (filled-under t (l .reading) v))))
+module _ (L : Limits) where
+  reading-under : (k : Temperature) (v : ℕ) (r : Reading) → Under (byReading L k v r)
+  unfolding byReading
+  reading-under k v Reading.Blank = tt
+  reading-under k v (Reading.Pressure p) = kelvin-under k _ (λ t. filled-under v _)
+  reading-under k v (Reading.Density d) = kelvin-under k _ (λ t. filled-under v _)
+
+  pub weighed-under : (l : Line) → Under (weighed L l)
+  unfolding weighed
+  weighed-under l = number-under (l .number) _ (λ _. number-under (l .volume) _ (λ v. reading-under (l .temperature) v (l .reading)))

@@ -1,33 +1,40 @@
-// "Order in a line: 1, 2, then the door"; "Milligrams of a line: ρ times volume, one product, the whole number at or
-// below it" (document 01).
+// What comes of a line and of a sheet. "Order in a line: 1, 2, then the door"; "Milligrams of a line: ρ times volume, one
+// product, the whole number at or below it"; "Order for a sheet: 14, 10, 11, 12, 13" (document 01).
 ghost use mathlib.Core.Path.{_≡_};
+ghost use mathlib.Core.List.{[]};
 ghost use Prim.Native.Nat.{_≤_};
-ghost use Rattle.sheet_weigh.specs.Weighing.{isVolume, isBlank, milligrams, asked, handedOn, filled, weighed};
+ghost use lib.ListN.{take};
+ghost use Rattle.sheet_outcome.specs.Outcome.{marksOf, total};
+ghost use Rattle.sheet_outcome.specs.declared.Admitted.{Admitted};
+ghost use Rattle.sheet_line.specs.declared.line.Reading.{Reading};
+ghost use Rattle.sheet_weigh.specs.Weighing.{isVolume, milligrams, answered, byReading, weighed};
+ghost use Rattle.sheet_weigh.specs.Sheet.{marksFor, finished, marked, outcome, Light};
 use door_answers::Answer;
 use door_density::from_density;
+use door_limits::Limits;
 use door_pressure::from_pressure;
 use num_whole::Below;
 use num_whole::whole_below;
 use sheet_line::line::Line;
 use sheet_line::line::Reading;
 use sheet_line::line::Temperature;
-use sheet_report::Weighed;
+use sheet_outcome::Admitted;
+use sheet_outcome::Ending;
+use sheet_outcome::Mark;
+use sheet_outcome::Marks;
+use sheet_outcome::Outcome;
+use sheet_outcome::Summed;
+use sheet_outcome::Weighed;
+use sheet_outcome::admit;
+use sheet_outcome::conclude;
+use sheet_read::Sheet;
+use sheet_read::SheetRead;
 use sheet_text::Field;
 
 fn is_volume(v: u64) -> bool
     ensures { λ r. ⌜ r ≡ isVolume v ⌝ }
 {
     v >= 1 && v <= 1_000_000
-}
-
-fn is_blank(r: Reading) -> bool
-    ensures { λ b. ⌜ b ≡ isBlank r ⌝ }
-{
-    match r {
-        Reading::Blank => true,
-        Reading::Pressure(_) => false,
-        Reading::Density(_) => false,
-    }
 }
 
 fn milligrams(rho: f64, v: u64) -> Weighed
@@ -40,59 +47,147 @@ fn milligrams(rho: f64, v: u64) -> Weighed
     Weighed::Mass(mg)
 }
 
-// The door of the reading's kind.
-fn ask(t: f64, r: Reading) -> Answer
-    ensures { λ a. ⌜ a ≡ asked t r ⌝ }
-{
-    match r {
-        Reading::Blank => Answer::Refused(1),
-        Reading::Pressure(p) => from_pressure(t, p),
-        Reading::Density(d) => from_density(t, d),
-    }
-}
-
-// The door's refusal, handed on.
-fn hand_on(a: Answer) -> Weighed
-    ensures { λ r. ⌜ r ≡ handedOn a ⌝ }
+// By the state's density, or the door's refusal handed on.
+fn by_answer(a: Answer, v: u64) -> Weighed
+    requires { ⌜ v ≤ 1_000_000 ⌝ }
+    ensures { λ r. ⌜ r ≡ answered a v ⌝ }
 {
     match a {
+        Answer::State(s) => milligrams(s.rho, v),
         Answer::Refused(n) => Weighed::Refused(n),
-        Answer::State(_) => Weighed::Refused(0),
     }
 }
 
-// A line with no blank.
-fn fill(t: f64, r: Reading, v: u64) -> Weighed
-    ensures { λ w. ⌜ w ≡ filled t r v ⌝ }
+fn by_pressure(limits: Limits, k: Temperature, p: f64, v: u64) -> Weighed
+    ensures { λ r. ⌜ r ≡ byReading limits k v (Reading.Pressure p) ⌝ }
 {
+    let Temperature::Kelvin(t) = k else {
+        return Weighed::Refused(1);
+    };
     if !is_volume(v) {
         return Weighed::Refused(2);
     }
-    let a = ask(t, r);
-    let Answer::State(s) = a else {
-        return hand_on(a);
-    };
-    milligrams(s.rho, v)
+    by_answer(from_pressure(limits, t, p), v)
 }
 
-pub fn weigh(l: Line) -> Weighed
-    ensures { λ r. ⌜ r ≡ weighed l ⌝ }
+fn by_density(limits: Limits, k: Temperature, d: f64, v: u64) -> Weighed
+    ensures { λ r. ⌜ r ≡ byReading limits k v (Reading.Density d) ⌝ }
 {
-    let number = l.number;
-    let temperature = l.temperature;
-    let volume = l.volume;
-    let reading = l.reading;
-    let Field::Number(_) = number else {
+    let Temperature::Kelvin(t) = k else {
         return Weighed::Refused(1);
     };
-    let Temperature::Kelvin(t) = temperature else {
+    if !is_volume(v) {
+        return Weighed::Refused(2);
+    }
+    by_answer(from_density(limits, t, d), v)
+}
+
+// A reading that asks a door takes the temperature with it.
+fn by_reading(limits: Limits, k: Temperature, v: u64, r: Reading) -> Weighed
+    ensures { λ w. ⌜ w ≡ byReading limits k v r ⌝ }
+{
+    match r {
+        Reading::Blank => Weighed::Refused(1),
+        Reading::Pressure(p) => by_pressure(limits, k, p, v),
+        Reading::Density(d) => by_density(limits, k, d, v),
+    }
+}
+
+pub fn weigh(limits: Limits, l: Line) -> Weighed
+    ensures { λ r. ⌜ r ≡ weighed limits l ⌝ }
+{
+    let number = l.number;
+    let volume = l.volume;
+    let temperature = l.temperature;
+    let reading = l.reading;
+    let Field::Number(_) = number else {
         return Weighed::Refused(1);
     };
     let Field::Number(v) = volume else {
         return Weighed::Refused(1);
     };
-    if is_blank(reading) {
-        return Weighed::Refused(1);
+    by_reading(limits, temperature, v, reading)
+}
+
+// Each line's milligrams or refusal: "i counts the cylinder lines from 1".
+fn weigh_all(limits: Limits, s: Sheet) -> Marks
+    requires { ⌜ s .count ≤ 32 ⌝ }
+    ensures { λ r. ⌜ r ≡ marksFor (marked limits (take (s .count) (s .lines))) ⌝ }
+{
+    let none = Mark {
+        weighed: Weighed::Refused(0),
+    };
+    let mut marks = [none; 32];
+    let n = s.count;
+    let mut i: usize = 1;
+    while i <= n {
+        let l = s.lines[i - 1];
+        let w = weigh(limits, l);
+        marks[i - 1] = Mark { weighed: w };
+        i += 1;
     }
-    fill(t, reading, v)
+    Marks {
+        marks: marks,
+        count: n,
+    }
+}
+
+fn total(m: Marks) -> Summed
+    requires { ⌜ m .count ≤ 32 ⌝ }
+    requires { ⌜ Light (marksOf m) ⌝ }
+    ensures { λ r. ⌜ r ≡ total (marksOf m) ⌝ }
+{
+    let n = m.count;
+    let mut sum: u64 = 0;
+    let mut i: usize = 0;
+    while i < n {
+        let mark = m.marks[i];
+        let w = mark.weighed;
+        let Weighed::Mass(mg) = w else {
+            return Summed::Refused;
+        };
+        sum += mg;
+        i += 1;
+    }
+    Summed::Sum(sum)
+}
+
+// A sheet that is sent back before its lines are worked.
+fn send_back(number: u8) -> Outcome
+    ensures { λ r. ⌜ r ≡ finished (Admitted.SentBack number) [] ⌝ }
+{
+    let none = Mark {
+        weighed: Weighed::Refused(0),
+    };
+    Outcome {
+        marks: Marks {
+            marks: [none; 32],
+            count: 0,
+        },
+        ending: Ending::SentBack(number),
+    }
+}
+
+// A sheet that is worked.
+fn work(limits: Limits, s: Sheet, need: u64) -> Outcome
+    requires { ⌜ s .count ≤ 32 ⌝ }
+    ensures { λ r. ⌜ r ≡ finished (Admitted.Need need) (marked limits (take (s .count) (s .lines))) ⌝ }
+{
+    let m = weigh_all(limits, s);
+    let e = conclude(need, total(m));
+    Outcome {
+        marks: m,
+        ending: e,
+    }
+}
+
+pub fn weigh_sheet(limits: Limits, r: SheetRead) -> Outcome
+    ensures { λ o. ⌜ o ≡ outcome limits r ⌝ }
+{
+    let s = r.sheet;
+    let need = s.need;
+    match admit(r.ok, s.count, need) {
+        Admitted::SentBack(number) => send_back(number),
+        Admitted::Need(mg) => work(limits, s, mg),
+    }
 }

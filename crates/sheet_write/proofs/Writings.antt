@@ -26,15 +26,23 @@ unfolding overlaid
 nothing o = record { count = refl; bytes = refl }
 
 pub more : {o out : List ℕ} {k : ℕ} {bs : List ℕ} (v : ℕ) → Wrote o out k bs → k < length o → Wrote o (set out k v) (k + 1) (bs ++ (v ∷ []))
-more {o} {out} {k} {bs} v w h = record { count = simp length-append (omega (arith, w .count)); bytes = rw (w .count, w .bytes) (overlaid-set o bs v (omega (arith, w .count))) }
+more {o} {out} {k} {bs} v w h =
+    record {
+      count = simp length-append (omega (arith, w .count));
+      bytes = rw (w .count, w .bytes) (overlaid-set o bs v (omega (arith, w .count)));
+    }
 
-pub next-byte : {o out : List ℕ} {i : ℕ} (text : List ℕ) → Wrote o out i (take i text) → i < length text → i < length o → Wrote o (set out i (getD text i 0)) (i + 1) (take (i + 1) text)
-next-byte {o} {out} {i} text w h g = let e : take (i + 1) text ≡ take i text ++ (getD text i 0 ∷ []) = rw (add-one, take-suc text i 0 h) in rw e (more (getD text i 0) w g)
+pub next-byte : {o out : List ℕ} {i : ℕ} (text : List ℕ) → Wrote o out i (take i text) → i < length text → i < length o
+    → Wrote o (set out i (getD text i 0)) (i + 1) (take (i + 1) text)
+next-byte {o} {out} {i} text w h g =
+    let e : take (i + 1) text ≡ take i text ++ (getD text i 0 ∷ []) = rw (add-one, take-suc text i 0 h) in
+    rw e (more (getD text i 0) w g)
 
 pub one-digit : (o : List ℕ) (n : ℕ) → n < 10 → 0 < length o → Wrote o (set o 0 (48 + n % 10)) 1 (decimal n)
 one-digit o n h g = rw (decimal-small n h) (more (48 + n % 10) (nothing o) g)
 
-pub last-digit : {o out : List ℕ} {k : ℕ} (n : ℕ) → 10 ≤ n → Wrote o out k (decimal (n / 10)) → k < length o → Wrote o (set out k (48 + n % 10)) (k + 1) (decimal n)
+pub last-digit : {o out : List ℕ} {k : ℕ} (n : ℕ) → 10 ≤ n → Wrote o out k (decimal (n / 10)) → k < length o
+    → Wrote o (set out k (48 + n % 10)) (k + 1) (decimal n)
 last-digit n h w g = rw (decimal-large n h) (more (48 + n % 10) w g)
 
 -- ---- `&mut xs[r..]`: the part of xs that starts at r, and xs with ys in its place

@@ -25,8 +25,8 @@ loop-holds c = rw (c .blank-line .ensures) (first _ _ (c .before .before .pre))
 returns : tie.Need-returns Inv-loop μ-loop
 returns c =
     let at-test = c .before .before .before .before in
-    c .not-in-form .ensures
-    ∙ rw (bad _ _ _ _ _ (at-test .before .loop .inv) (at-test .loop-test .taken) (subst (LineIs _ _ _) (c .before .enum-told .given .1) (c .before .before .before .read-line .ensures)))
+    let e = subst (LineIs _ _ _) (c .before .enum-told .given .1) (c .before .before .before .read-line .ensures) in
+    c .not-in-form .ensures ∙ rw (bad _ _ _ _ _ (at-test .before .loop .inv) (at-test .loop-test .taken) e)
 
 add-count : tie.Need-add-count Inv-loop μ-loop
 add-count c = omega arith

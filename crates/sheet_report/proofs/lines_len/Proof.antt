@@ -4,7 +4,8 @@ use mathlib.Core.Path.{_≡_, ap}
 use native.Mathlib.Omega.{arith}
 use lib.ListN.{length}
 use borrow.Author.Needs.{needs}
-use Rattle.sheet_report.specs.Report.{linesBytes, marksOf}
+use Rattle.sheet_outcome.specs.Outcome.{marksOf}
+use Rattle.sheet_report.specs.Report.{linesBytes}
 use Rattle.sheet_report.proofs.Reports.{linesAfter, next-length, no-line}
 use Rattle.sheet_report.proofs.lines_len.Statement.{statement}
 use Rattle.sheet_report.proofs.lines_len.Tie as tie

@@ -8,7 +8,8 @@ use Rattle.sheet_report.proofs.put_between.Tie as tie
 
 returns : tie.Need-returns
 returns c =
-    let s = then (c .before .before .before .before .before .before .before .before .before .before .put .ensures) (omega arith) (c .before .before .before .before .before .before .put-number .ensures) in
+    let n = c .before .before .before .before .before .before in
+    let s = then (n .before .before .before .before .put .ensures) (omega arith) (n .put-number .ensures) in
     then s (simp length-append (omega arith)) (c .before .before .put2 .ensures)
 
 pub put-between-spec : {M : Type 1} → statement M

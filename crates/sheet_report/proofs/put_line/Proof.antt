@@ -31,14 +31,16 @@ put-weighed-requires c κs =
 
 add-result : tie.Need-add-result
 add-result c =
-    let a = c .before .before .before .before .before .before .before .before .before .before .before .args in
-    omega (arith, line-length (a .i) (a .w), c .before .before .before .before .before .before .put-between .ensures .count, c .before .before .put-weighed .ensures .count)
+    let b = c .before .before .before .before .before .before in
+    let a = b .before .before .before .before .before .args in
+    omega (arith, line-length (a .i) (a .w), b .put-between .ensures .count, c .before .before .put-weighed .ensures .count)
 
 returns : tie.Need-returns
 unfolding lineBytes
 returns c =
-    let a = c .before .before .before .before .before .before .before .before .before .before .before .args in
-    then (c .before .before .before .before .before .before .put-between .ensures) (omega (arith, line-length (a .i) (a .w))) (c .before .before .put-weighed .ensures)
+    let b = c .before .before .before .before .before .before in
+    let a = b .before .before .before .before .before .args in
+    then (b .put-between .ensures) (omega (arith, line-length (a .i) (a .w))) (c .before .before .put-weighed .ensures)
 
 pub put-line-spec : {M : Type 1} → statement M
 put-line-spec =

@@ -3,7 +3,7 @@ use mathlib.Core.Path.{_≡_}
 use native.Mathlib.Omega.{arith}
 use lib.ListN.{length, length-take}
 use borrow.Author.Needs.{needs}
-use Rattle.sheet_report.proofs.Reports.{unmapped}
+use Rattle.sheet_outcome.proofs.Arrays.{unmapped}
 use Rattle.sheet_report.proofs.shown.Statement.{statement}
 use Rattle.sheet_report.proofs.shown.Tie as tie
 

@@ -14,7 +14,9 @@ returns c = (refl, refl, simp length-append (omega arith), simp length-append (o
 
 returns-2 : tie.Need-returns-2
 unfolding reportBytes
-returns-2 c = (then (c .before .before .before .before .before .before .put-lines .ensures) (omega arith) (c .before .before .put-ending .ensures), simp length-append (omega arith))
+returns-2 c =
+    let l = c .before .before .before .before .before .before in
+    (then (l .put-lines .ensures) (omega arith) (c .before .before .put-ending .ensures), simp length-append (omega arith))
 
 pub write-report-spec : {M : Type 1} → statement M
 write-report-spec =

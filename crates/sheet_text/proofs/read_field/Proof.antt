@@ -22,39 +22,52 @@ returns-2 : tie.Need-returns-2 Inv-loop μ-loop
 returns-2 c = (field-blank _ _ (c .before .before .if1 .left) (c .if2 .taken), search needs, search needs)
 
 returns-3 : tie.Need-returns-3 Inv-loop μ-loop
-returns-3 c = field-bad _ _ (c .before .before .before .before .if1 .left) (c .before .before .if2 .left) (sym (c .before .is-digit .ensures) ∙ not-true _ (c .if3 .taken))
+returns-3 c =
+    let b = c .before .before in
+    field-bad _ _ (b .before .before .if1 .left) (b .if2 .left) (sym (c .before .is-digit .ensures) ∙ not-true _ (c .if3 .taken))
 
 digit-of-requires : tie.Need-digit-of-requires Inv-loop μ-loop
 digit-of-requires c κs = sym (c .before .is-digit .ensures) ∙ not-false _ (c .if3 .left)
 
 loop-holds : tie.Need-loop-holds Inv-loop μ-loop
 loop-holds c =
-    let e = sym (c .before .before .is-digit .ensures) ∙ not-false _ (c .before .if3 .left) in
-    (search needs, search needs, search needs, field-digits _ _ (c .before .before .before .before .before .if1 .left) (c .before .before .before .if2 .left) e _ (c .digit-of .ensures .0))
+    let b = c .before .before .before in
+    let digit = sym (c .before .before .is-digit .ensures) ∙ not-false _ (c .before .if3 .left) in
+    (search needs, search needs, search needs, field-digits _ _ (b .before .before .if1 .left) (b .if2 .left) digit _ (c .digit-of .ensures .0))
 
 returns-4 : tie.Need-returns-4 Inv-loop μ-loop
-returns-4 c = (c .before .before .before .before .loop .inv .3 ∙ after-stop _ _ _ (c .before .before .before .loop-test .taken) (sym (c .before .is-digit2 .ensures) ∙ not-true _ (c .if4 .taken)), search needs, search needs)
+returns-4 c =
+    let at-test = c .before .before .before in
+    let other = sym (c .before .is-digit2 .ensures) ∙ not-true _ (c .if4 .taken) in
+    (at-test .before .loop .inv .3 ∙ after-stop _ _ _ (at-test .loop-test .taken) other, search needs, search needs)
 
 returns-5 : tie.Need-returns-5 Inv-loop μ-loop
-returns-5 c = c .before .before .before .before .before .loop .inv .3 ∙ after-zero _ _ _ (c .before .before .before .before .loop-test .taken) (sym (c .before .before .is-digit2 .ensures) ∙ not-false _ (c .before .if4 .left)) (c .if5 .taken)
+returns-5 c =
+    let at-test = c .before .before .before .before in
+    let digit = sym (c .before .before .is-digit2 .ensures) ∙ not-false _ (c .before .if4 .left) in
+    at-test .before .loop .inv .3 ∙ after-zero _ _ _ (at-test .loop-test .taken) digit (c .if5 .taken)
 
 digit-of-requires-2 : tie.Need-digit-of-requires-2 Inv-loop μ-loop
 digit-of-requires-2 c κs = sym (c .before .before .is-digit2 .ensures) ∙ not-false _ (c .before .if4 .left)
 
 returns-6 : tie.Need-returns-6 Inv-loop μ-loop
 returns-6 c =
-    let at-test = c .before .before .before .before .before .before in
+    let d = c .before .before .before in
+    let at-test = d .before .before .before in
+    let digit = sym (d .before .is-digit2 .ensures) ∙ not-false _ (d .if4 .left) in
     at-test .before .loop .inv .3
-    ∙ after-large _ _ _ (at-test .loop-test .taken) (sym (c .before .before .before .before .is-digit2 .ensures) ∙ not-false _ (c .before .before .before .if4 .left)) (c .before .before .if5 .left) _ (c .before .digit-of2 .ensures .0) (c .if6 .taken)
+    ∙ after-large _ _ _ (at-test .loop-test .taken) digit (c .before .before .if5 .left) _ (c .before .digit-of2 .ensures .0) (c .if6 .taken)
 
 loop-again : tie.Need-loop-again Inv-loop μ-loop
 loop-again c =
-    let at-test = c .before .before .before .before .before .before in (
+    let d = c .before .before .before in
+    let at-test = d .before .before .before in
+    let digit = sym (d .before .is-digit2 .ensures) ∙ not-false _ (d .if4 .left) in (
       search needs,
       search needs,
       search needs,
       at-test .before .loop .inv .3
-          ∙ after-more _ _ _ (at-test .loop-test .taken) (sym (c .before .before .before .before .is-digit2 .ensures) ∙ not-false _ (c .before .before .before .if4 .left)) (c .before .before .if5 .left) _ (c .before .digit-of2 .ensures .0) (c .if6 .left),
+          ∙ after-more _ _ _ (at-test .loop-test .taken) digit (c .before .before .if5 .left) _ (c .before .digit-of2 .ensures .0) (c .if6 .left),
     )
 
 returns-7 : tie.Need-returns-7 Inv-loop μ-loop

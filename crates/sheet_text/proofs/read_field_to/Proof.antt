@@ -11,7 +11,10 @@ returns : tie.Need-returns
 returns c = to-none₁ _ _ (subst (FieldIs _ _ _) (c .enum-told .given .1) (c .before .before .read-field .ensures))
 
 returns-2 : tie.Need-returns-2
-returns-2 c = to-none₂ _ _ (subst (FieldIs _ _ _) (c .before .before .before .before .f .given .1) (c .before .before .before .before .before .before .read-field .ensures) .0) (subst (PlaceIs _ _ _) (c .enum-told2 .given .1) (c .before .before .skip .ensures))
+returns-2 c =
+    let at-field = c .before .before .before .before in
+    let f = subst (FieldIs _ _ _) (at-field .f .given .1) (at-field .before .before .read-field .ensures) in
+    to-none₂ _ _ (f .0) (subst (PlaceIs _ _ _) (c .enum-told2 .given .1) (c .before .before .skip .ensures))
 
 returns-3 : tie.Need-returns-3
 returns-3 c =

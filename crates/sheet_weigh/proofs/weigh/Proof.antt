@@ -1,5 +1,5 @@
--- A blank is refused by 1 where it stands, and the figures go on. Assumes nothing.
-use mathlib.Core.Path.{sym, _∙_}
+-- A blank number or volume is refused by 1, and the reading decides what else is asked for. Assumes nothing.
+use mathlib.Core.Path.{_∙_}
 use borrow.Author.Needs.{needs}
 use Rattle.sheet_weigh.specs.Weighing.{weighed}
 use Rattle.sheet_weigh.proofs.weigh.Statement.{statement}
@@ -15,21 +15,9 @@ returns-2 c = rw (c .before .before .enum-told .given .1, c .enum-told3 .given .
 
 returns-3 : tie.Need-returns-3
 unfolding weighed
-returns-3 c = rw (c .before .before .before .before .before .enum-told .given .1, c .before .before .before .temperature .given .1, c .enum-told4 .given .1)
-
-returns-4 : tie.Need-returns-4
-unfolding weighed
-returns-4 c =
-    let k = c .before .before in
-    rw (k .before .before .before .before .before .before .enum-told .given .1, k .before .before .before .before .temperature .given .1, k .before .volume .given .1, sym (c .before .is-blank .ensures) ∙ c .if1 .taken)
-
-returns-5 : tie.Need-returns-5
-unfolding weighed
-returns-5 c =
-    let f = c .before in
-    let k = f .before .before in
-    c .fill .ensures
-    ∙ rw (k .before .before .before .before .before .before .enum-told .given .1, k .before .before .before .before .temperature .given .1, k .before .volume .given .1, sym (f .before .is-blank .ensures) ∙ f .if1 .left)
+returns-3 c =
+    let v = c .before .before in
+    c .by-reading .ensures ∙ rw (v .before .before .enum-told .given .1, v .volume .given .1)
 
 pub weigh-spec : {M : Type 1} → statement M
 weigh-spec =
@@ -41,10 +29,5 @@ weigh-spec =
     (λ c. search needs)
     (λ c. search needs)
     returns-2
-    (λ c. search needs)
-    (λ c. search needs)
-    returns-3
     (λ c κs. search needs)
-    returns-4
-    (λ c κs. search needs)
-    returns-5)
+    returns-3)

@@ -1,5 +1,7 @@
 -- Each step is the definition's. Assumes nothing.
 use mathlib.Core.Path.{subst}
+use mathlib.Core.List.{List}
+use Prim.Native.Nat.{ℕ}
 use native.Mathlib.Omega.{arith}
 use denote.Ref.{now}
 use lib.ListN.{drop}
@@ -15,36 +17,68 @@ returns : tie.Need-returns
 unfolding reading
 returns c = rw (subst (KindIs _ _ _) (c .enum-told .given .1) (c .before .before .read-kind .ensures))
 
--- past the kind; below, past the space and past the value
-kind-is : (c : tie.After-kind) → (let a = c .before .before .before .before .args in let k = c .kind .given .0 in Leaves (now (a .s)) (a .at) (kind (drop (a .at) (now (a .s)))) (k .0) (k .1 .0))
+-- ---- the places on the way: past the kind, past the space and past the value; and what was read up to each
+
+abbrev at-kind : tie.After-value-at → tie.After-kind
+at-kind c = c .before .before .before .before
+
+abbrev at-space : tie.After-value → tie.After-value-at
+at-space c = c .before .before .before .before
+
+abbrev text : tie.After-kind → List ℕ
+text c = now (c .before .before .before .before .args .s)
+
+kind-is : (c : tie.After-kind)
+    → (let at = c .before .before .before .before .args .at in
+    let k = c .kind .given .0 in
+    Leaves (text c) at (kind (drop at (text c))) (k .0) (k .1 .0))
 kind-is c = subst (KindIs _ _ _) (c .kind .given .1) (c .before .before .read-kind .ensures)
+
+space-is : (c : tie.After-value-at)
+    → (let s = text (at-kind c) in
+    let at = at-kind c .kind .given .0 .1 .0 in
+    Leaves s at (byte 32 (drop at s)) tt (c .value-at .given .0 .0))
+space-is c = subst (PlaceIs _ _ _) (c .value-at .given .1) (c .before .before .skip .ensures)
+
+value-is : (c : tie.After-value)
+    → (let s = text (at-kind (at-space c)) in
+    let at = at-space c .value-at .given .0 .0 in
+    let v = c .value .given .0 in
+    Leaves s at (fieldTo 32 (drop at s)) (v .0) (v .1 .0))
+value-is c = subst (FieldIs _ _ _) (c .value .given .1) (c .before .before .read-field-to .ensures)
+
+-- ---- each step
 
 returns-2 : tie.Need-returns-2
 unfolding reading
-returns-2 c = rw (kind-is (c .before .before .before .before) .0, subst (PlaceIs _ _ _) (c .enum-told2 .given .1) (c .before .before .skip .ensures))
-
-space-is : (c : tie.After-value-at) → (let s = now (c .before .before .before .before .before .before .before .before .args .s) in let at = c .before .before .before .before .kind .given .0 .1 .0 in Leaves s at (byte 32 (drop at s)) tt (c .value-at .given .0 .0))
-space-is c = subst (PlaceIs _ _ _) (c .value-at .given .1) (c .before .before .skip .ensures)
+returns-2 c =
+    let k = c .before .before .before .before in
+    rw (kind-is k .0, subst (PlaceIs _ _ _) (c .enum-told2 .given .1) (c .before .before .skip .ensures))
 
 returns-3 : tie.Need-returns-3
 unfolding reading
-returns-3 c = rw (kind-is (c .before .before .before .before .before .before .before .before) .0, space-is (c .before .before .before .before) .0, subst (FieldIs _ _ _) (c .enum-told3 .given .1) (c .before .before .read-field-to .ensures))
-
-value-is : (c : tie.After-value) → (let s = now (c .before .before .before .before .before .before .before .before .before .before .before .before .args .s) in let at = c .before .before .before .before .value-at .given .0 .0 in let v = c .value .given .0 in Leaves s at (fieldTo 32 (drop at s)) (v .0) (v .1 .0))
-value-is c = subst (FieldIs _ _ _) (c .value .given .1) (c .before .before .read-field-to .ensures)
+returns-3 c =
+    let space = c .before .before .before .before in
+    rw (kind-is (at-kind space) .0, space-is space .0, subst (FieldIs _ _ _) (c .enum-told3 .given .1) (c .before .before .read-field-to .ensures))
 
 returns-4 : tie.Need-returns-4
 unfolding reading
-returns-4 c = rw (kind-is (c .before .before .before .before .before .before .before .before .before .before .before .before) .0, space-is (c .before .before .before .before .before .before .before .before) .0, value-is (c .before .before .before .before) .0, subst (FieldIs _ _ _) (c .enum-told4 .given .1) (c .before .before .read-field-to2 .ensures))
+returns-4 c =
+    let value = c .before .before .before .before in
+    let space = at-space value in
+    let m = subst (FieldIs _ _ _) (c .enum-told4 .given .1) (c .before .before .read-field-to2 .ensures) in
+    rw (kind-is (at-kind space) .0, space-is space .0, value-is value .0, m)
 
 returns-5 : tie.Need-returns-5
 unfolding reading
 returns-5 c =
-    let k = kind-is (c .before .before .before .before .before .before .before .before .before .before .before .before .before) in
-    let space = space-is (c .before .before .before .before .before .before .before .before .before) in
-    let v = value-is (c .before .before .before .before .before) in
+    let value = c .before .before .before .before .before in
+    let space = at-space value in
+    let k = kind-is (at-kind space) in
+    let e = space-is space in
+    let v = value-is value in
     let m = subst (FieldIs _ _ _) (c .before .volume .given .1) (c .before .before .before .read-field-to2 .ensures) in
-    (rw (k .0, space .0, v .0, m .0), omega (arith, k .1, space .1, v .1, m .1), m .2)
+    (rw (k .0, e .0, v .0, m .0), omega (arith, k .1, e .1, v .1, m .1), m .2)
 
 pub read-reading-spec : {M : Type 1} → statement M
 read-reading-spec =

@@ -1,9 +1,9 @@
 -- 13 where a line was refused; else the sum is held against the need. Assumes nothing.
 use borrow.Author.Needs.{needs}
 use borrow.Author.Tests.{le-leb, lt-leb}
-use Rattle.sheet_outcome.specs.Verdict.{ending}
-use Rattle.sheet_outcome.proofs.ending.Statement.{statement}
-use Rattle.sheet_outcome.proofs.ending.Tie as tie
+use Rattle.sheet_outcome.specs.Outcome.{ending}
+use Rattle.sheet_outcome.proofs.conclude.Statement.{statement}
+use Rattle.sheet_outcome.proofs.conclude.Tie as tie
 
 returns : tie.Need-returns
 unfolding ending
@@ -17,6 +17,6 @@ returns-3 : tie.Need-returns-3
 unfolding ending
 returns-3 c = rw (c .before .before .t .given .1, lt-leb _ _ (c .if1 .left))
 
-pub ending-spec : {M : Type 1} → statement M
-ending-spec =
+pub conclude-spec : {M : Type 1} → statement M
+conclude-spec =
     tie.close (tie.spec (λ c. search needs) (λ c. search needs) returns returns-2 returns-3)

@@ -1,16 +1,14 @@
 -- What was added and what is left make up the total, and 32 lines' milligrams stay below 2⁵⁸. Assumes nothing.
-use mathlib.Core.Path.{_≡_, subst}
-use Prim.Native.Nat.{_-_, _*_, _^_, _≤_}
+use mathlib.Core.Path.{_≡_}
+use Prim.Native.Nat.{_-_, _*_, _^_, _≤_, _<_}
 use native.Mathlib.Omega.{arith}
 use borrow.Author.Needs.{needs}
 use lib.ListN.{length, drop}
-use Rattle.sheet_report.specs.Report.{marksOf}
-use Rattle.sheet_report.proofs.Reports.{noMark, unmapped}
-use Rattle.sheet_weigh.specs.Weighing.{Under}
-use Rattle.sheet_score.specs.Score.{total}
-use Rattle.sheet_score.proofs.Totals.{onto, onto-none, light-at, counted, mark-there, at-end, one-refused, one-more}
-use Rattle.sheet_score.proofs.total.Statement.{statement}
-use Rattle.sheet_score.proofs.total.Tie as tie
+use Rattle.sheet_outcome.specs.Outcome.{marksOf, total}
+use Rattle.sheet_outcome.proofs.Arrays.{unmapped, pastEnd, counted, mark-there}
+use Rattle.sheet_outcome.proofs.Totals.{onto, onto-none, at-end, one-refused, one-more}
+use Rattle.sheet_weigh.proofs.total.Statement.{statement}
+use Rattle.sheet_weigh.proofs.total.Tie as tie
 
 abbrev Inv-loop : tie.InvT-loop
 Inv-loop m n sum₀ i₀ sum i = (i ≤ n) × (sum ≤ i * 2 ^ 53) × (total (marksOf m) ≡ onto sum (total (drop i (marksOf m))))
@@ -27,7 +25,8 @@ returns c =
     let m = l .before .args .t1 in
     let size : length (m .marks) ≡ 32 = search (needs, unmapped) in
     let h = counted m size (omega arith) in
-    one-refused (marksOf m) (l .loop .sum) (l .loop .i) (l .loop .inv .2) noMark (omega (arith, h)) _ (mark-there m size (omega arith) (l .loop .i) _ (omega arith) (c .enum-told .given .1))
+    let w = mark-there m size (omega arith) (l .loop .i) _ (omega arith) (c .enum-told .given .1) in
+    one-refused (marksOf m) (l .loop .sum) (l .loop .i) (l .loop .inv .2) pastEnd (omega (arith, h)) _ w
 
 -- the milligrams that a turn comes to
 add-sum : tie.Need-add-sum Inv-loop μ-loop
@@ -37,7 +36,7 @@ add-sum c =
     let size : length (m .marks) ≡ 32 = search (needs, unmapped) in
     let h = counted m size (omega arith) in
     let w = mark-there m size (omega arith) (l .loop .i) _ (omega arith) (c .before .w .given .1) in
-    let u = subst Under w (light-at (marksOf m) (l .before .pre .1) (l .loop .i) noMark (omega (arith, h))) in
+    let u = l .before .pre .1 (l .loop .i) _ pastEnd (omega (arith, h)) w in
     omega (arith, u)
 
 loop-less : tie.Need-loop-less Inv-loop μ-loop
@@ -50,8 +49,8 @@ loop-again c =
     let size : length (m .marks) ≡ 32 = search (needs, unmapped) in
     let h = counted m size (omega arith) in
     let w = mark-there m size (omega arith) (l .loop .i) _ (omega arith) (c .before .w .given .1) in
-    let u = subst Under w (light-at (marksOf m) (l .before .pre .1) (l .loop .i) noMark (omega (arith, h))) in
-    (omega arith, omega (arith, u), one-more (marksOf m) (l .loop .sum) (l .loop .i) (l .loop .inv .2) noMark (omega (arith, h)) _ w)
+    let u = l .before .pre .1 (l .loop .i) _ pastEnd (omega (arith, h)) w in
+    (omega arith, omega (arith, u), one-more (marksOf m) (l .loop .sum) (l .loop .i) (l .loop .inv .2) pastEnd (omega (arith, h)) _ w)
 
 returns-2 : tie.Need-returns-2 Inv-loop μ-loop
 returns-2 c =

@@ -1,0 +1,43 @@
+-- What comes of a sheet, line by line (document 01, "The sheet"). Definitions only.
+use Prim.Native.Nat.{ℕ, _^_, _<_}
+use mathlib.Core.Path.{_≡_}
+use mathlib.Core.List.{List, [], map}
+use lib.ListN.{length, take, getD}
+use Rattle.door_limits.specs.declared.Limits.{Limits}
+use Rattle.sheet_line.specs.declared.line.Line.{Line}
+use Rattle.sheet_read.specs.Padded.{padded}
+use Rattle.sheet_read.specs.declared.SheetRead.{SheetRead}
+use Rattle.sheet_outcome.specs.Outcome.{admitted, total, ending}
+use Rattle.sheet_outcome.specs.declared.Weighed.{Weighed}
+use Rattle.sheet_outcome.specs.declared.Mark.{Mark}
+use Rattle.sheet_outcome.specs.declared.Marks.{Marks}
+use Rattle.sheet_outcome.specs.declared.Admitted.{Admitted}
+use Rattle.sheet_outcome.specs.declared.Ending.{Ending}
+use Rattle.sheet_outcome.specs.declared.Outcome.{Outcome}
+use Rattle.sheet_weigh.specs.Weighing.{weighed}
+
+-- marks in the code's array of 32
+unfoldable pub marksFor : List Mark → Marks
+marksFor ms = record { marks = padded (record { weighed = Weighed.Refused 0 }) 32 ms; count = length ms }
+
+-- the marks and "then" the ending; "with 10, 11, 12 or 14 .. that number, one line alone"
+abbrev pub finished : Admitted → List Mark → Outcome
+finished (Admitted.SentBack number) ms = record { marks = marksFor []; ending = Ending.SentBack number }
+finished (Admitted.Need mg) ms = record { marks = marksFor ms; ending = ending mg (total ms) }
+
+module _ (L : Limits) where
+  abbrev pub mark : Line → Mark
+  mark l = record { weighed = weighed L l }
+
+  -- what came of each line
+  unfoldable pub marked : List Line → List Mark
+  marked ls = map mark ls
+
+  unfoldable pub outcome : SheetRead → Outcome
+  outcome r =
+      let s = r .sheet in
+      finished (admitted (r .ok) (s .count) (s .need)) (marked (take (s .count) (s .lines)))
+
+-- what adding asks for: each line's milligrams are below 2⁵³
+abbrev pub Light : List Mark → Type 0
+Light ms = (i mg : ℕ) (d : Mark) → i < length ms → getD ms i d .weighed ≡ Weighed.Mass mg → mg < 2 ^ 53

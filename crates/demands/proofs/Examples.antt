@@ -20,9 +20,7 @@ use Rattle.sheet_score.specs.Score.{report}
 use Rattle.demands.specs.Examples.{Example, examples}
 
 pub all-printed : map (λ (e : Example). report document01 (inForm (e .text))) examples ≡ map (λ (e : Example). ascii (e .report)) examples
-unfolding examples report admitted marked total ending linesBytes lineBytes weighedBytes endingBytes Decimal.decimal Decimal.decimalWithin
-
-unfolding inForm bank fieldAfter fieldTo field digitsAfter byte kind reading cylinder cylinders weighed byReading filled
-
-unfolding pressureDoor unboxed document01 ranged boxed whole decimal fraction ofInt round div lt
+unfolding examples report admitted marked total ending linesBytes lineBytes weighedBytes endingBytes Decimal.decimal Decimal.decimalWithin inForm bank
+    fieldAfter fieldTo field digitsAfter byte kind reading cylinder cylinders weighed byReading filled pressureDoor unboxed document01 ranged boxed
+    whole decimal fraction ofInt round div lt
 all-printed = refl

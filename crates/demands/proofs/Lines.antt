@@ -131,13 +131,13 @@ module _ (L : Limits) where
 
   -- ---- each refusal exactly under its condition, and the milligrams exactly as they are defined
 
-  refuses : (c : Cylinder) (w : Weighed) (n : ℕ) → Comes c w → w ≡ Weighed.Refused n → RefusesLine L c n
-  refuses c w n (refused {m} r) e = let q : m ≡ n = cc in subst (RefusesLine L c) q r
-  refuses c w n (weighs x) e = let z : _≡_ {A = ℕ} 0 1 = cc in absurd (omega arith)
+  refuses : (c : Cylinder) (w : Weighed) (k : ℕ) → Comes c w → w ≡ Weighed.Refused k → RefusesLine L c k
+  refuses c w k (refused {n} r) e = let q : n ≡ k = cc in subst (RefusesLine L c) q r
+  refuses c w k (weighs x) e = let z : _≡_ {A = ℕ} 0 1 = cc in absurd (omega arith)
 
-  is-weighed : (c : Cylinder) (w : Weighed) (mg : ℕ) → Comes c w → w ≡ Weighed.Mass mg → Weighs L c mg
-  is-weighed c w mg (weighs {m} x) e = let q : m ≡ mg = cc in subst (Weighs L c) q x
-  is-weighed c w mg (refused r) e = let z : _≡_ {A = ℕ} 0 1 = cc in absurd (omega arith)
+  is-weighed : (c : Cylinder) (w : Weighed) (k : ℕ) → Comes c w → w ≡ Weighed.Mass k → Weighs L c k
+  is-weighed c w k (weighs {mg} x) e = let q : mg ≡ k = cc in subst (Weighs L c) q x
+  is-weighed c w k (refused r) e = let z : _≡_ {A = ℕ} 0 1 = cc in absurd (omega arith)
 
   pub line-refusals : (c : Cylinder) (n : ℕ) → Exactly (weighed L (lineOf c) ≡ Weighed.Refused n) (RefusesLine L c n)
   line-refusals c n = (refuses c (weighed L (lineOf c)) n (comes c), line-refused c)

@@ -91,19 +91,21 @@ module _ (L : Limits) (t : List ℕ) where
         by-test (λ (e : Ending). Reported L t (linesBytes 1 marks ++ endingBytes e)) (leb need (sum mgs)) (Ending.Covered (sum mgs)) (Ending.Short (sum mgs))
         (λ e. covered n a (leb-true need (sum mgs) e)) (λ e. short n a (leb-false need (sum mgs) e))
 
+    abbrev ListedAs : Admitted → Type 0
+    ListedAs a = Reported L t (listed a marks)
+
     of-need : Lined t b → (f : Field) → b .need ≡ f → Reported L t (listed (needed f) marks)
     of-need l Field.Blank e = no-need l (subst NoNeed (sym e) sheets.blank)
     of-need l (Field.Number mg) e =
-        by-test (λ (a : Admitted). Reported L t (listed a marks)) (isNeed mg) (Admitted.Need mg) (Admitted.SentBack 12)
+        by-test ListedAs (isNeed mg) (Admitted.Need mg) (Admitted.SentBack 12)
         (λ r. let i = inside 9_999_999_999 mg r in of-total mg (record { lined = l; need = e; at-least = i .0; at-most = i .1 }) (total marks) (tally L (lines b)))
         (λ r. no-need l (subst NoNeed (sym e) (out-of-need (outside 9_999_999_999 mg r))))
 
     of-count : inForm t ≡ some b → Reported L t (listed (admitted true (length (b .cylinders)) (b .need)) marks)
     unfolding admitted
     of-count e =
-        let P = λ (a : Admitted). Reported L t (listed a marks) in
-        by-test P (eqb (length (b .cylinders)) 0) _ _ (λ p. no-lines e (eqb-true _ 0 p))
-        (λ p. by-test P (ltb 32 (length (b .cylinders))) _ _ (λ q. many-lines e (ltb-true 32 _ q))
+        by-test ListedAs (eqb (length (b .cylinders)) 0) _ _ (λ p. no-lines e (eqb-true _ 0 p))
+        (λ p. by-test ListedAs (ltb 32 (length (b .cylinders))) _ _ (λ q. many-lines e (ltb-true 32 _ q))
         (λ q. of-need (record { read = e; some-line = above-none (eqb-false (length (b .cylinders)) 0 p); at-most = ltb-false 32 _ q }) (b .need) refl))
 
   of-form : (o : Option Bank) → inForm t ≡ o → Reported L t (report L o)

@@ -8,7 +8,7 @@ use eos_isotherm::at_temperature;
 use eos_non_analytic::figures::add_figures;
 use eos_non_analytic::parts::at_critical;
 use eos_residual::term::at_density;
-use eos_rows::non_analytics;
+use eos_rows::non_analytic_row;
 use eos_saturation::vapour_pressure;
 use eos_state::Phase;
 use eos_state::State;
@@ -186,7 +186,6 @@ fn non_analytic(t: f64, rho: f64) {
     let iso = at_temperature(t);
     let tau = iso.tau;
     let delta = rho / 467.6;
-    let rows = non_analytics();
     let c = at_critical(iso, delta);
     let none = Five {
         d: -0.0,
@@ -196,9 +195,33 @@ fn non_analytic(t: f64, rho: f64) {
         dt: -0.0,
     };
     let psis = at_density(iso, delta).psis;
-    let r40 = add_figures(none, rows[0], c.near, c.first, psis[0], delta, tau);
-    let r41 = add_figures(none, rows[1], c.near, c.second, psis[0], delta, tau);
-    let r42 = add_figures(none, rows[2], c.near, c.third, psis[1], delta, tau);
+    let r40 = add_figures(
+        none,
+        non_analytic_row(0),
+        c.near,
+        c.first,
+        psis[0],
+        delta,
+        tau,
+    );
+    let r41 = add_figures(
+        none,
+        non_analytic_row(1),
+        c.near,
+        c.second,
+        psis[0],
+        delta,
+        tau,
+    );
+    let r42 = add_figures(
+        none,
+        non_analytic_row(2),
+        c.near,
+        c.third,
+        psis[1],
+        delta,
+        tau,
+    );
     three(r40.d, r41.d, r42.d);
     three(r40.dd, r41.dd, r42.dd);
     three(r40.t, r41.t, r42.t);

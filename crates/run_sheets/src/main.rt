@@ -4,6 +4,7 @@
 ghost use Prim.Native.Nat.{_≤_};
 ghost use lib.ListN.{length};
 ghost use Rattle.io.specs.Counts.{Counts};
+use door_limits::document_01;
 use libc::STDOUT_FILENO;
 use run_print::bits::say;
 use sheet_report::Written;
@@ -28,7 +29,7 @@ fn shown(title: &[u8], text: &[u8]) {
     let mut out = [0; 1512];
     say(title);
     say(b"\n");
-    if let Written::Bytes(n) = score(text, &mut out) {
+    if let Written::Bytes(n) = score(document_01(), text, &mut out) {
         say(&out[..n]);
     }
 }
@@ -96,6 +97,7 @@ fn built(title: &[u8], first: &[u8], lines: &[u8], times: usize, others: &[u8]) 
 // The example's report, of 29 bytes, into an output of dots: what was answered, and every byte of the output after.
 fn lent(out: &mut [u8]) {
     let w = score(
+        document_01(),
         b"N 45000000\nC 7 - P 5000000 40000\nC 8 2000000 P 5000000 40000\n",
         out,
     );

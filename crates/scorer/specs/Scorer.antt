@@ -3,6 +3,7 @@ use Prim.Native.Nat.{ℕ, _≤_, _<_}
 use mathlib.Core.Path.{_≡_}
 use mathlib.Core.List.{List}
 use lib.ListN.{length, take}
+use Rattle.door_limits.specs.Limits.{document01}
 use Rattle.sheet_write.specs.Writing.{ascii, Wrote}
 use Rattle.sheet_read.specs.Form.{inForm}
 use Rattle.sheet_score.specs.Score.{report}
@@ -25,7 +26,7 @@ ReadInto space Read.Failed = Unit {0}
 
 -- the text's report is at the front of the output, which was o, and its length is long
 pub record Reports (text o out : List ℕ) (long : ℕ) : Type 0 where
-  pub wrote : Wrote o out long (report (inForm text))
+  pub wrote : Wrote o out long (report document01 (inForm text))
   pub fits : long ≤ length out
 
 -- what was read is at the front of the lent space, and its report at the front of the output

@@ -7,6 +7,7 @@ mod words;
 ghost use Rattle.scorer.specs.Scorer.{ReadInto, Reports, Scores};
 use arguments::Asked;
 use arguments::asked_by;
+use door_limits::document_01;
 use libc::STDERR_FILENO;
 use libc::STDIN_FILENO;
 use libc::STDOUT_FILENO;
@@ -50,7 +51,7 @@ fn read_text(fd: i32, space: &mut [u8]) -> Read
 fn report_of(text: &[u8], out: &mut [u8; 1512]) -> usize
     ensures { λ r. ⌜ Reports (now (text .entry)) (now (out .entry)) (now (out .exit)) r ⌝ }
 {
-    let Written::Bytes(long) = score(text, out) else {
+    let Written::Bytes(long) = score(document_01(), text, out) else {
         return 0;
     };
     long

@@ -4,8 +4,10 @@ use Rattle.interface.proofs.makhroeng_from_density.Statement.{statement
 use Rattle.interface.proofs.makhroeng_from_density.Tie as tie
 
 returns : tie.Need-returns
-returns c = rw (← c .before .before .before .before .from-density .ensures) (c .before .before .put-answer .ensures)
+returns c =
+    let k = c .before .before .before .before in
+    rw (← k .before .document-01 .ensures, ← k .from-density .ensures) (c .before .before .put-answer .ensures)
 
 pub makhroeng-from-density-spec : {M : Type 1} → statement M
 makhroeng-from-density-spec =
-    tie.close (tie.spec (λ c κs. search needs) (λ c κs. search needs) (λ c. search needs) returns)
+    tie.close (tie.spec (λ c κs. search needs) (λ c κs. search needs) (λ c κs. search needs) (λ c. search needs) returns)

@@ -4,8 +4,10 @@ use Rattle.interface.proofs.makhroeng_from_pressure.Statement.{statemen
 use Rattle.interface.proofs.makhroeng_from_pressure.Tie as tie
 
 returns : tie.Need-returns
-returns c = rw (← c .before .before .before .before .from-pressure .ensures) (c .before .before .put-answer .ensures)
+returns c =
+    let k = c .before .before .before .before in
+    rw (← k .before .document-01 .ensures, ← k .from-pressure .ensures) (c .before .before .put-answer .ensures)
 
 pub makhroeng-from-pressure-spec : {M : Type 1} → statement M
 makhroeng-from-pressure-spec =
-    tie.close (tie.spec (λ c κs. search needs) (λ c κs. search needs) (λ c. search needs) returns)
+    tie.close (tie.spec (λ c κs. search needs) (λ c κs. search needs) (λ c κs. search needs) (λ c. search needs) returns)

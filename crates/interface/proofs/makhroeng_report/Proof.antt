@@ -5,15 +5,20 @@ use Rattle.interface.proofs.makhroeng_report.Statement.{statement}
 use Rattle.interface.proofs.makhroeng_report.Tie as tie
 
 returns : tie.Need-returns
-returns c = let s = c .before .before .before .before .before .score in reported-in _ _ _ (s .result) _ (c .before .n .given .1) (s .ensures)
+returns c =
+    let s = c .before .before .before .before .before in
+    reported-in _ _ _ (s .score .result) _ (c .before .n .given .1) (rw (s .before .before .document-01 .ensures) at (s .score .ensures))
 
 returns-2 : tie.Need-returns-2
-returns-2 c = let s = c .before .before .before .before .score in reported-in _ _ _ (s .result) _ (c .enum-told .given .1) (s .ensures)
+returns-2 c =
+    let s = c .before .before .before .before in
+    reported-in _ _ _ (s .score .result) _ (c .enum-told .given .1) (rw (s .before .before .document-01 .ensures) at (s .score .ensures))
 
 pub makhroeng-report-spec : {M : Type 1} → statement M
 makhroeng-report-spec =
     tie.close
     (tie.spec
+    (λ c κs. search needs)
     (λ c κs. search needs)
     (λ c. search needs)
     (λ c. search needs)

@@ -11,7 +11,7 @@ use Rattle.scorer.proofs.report_of.Tie as tie
 returns : tie.Need-returns
 returns c =
     let e = rw (c .enum-told .given .1) at (c .before .before .score .ensures) in
-    let h : length (now (c .before .before .before .before .before .args .out)) ≡ 1512 = search needs in
+    let h : length (now (c .before .before .before .before .before .before .args .out)) ≡ 1512 = search needs in
     absurd (omega (arith, e .2, e .3))
 
 returns-2 : tie.Need-returns-2
@@ -23,6 +23,7 @@ pub report-of-spec : {M : Type 1} → statement M
 report-of-spec =
     tie.close
     (tie.spec
+    (λ c κs. search needs)
     (λ c κs. search needs)
     (λ c. search needs)
     (λ c. search needs)

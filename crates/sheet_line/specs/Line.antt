@@ -3,7 +3,7 @@ use Prim.Native.Nat.{ℕ}
 use mathlib.Core.Path.{_≡_}
 use mathlib.Core.List.{List}
 use mathlib.Core.Option.{Option, none}
-use lib.Ieee.{Float, binary64, div}
+use lib.Ieee.{binary64, div}
 use Rattle.num_working.specs.Number.{whole}
 use Rattle.sheet_text.specs.Parse.{Parser, _>>=_, give}
 use Rattle.sheet_text.specs.Place.{Leaves}
@@ -16,20 +16,16 @@ use Rattle.sheet_line.specs.declared.line.Reading.{Reading}
 use Rattle.sheet_line.specs.declared.line.Line.{Line}
 use Rattle.sheet_line.specs.declared.line.LineAt.{LineAt}
 
--- "one division each"
-abbrev pub divided : ℕ → ℕ → Float
-divided n d = div binary64 (whole n) (whole d)
-
--- "Temperature is the number over 10000"
+-- "Temperature is the number over 10000", "one division each"
 abbrev pub temperatureOf : Field → Temperature
 temperatureOf Field.Blank = Temperature.Blank
-temperatureOf (Field.Number n) = Temperature.Kelvin (divided n 10000)
+temperatureOf (Field.Number n) = Temperature.Kelvin (div binary64 (whole n) (whole 10000))
 
 -- "A reading is blank, a pressure, or a density, and keeps its figure with its kind"; "density the number over 1000"
 abbrev pub readingOf : Kind → Field → Reading
 readingOf k Field.Blank = Reading.Blank
 readingOf Kind.Pressure (Field.Number n) = Reading.Pressure (whole n)
-readingOf Kind.Density (Field.Number n) = Reading.Density (divided n 1000)
+readingOf Kind.Density (Field.Number n) = Reading.Density (div binary64 (whole n) (whole 1000))
 
 abbrev pub lineOf : Cylinder → Line
 lineOf c = record { number = c .number; temperature = temperatureOf (c .temperature); reading = readingOf (c .kind) (c .value); volume = c .volume }

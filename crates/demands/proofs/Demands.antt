@@ -23,8 +23,10 @@ use Rattle.door_pressure.proofs.from_pressure.Reads as from-pressure
 use Rattle.door_pressure.proofs.Searches.{bits-below}
 use Rattle.door_density.specs.DensityDoor.{densityDoor}
 use Rattle.door_density.proofs.from_density.Reads as from-density
-use Rattle.demands.specs.Demands.{Whatever, Exactly, OutOfRange, no-number, no-temperature, no-value, PastP, Ranged, RefusesP, out-of-range, in-box, line-fails, on-line, vapour-fails}
-use Rattle.demands.specs.Demands.{liquid-fails, no-crossing, probe-fails, state-fails, Answered, RefusesD, out-of-ranges, in-the-box, no-vapour, no-liquid, between, no-pressure}
+use Rattle.demands.specs.Demands.{Whatever, Exactly, OutOfRange, no-number, no-temperature, no-value, PastP, Ranged}
+use Rattle.demands.specs.Demands.{RefusesP, out-of-range, in-box, line-fails, on-line, vapour-fails}
+use Rattle.demands.specs.Demands.{liquid-fails, no-crossing, probe-fails, state-fails, Answered, RefusesD, out-of-ranges}
+use Rattle.demands.specs.Demands.{in-the-box, no-vapour, no-liquid, between, no-pressure}
 use Rattle.demands.specs.Demands.{pressure-outside, no-state, AnsweredD, Settled, given, not-given, SameEight, LiesInRange}
 use Rattle.demands.proofs.PressureDoors.{ends, pressure-refusals, pressure-answers, no-crossing-exactly}
 use Rattle.demands.proofs.DensityDoors.{density-refusals, density-answers}

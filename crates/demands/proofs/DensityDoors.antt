@@ -21,7 +21,8 @@ use Rattle.door_answers.specs.Answer.{passed, answered}
 use Rattle.door_answers.specs.declared.Answer.{Answer}
 use Rattle.door_answers.specs.declared.Answer.the-variants as answer
 use Rattle.door_density.specs.DensityDoor.{inPhase, below, within, unboxed, densityDoor}
-use Rattle.demands.specs.Demands.{InRangeD, inBoxD, PastD, Phased, above-critical, as-vapour, as-liquid, RefusesD, out-of-ranges, in-the-box, no-vapour, no-liquid}
+use Rattle.demands.specs.Demands.{InRangeD, inBoxD, PastD, Phased, above-critical, as-vapour, as-liquid}
+use Rattle.demands.specs.Demands.{RefusesD, out-of-ranges, in-the-box, no-vapour, no-liquid}
 use Rattle.demands.specs.Demands.{between, no-pressure, pressure-outside, no-state, AnsweredD, DensityRefusals, DensityAnswers}
 use Rattle.demands.proofs.Checks.{stops, passes, finds, stops-back, passes-back}
 
@@ -32,8 +33,8 @@ module _ (E : Equation) (L : Limits) (lawful : Lawful E) (t rho : Float) where
     answers : (x : State) → a ≡ answer.State x → AnsweredD E L t rho x → Explains a
 
   module _ (past : PastD E L t rho) where
-    of-state : (phase : Phase) → Phased E L t rho phase → (p : Float) → E .pressure t rho ≡ Number p → outside (L .asked .pressure) p ≡ false → (s : Stated) → E .state t phase rho ≡ s
-        → Explains (answered s)
+    of-state : (phase : Phase) → Phased E L t rho phase → (p : Float) → E .pressure t rho ≡ Number p → outside (L .asked .pressure) p ≡ false
+        → (s : Stated) → E .state t phase rho ≡ s → Explains (answered s)
     of-state phase phased p e o Unknown q = refuses 7 refl (no-state past phased e o q)
     of-state phase phased p e o (Known y) q =
         let k = sym (lawful .phase t phase rho y q) in
@@ -54,8 +55,8 @@ module _ (E : Equation) (L : Limits) (lawful : Lawful E) (t rho : Float) where
         (λ p e. by-test Explains (outside (L .asked .pressure) p) _ _ (λ o. refuses 5 refl (pressure-outside past phased e o))
         (λ o. of-state phase phased p e o (E .state t phase rho) refl))
 
-    sides : le (E .critical) t ≡ false → (v l : Float) → E .vapourDensity t ≡ Number v → E .liquidDensity t ≡ Number l → (a b : Bool) → lt v rho ≡ a → lt rho l ≡ b
-        → Explains (cond (a && b) (answer.Refused 8) (cond (not a) (inPhase E L Vapour t rho) (inPhase E L Liquid t rho)))
+    sides : le (E .critical) t ≡ false → (v l : Float) → E .vapourDensity t ≡ Number v → E .liquidDensity t ≡ Number l
+        → (a b : Bool) → lt v rho ≡ a → lt rho l ≡ b → Explains (cond (a && b) (answer.Refused 8) (cond (not a) (inPhase E L Vapour t rho) (inPhase E L Liquid t rho)))
     sides cold v l e f true true g h = refuses 8 refl (between past cold e f g h)
     sides cold v l e f true false g h = of-phase Liquid (as-liquid cold e f g h)
     sides cold v l e f false b g h = of-phase Vapour (as-vapour cold e f g)

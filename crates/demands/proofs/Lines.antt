@@ -25,7 +25,8 @@ use Rattle.sheet_outcome.specs.declared.Weighed.{Weighed}
 use Rattle.demands.specs.Demands.{Exactly}
 use Rattle.demands.proofs.Ranges.{Outside, below-one, above-top, inside, outside, is-inside, is-outside}
 use Rattle.demands.specs.Lines as lines
-use Rattle.demands.specs.Lines.{Dashed, in-number, in-temperature, in-value, in-volume, Asked, by-pressure, by-density, Figures, Volume, NoVolume, none, too-large}
+use Rattle.demands.specs.Lines.{Dashed, in-number, in-temperature, in-value, in-volume, Asked, by-pressure}
+use Rattle.demands.specs.Lines.{by-density, Figures, Volume, NoVolume, none, too-large}
 use Rattle.demands.specs.Lines.{product, RefusesLine, no-volume, by-door, no-product, Weighs}
 
 -- ---- the volume
@@ -67,8 +68,8 @@ module _ (L : Limits) where
         by-test (Comes c) (isVolume v) (answered a v) (Weighed.Refused 2) (λ r. of-answer a f (in-volume-range v r))
         (λ r. refused (no-volume f (out-of-volume-range (outside 1_000_000 v r))))
 
-    of-parts : (n : Field) → c .number ≡ n → (g : Field) → c .volume ≡ g → (k : Field) → c .temperature ≡ k → (d : Kind) → c .kind ≡ d → (x : Field) → c .value ≡ x
-        → Comes c (ifNumber n (λ _. ifNumber g (λ v. byReading L (temperatureOf k) v (readingOf d x))))
+    of-parts : (n : Field) → c .number ≡ n → (g : Field) → c .volume ≡ g → (k : Field) → c .temperature ≡ k → (d : Kind) → c .kind ≡ d
+        → (x : Field) → c .value ≡ x → Comes c (ifNumber n (λ _. ifNumber g (λ v. byReading L (temperatureOf k) v (readingOf d x))))
     unfolding byReading
     of-parts Field.Blank e g h k f d p x q = refused (lines.blank (in-number e))
     of-parts (Field.Number n) e Field.Blank h k f d p x q = refused (lines.blank (in-volume h))
@@ -116,7 +117,9 @@ module _ (L : Limits) where
 
     figured : {v : ℕ} {a : Answer} → Figures L c v a → weighed L (lineOf c) ≡ cond (isVolume v) (answered a v) (Weighed.Refused 2)
     unfolding weighed filled
-    figured {v} {a} f = rw (f .number, f .volume, f .temperature) (at-the-door (div binary64 (whole (f .degrees)) (whole 10000)) (c .kind) (c .value) a v (f .asked))
+    figured {v} {a} f =
+        rw (f .number, f .volume, f .temperature)
+        (at-the-door (div binary64 (whole (f .degrees)) (whole 10000)) (c .kind) (c .value) a v (f .asked))
 
     line-refused : {n : ℕ} → RefusesLine L c n → weighed L (lineOf c) ≡ Weighed.Refused n
     unfolding milligrams

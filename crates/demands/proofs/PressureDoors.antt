@@ -30,8 +30,10 @@ use Rattle.door_pressure.specs.PressureDoor.{scaled, vapour, liquid, beneath, e
 use Rattle.door_pressure.proofs.Doors.{Reached, searchable, scaled-reached}
 use Rattle.door_pressure.proofs.Searches.{bits-below}
 use Rattle.demands.specs.Demands as demands
-use Rattle.demands.specs.Demands.{InRangeP, inBoxP, PastP, Beside, lower, higher, Ranged, supercritical, RefusesP, out-of-range, in-box, line-fails, on-line}
-use Rattle.demands.specs.Demands.{vapour-fails, liquid-fails, no-crossing, probe-fails, state-fails, Answered, PressureRefusals, PressureAnswers, NoCrossingExactly}
+use Rattle.demands.specs.Demands.{InRangeP, inBoxP, PastP, Beside, lower, higher, Ranged}
+use Rattle.demands.specs.Demands.{supercritical, RefusesP, out-of-range, in-box, line-fails, on-line}
+use Rattle.demands.specs.Demands.{vapour-fails, liquid-fails, no-crossing, probe-fails, state-fails}
+use Rattle.demands.specs.Demands.{Answered, PressureRefusals, PressureAnswers, NoCrossingExactly}
 use Rattle.demands.proofs.Checks.{stops, passes, finds, stops-back, passes-back}
 
 -- ---- the ends of a range have no minus sign, and are numbers that an f64 holds
@@ -41,8 +43,10 @@ pub record Ends (from to : Float) : Type 0 where
 
 pub ends : (E : Equation) (L : Limits) → Lawful E → (t p : Float) {phase : Phase} {from to : Float} → Ranged E L t p phase from to → Ends from to
 ends E L lawful t p (supercritical h) = record { first = searchable .from; second = searchable .to }
-ends E L lawful t p (demands.vapour b e) = record { first = searchable .from; second = scaled-reached (searchEnds .vapour) _ _ (searchable .vapour) (lawful .vapour t) e }
-ends E L lawful t p (demands.liquid b e) = record { first = scaled-reached (searchEnds .liquid) _ _ (searchable .liquid) (lawful .liquid t) e; second = searchable .to }
+ends E L lawful t p (demands.vapour b e) =
+    record { first = searchable .from; second = scaled-reached (searchEnds .vapour) _ _ (searchable .vapour) (lawful .vapour t) e }
+ends E L lawful t p (demands.liquid b e) =
+    record { first = scaled-reached (searchEnds .liquid) _ _ (searchable .liquid) (lawful .liquid t) e; second = searchable .to }
 
 module _ (E : Equation) (L : Limits) (lawful : Lawful E) (t p : Float) where
   -- ---- an answer of the door, explained
@@ -135,7 +139,8 @@ module _ (E : Equation) (L : Limits) (lawful : Lawful E) (t p : Float) where
   goes-beneath past (lower cold e off q) = enters past ∙ rw cold refl
   goes-beneath past (higher cold e off q) = enters past ∙ rw cold refl
 
-  searches : {phase : Phase} {from to : Float} → PastP E L t p → Ranged E L t p phase from to → pressureDoor E L t p ≡ searched (E .pressure t) (E .state t phase) from to p
+  searches : {phase : Phase} {from to : Float} → PastP E L t p → Ranged E L t p phase from to
+      → pressureDoor E L t p ≡ searched (E .pressure t) (E .state t phase) from to p
   unfolding entered beneath vapour liquid
   searches past (supercritical h) = enters past ∙ rw h refl
   searches past (demands.vapour (lower cold e off q) w) = enters past ∙ rw (cold, e, off, q, w) refl
@@ -181,11 +186,12 @@ module _ (E : Equation) (L : Limits) (lawful : Lawful E) where
       of-state Unknown e = let z : _≡_ {A = ℕ} 7 9 = cc in omega arith
       of-state (Known y) e = let z : _≡_ {A = ℕ} 0 1 = cc in omega arith
 
-      of-crossing : (c : Crossing) → halve (figure (E .pressure t)) p (toBits binary64 from) (toBits binary64 to) ≡ c → found (E .state t phase) c ≡ answer.Refused 9
-          → NoCrossing (figure (E .pressure t)) p (toBits binary64 from) (toBits binary64 to)
+      of-crossing : (c : Crossing) → halve (figure (E .pressure t)) p (toBits binary64 from) (toBits binary64 to) ≡ c
+          → found (E .state t phase) c ≡ answer.Refused 9 → NoCrossing (figure (E .pressure t)) p (toBits binary64 from) (toBits binary64 to)
       of-crossing (At r) e g = absurd (of-state (E .state t phase (ofBits binary64 r)) g)
       of-crossing Nowhere e g = nowhere (figure (E .pressure t)) p (toBits binary64 from) (toBits binary64 to) (top E L lawful t p ranged) e
       of-crossing Broke e g = let z : _≡_ {A = ℕ} 7 9 = cc in absurd (omega arith)
 
-      is-nowhere : searched (E .pressure t) (E .state t phase) from to p ≡ answer.Refused 9 → NoCrossing (figure (E .pressure t)) p (toBits binary64 from) (toBits binary64 to)
+      is-nowhere : searched (E .pressure t) (E .state t phase) from to p ≡ answer.Refused 9
+          → NoCrossing (figure (E .pressure t)) p (toBits binary64 from) (toBits binary64 to)
       is-nowhere g = of-crossing (halve (figure (E .pressure t)) p (toBits binary64 from) (toBits binary64 to)) refl g

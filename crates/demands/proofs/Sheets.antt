@@ -98,7 +98,8 @@ module _ (L : Limits) (t : List ℕ) where
     of-need l Field.Blank e = no-need l (subst NoNeed (sym e) sheets.blank)
     of-need l (Field.Number mg) e =
         by-test ListedAs (isNeed mg) (Admitted.Need mg) (Admitted.SentBack 12)
-        (λ r. let i = inside 9_999_999_999 mg r in of-total mg (record { lined = l; need = e; at-least = i .0; at-most = i .1 }) (total marks) (tally L (lines b)))
+        (λ r. let i = inside 9_999_999_999 mg r in
+        of-total mg (record { lined = l; need = e; at-least = i .0; at-most = i .1 }) (total marks) (tally L (lines b)))
         (λ r. no-need l (subst NoNeed (sym e) (out-of-need (outside 9_999_999_999 mg r))))
 
     of-count : inForm t ≡ some b → Reported L t (listed (admitted true (length (b .cylinders)) (b .need)) marks)
@@ -174,7 +175,8 @@ score-delivers κs a r x p = delivered _ _ _ _ r p
 
 module _ (L : Limits) where
   -- a refused line means no verdict
-  pub no-verdict : (t : List ℕ) {b : Bank} {need : ℕ} → Needs t b need → OneRefused L (lines b) → report L (inForm t) ≡ linesBytes 1 (marked L (lines b)) ++ sentBack 13
+  pub no-verdict : (t : List ℕ) {b : Bank} {need : ℕ} → Needs t b need → OneRefused L (lines b)
+      → report L (inForm t) ≡ linesBytes 1 (marked L (lines b)) ++ sentBack 13
   no-verdict t n r = only L t (one-refused n r)
 
   -- the largest total: 32 lines of less than 2⁵³ mg each, which 64 bits hold

@@ -53,7 +53,9 @@ top-fields s t n = either (eqb t 0) (inf s) nan (λ m. m) (λ m. m) n
 -- the bits of a number that is finite and has no minus sign lie below those of the infinity
 pub bits-below : (x : Float) → T (nonneg x) → T (fits binary64 x) → toBits binary64 x < infinity
 unfolding ofBits
-bits-below x n f = go (toBits binary64 x) (subst (λ (y : Float). T (nonneg y)) (sym (ofBits-toBits binary64 x f)) n) (leb 0x8000_0000_0000_0000 (toBits binary64 x)) (ltb (toBits binary64 x) infinity) refl refl
+bits-below x n f =
+    let b = toBits binary64 x in
+    go b (subst (λ (y : Float). T (nonneg y)) (sym (ofBits-toBits binary64 x f)) n) (leb 0x8000_0000_0000_0000 b) (ltb b infinity) refl refl
   where
     go : (b : ℕ) → T (nonneg (ofBits binary64 b)) → (s l : Bool) → leb 0x8000_0000_0000_0000 b ≡ s → ltb b infinity ≡ l → b < infinity
     go b m s true q h = ltb-true b infinity h

@@ -1,13 +1,11 @@
--- The pressure of a state is bit for bit the pressure alone; its temperature, density and phase are those asked for; its numbers don't hang on the phase; and what
--- fails with the temperature. Assumes nothing.
+-- The pressure of a state is bit for bit the pressure alone; its temperature, density and phase are those asked for; its numbers don't hang on
+-- the phase; and what fails with the temperature. Assumes nothing.
 use mathlib.Core.Path.{_≡_, refl, ap, _∙_}
-use Prim.Native.Nat.{ℕ}
-use native.Mathlib.Omega.{arith}
 use lib.Ieee.{Float}
 use Rattle.num_working.specs.Working.{orElse}
 use Rattle.num_working.specs.declared.Worked.{Worked}
 use Rattle.num_working.specs.declared.Worked.the-variants.{Number, Failed}
-use Rattle.num_working.proofs.Cases.{by-working}
+use Rattle.num_working.proofs.Cases.{by-working, never}
 use Rattle.num_formulas.specs.Formula.{work}
 use Rattle.eos_constants.specs.Reduced.{delta}
 use Rattle.eos_brackets.specs.Derivative.{Derivative, Delta, DeltaDelta, Tau, TauTau, DeltaTau}
@@ -36,7 +34,7 @@ pub record Keeps (t rho : Float) (p : Worked) (phase q : Phase) (a b : Stated) :
 
 -- where nothing was worked there is nothing to say
 impossible : {A : Type 0} (x : State) → Unknown ≡ Known x → A
-impossible x e = let z : _≡_ {A = ℕ} 0 1 = cc in absurd (omega arith)
+impossible x e = never (cc)
 
 none : (t rho : Float) (p : Worked) (phase q : Phase) (b : Stated) → Keeps t rho p phase q Unknown b
 none t rho p phase q b = record {
@@ -70,7 +68,10 @@ module _ (t rho : Float) (phase q : Phase) where
   kept-of : (sums : Five) (i1 i2 : Float) → Kept (work (pressureFormula t rho (sums .d))) (stateOf phase t rho sums i1 i2) (stateOf q t rho sums i1 i2)
   unfolding stateOf
   kept-of sums i1 i2 =
-      kept-stated (work (pressureFormula t rho (sums .d))) (work (energy t sums i1)) (work (enthalpy t sums i1)) (work (heatV sums i2)) (work (heatP sums i2)) (work (sound t sums i2))
+      kept-stated (work (pressureFormula t rho (sums .d))) (work (energy t sums i1)) (work (enthalpy t sums i1))
+      (work (heatV sums i2))
+      (work (heatP sums i2))
+      (work (sound t sums i2))
 
   -- ---- with the ideal part
   kept-with : (sums : Five) (v w : Worked) → Kept (work (pressureFormula t rho (sums .d)))
@@ -84,11 +85,11 @@ module _ (t rho : Float) (phase q : Phase) where
 module _ (v : Derivative → Worked) (s : Five) (e : allFive v ≡ Summed s) where
   first-from : (a b c d f : Worked) → v Delta ≡ a → v DeltaDelta ≡ b → v Tau ≡ c → v TauTau ≡ d → v DeltaTau ≡ f → v Delta ≡ Number (s .d)
   unfolding allFive
-  first-from Failed b c d f g h i j k = let y = rw g at e in let z : _≡_ {A = ℕ} 0 1 = cc in absurd (omega arith)
-  first-from (Number a) Failed c d f g h i j k = let y = rw (g, h) at e in let z : _≡_ {A = ℕ} 0 1 = cc in absurd (omega arith)
-  first-from (Number a) (Number b) Failed d f g h i j k = let y = rw (g, h, i) at e in let z : _≡_ {A = ℕ} 0 1 = cc in absurd (omega arith)
-  first-from (Number a) (Number b) (Number c) Failed f g h i j k = let y = rw (g, h, i, j) at e in let z : _≡_ {A = ℕ} 0 1 = cc in absurd (omega arith)
-  first-from (Number a) (Number b) (Number c) (Number d) Failed g h i j k = let y = rw (g, h, i, j, k) at e in let z : _≡_ {A = ℕ} 0 1 = cc in absurd (omega arith)
+  first-from Failed b c d f g h i j k = let y = rw g at e in never (cc)
+  first-from (Number a) Failed c d f g h i j k = let y = rw (g, h) at e in never (cc)
+  first-from (Number a) (Number b) Failed d f g h i j k = let y = rw (g, h, i) at e in never (cc)
+  first-from (Number a) (Number b) (Number c) Failed f g h i j k = let y = rw (g, h, i, j) at e in never (cc)
+  first-from (Number a) (Number b) (Number c) (Number d) Failed g h i j k = let y = rw (g, h, i, j, k) at e in never (cc)
   first-from (Number a) (Number b) (Number c) (Number d) (Number f) g h i j k = let y = rw (g, h, i, j, k) at e in let m : a ≡ s .d = cc in g ∙ ap Number m
 
   first-sum : v Delta ≡ Number (s .d)

@@ -1,5 +1,5 @@
--- What holds of both cases of a choice holds of the choice: of `cond`, and of `orElse`; a number that is tested is a choice by whether it is finite; and a case that
--- can't be. Assumes nothing.
+-- What holds of both cases of a choice holds of the choice, of `cond` and of `orElse`; a number that is tested is a choice by whether it is finite;
+-- and a case that can't be. Assumes nothing.
 use mathlib.Core.Path.{_≡_, refl}
 use mathlib.Core.Bool.{Bool, true, false, cond}
 use Prim.Native.Nat.{ℕ}

@@ -1,5 +1,4 @@
 -- Document 01, refusal 7: working failed, a number that was worked is not finite. Definitions only.
-use mathlib.Core.Bool.{Bool, true, false}
 use lib.Ieee as Ieee
 use lib.Ieee.{Float, nan, inf, fin, binary64}
 use Rattle.num_working.specs.declared.Worked.{Worked}
@@ -24,15 +23,6 @@ over x y = Ieee.div binary64 x (plain (checked y))
 abbrev pub orElse : {A : Type 0} → Worked → A → (Float → A) → A
 orElse Failed z f = z
 orElse (Number x) z f = f x
-
--- what is worked from a number, failed where the number has
-abbrev pub then : Worked → (Float → Worked) → Worked
-then Failed f = Failed
-then (Number x) f = f x
-
-abbrev pub pick : Bool → Worked → Worked → Worked
-pick true a b = a
-pick false a b = b
 
 -- an f64 operation, rounded once, on two numbers that were worked
 abbrev pub both : (Float → Float → Float) → Worked → Worked → Worked

@@ -11,7 +11,8 @@ use Rattle.door_density.proofs.beneath.Tie as tie
 vapour-is : (c : tie.After-vapour) → of1996 .vapourDensity (c .before .before .before .args .t) ≡ Number (c .vapour .given .0 .0)
 vapour-is c = sym (c .before .before .vapour-density .ensures) ∙ c .vapour .given .1
 
-liquid-is : (c : tie.After-liquid) → of1996 .liquidDensity (c .before .before .before .before .before .before .before .args .t) ≡ Number (c .liquid .given .0 .0)
+liquid-is : (c : tie.After-liquid)
+    → of1996 .liquidDensity (c .before .before .before .before .before .before .before .args .t) ≡ Number (c .liquid .given .0 .0)
 liquid-is c = sym (c .before .before .liquid-density .ensures) ∙ c .liquid .given .1
 
 returns : tie.Need-returns

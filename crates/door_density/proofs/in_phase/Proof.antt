@@ -27,8 +27,9 @@ returns-3 c =
     let o = c .before .before in
     let p = o .before .before .before in
     let k = p .before .before .before in
-    c .answer-with .ensures
-    ∙ rw (c .before .state-on .ensures, k .curve-at .ensures, state-on-curve (k .before .args .t), worked (p .before .before) ∙ p .p .given .1, sym (o .before .is-outside .ensures) ∙ o .if1 .left)
+    let w = worked (p .before .before) ∙ p .p .given .1 in
+    let q = sym (o .before .is-outside .ensures) ∙ o .if1 .left in
+    c .answer-with .ensures ∙ rw (c .before .state-on .ensures, k .curve-at .ensures, state-on-curve (k .before .args .t), w, q)
 
 pub in-phase-spec : {M : Type 1} → statement M
 in-phase-spec =

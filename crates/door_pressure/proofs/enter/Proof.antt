@@ -14,8 +14,8 @@ returns : tie.Need-returns
 unfolding entered
 returns c =
     let d = c .before .before in
-    c .search-at .ensures
-    ∙ rw (c .before .search-ends .ensures, sym (ap (λ (k : Float). le k (d .before .before .args .t)) (d .before .critical-temperature .ensures)) ∙ d .if1 .taken) refl
+    let h = sym (ap (λ (k : Float). le k (d .before .before .args .t)) (d .before .critical-temperature .ensures)) ∙ d .if1 .taken in
+    c .search-at .ensures ∙ rw (c .before .search-ends .ensures, h) refl
 
 returns-2 : tie.Need-returns-2
 unfolding entered

@@ -20,7 +20,8 @@ merged true false c x z = refl
 merged false b c x z = refl
 
 three : (x y z : Float) (f : Float → Float → Float → Stated)
-    → orElse (checked x) Unknown (λ x. orElse (checked y) Unknown (λ y. orElse (checked z) Unknown (λ z. f x y z))) ≡ cond (finite x && (finite y && finite z)) (f x y z) Unknown
+    → orElse (checked x) Unknown (λ x. orElse (checked y) Unknown (λ y. orElse (checked z) Unknown (λ z. f x y z)))
+    ≡ cond (finite x && (finite y && finite z)) (f x y z) Unknown
 three x y z f =
     tested-choice x Unknown _ ∙ rw (tested-choice y Unknown _, tested-choice z Unknown _) (merged (finite x) (finite y) (finite z) (f x y z) Unknown)
 
@@ -28,19 +29,26 @@ abbrev allTested : State → Stated
 allTested x = stated (x .phase) (x .t) (x .rho) (checked (x .p)) (checked (x .u)) (checked (x .h)) (checked (x .cv)) (checked (x .cp)) (checked (x .w))
 
 -- by two tests of three numbers each
-choice : (x : State) → allTested x ≡ cond (finite (x .p) && (finite (x .u) && finite (x .h))) (cond (finite (x .cv) && (finite (x .cp) && finite (x .w))) (Known x) Unknown) Unknown
+choice : (x : State)
+    → allTested x ≡ cond (finite (x .p) && (finite (x .u) && finite (x .h))) (cond (finite (x .cv) && (finite (x .cp) && finite (x .w))) (Known x) Unknown) Unknown
 choice x =
-    three (x .p) (x .u) (x .h) (λ p u h. stated (x .phase) (x .t) (x .rho) (Number p) (Number u) (Number h) (checked (x .cv)) (checked (x .cp)) (checked (x .w)))
+    three (x .p) (x .u) (x .h)
+    (λ p u h. stated (x .phase) (x .t) (x .rho) (Number p) (Number u) (Number h) (checked (x .cv)) (checked (x .cp)) (checked (x .w)))
     ∙ ap (λ (s : Stated). cond (finite (x .p) && (finite (x .u) && finite (x .h))) s Unknown)
-    (three (x .cv) (x .cp) (x .w) (λ cv cp w. Known (record { t = x .t; p = x .p; rho = x .rho; u = x .u; h = x .h; cv = cv; cp = cp; w = w; phase = x .phase })))
+    (three (x .cv) (x .cp) (x .w)
+    (λ cv cp w. Known (record { t = x .t; p = x .p; rho = x .rho; u = x .u; h = x .h; cv = cv; cp = cp; w = w; phase = x .phase })))
 
 returns : tie.Need-returns
 returns c =
-    sym (choice (c .before .before .before .before .args .x) ∙ rw (sym (c .before .before .before .are-finite .ensures) ∙ c .before .before .if1 .taken, sym (c .before .are-finite2 .ensures) ∙ c .if2 .taken) refl)
+    let f = c .before .before in
+    let e = sym (f .before .are-finite .ensures) ∙ f .if1 .taken in
+    sym (choice (f .before .before .args .x) ∙ rw (e, sym (c .before .are-finite2 .ensures) ∙ c .if2 .taken) refl)
 
 returns-2 : tie.Need-returns-2
 returns-2 c =
-    sym (choice (c .before .before .before .before .args .x) ∙ rw (sym (c .before .before .before .are-finite .ensures) ∙ c .before .before .if1 .taken, sym (c .before .are-finite2 .ensures) ∙ c .if2 .left) refl)
+    let f = c .before .before in
+    let e = sym (f .before .are-finite .ensures) ∙ f .if1 .taken in
+    sym (choice (f .before .before .args .x) ∙ rw (e, sym (c .before .are-finite2 .ensures) ∙ c .if2 .left) refl)
 
 returns-3 : tie.Need-returns-3
 returns-3 c = sym (choice (c .before .before .args .x) ∙ rw (sym (c .before .are-finite .ensures) ∙ c .if1 .left) refl)

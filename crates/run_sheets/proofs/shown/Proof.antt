@@ -10,7 +10,10 @@ array-share-prefix-out : tie.Need-array-share-prefix-out
 array-share-prefix-out c = let e = rw (c .before .n .given .1) at (c .before .before .before .before .score .ensures) in inside (e .0) (e .1)
 
 slice-aggregate-say-2 : tie.Need-slice-aggregate-say-2
-slice-aggregate-say-2 c = let e = rw (c .before .before .n .given .1) at (c .before .before .before .before .before .score .ensures) in sym (length-take-le _ _ (inside (e .0) (e .1)))
+slice-aggregate-say-2 c =
+    let n = c .before .before in
+    let e = rw (n .n .given .1) at (n .before .before .before .score .ensures) in
+    sym (length-take-le _ _ (inside (e .0) (e .1)))
 
 pub shown-spec : {M : Type 1} → statement M
 shown-spec =
@@ -20,6 +23,7 @@ shown-spec =
     (λ c. search needs)
     (λ c κs. search needs)
     (λ c. search needs)
+    (λ c κs. search needs)
     (λ c κs. search needs)
     (λ c. search needs)
     array-share-prefix-out

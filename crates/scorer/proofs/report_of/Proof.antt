@@ -16,7 +16,8 @@ returns c =
 
 returns-2 : tie.Need-returns-2
 returns-2 c =
-    let e = rw (c .before .long .given .1) at (c .before .before .before .score .ensures) in
+    let s = c .before .before .before in
+    let e = rw (s .before .before .document-01 .ensures, c .before .long .given .1) at (s .score .ensures) in
     record { wrote = e .0; fits = inside (e .0) (e .1) }
 
 pub report-of-spec : {M : Type 1} → statement M

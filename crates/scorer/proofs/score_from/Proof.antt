@@ -9,7 +9,9 @@ slice-reshare-prefix-report-of : tie.Need-slice-reshare-prefix-report-of
 slice-reshare-prefix-report-of c = rw (c .before .n .given .1) at (c .before .before .before .before .before .read-text .ensures)
 
 slice-aggregate-report-of : tie.Need-slice-aggregate-report-of
-slice-aggregate-report-of c = sym (length-take-le _ _ (rw (c .before .before .n .given .1) at (c .before .before .before .before .before .before .read-text .ensures)))
+slice-aggregate-report-of c =
+    let n = c .before .before in
+    sym (length-take-le _ _ (rw (n .n .given .1) at (n .before .before .before .before .read-text .ensures)))
 
 returns-2 : tie.Need-returns-2
 returns-2 c =

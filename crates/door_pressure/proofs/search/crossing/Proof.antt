@@ -38,7 +38,8 @@ between-requires : tie.Need-between-requires
 between-requires c κs =
     let h = c .before in
     let l = h .before .before .before .before in
-    (omega arith, (omega arith, (sym (l .before .before .pressure-on .ensures) ∙ l .low .given .1, sym (h .before .before .pressure-on2 .ensures) ∙ h .high .given .1)))
+    let low = sym (l .before .before .pressure-on .ensures) ∙ l .low .given .1 in
+    (omega arith, (omega arith, (low, sym (h .before .before .pressure-on2 .ensures) ∙ h .high .given .1)))
 
 pub crossing-spec : {M : Type 1} → statement M
 crossing-spec =

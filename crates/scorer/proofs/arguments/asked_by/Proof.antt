@@ -13,7 +13,12 @@ returns-3 : tie.Need-returns-3
 returns-3 c = (omega arith, λ _. c .before .same2 .ensures .0 (c .if4 .taken), λ e. absurd (omega arith))
 
 returns-4 : tie.Need-returns-4
-returns-4 c = (omega arith, λ e. true≢false (sym (c .before .before .before .before .same .ensures .1 e) ∙ c .before .before .before .if3 .left), λ e. true≢false (sym (c .before .same2 .ensures .1 e) ∙ c .if4 .left))
+returns-4 c =
+    let d = c .before .before .before in (
+      omega arith,
+      λ e. true≢false (sym (d .before .same .ensures .1 e) ∙ d .if3 .left),
+      λ e. true≢false (sym (c .before .same2 .ensures .1 e) ∙ c .if4 .left),
+    )
 
 returns-5 : tie.Need-returns-5
 returns-5 c = (omega arith, c .before .same3 .ensures .0 (c .if6 .taken))

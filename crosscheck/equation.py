@@ -1,5 +1,5 @@
 #!/usr/bin/env python3
-"""The pressure and the state worked a second time, from 004 and docs/ARRANGEMENT.md, sections 2 to 9: prints what the program `figures` must print.
+"""The pressure and the state worked a second time, from 004 and docs/ARRANGEMENT.md, sections 2 to 9: prints what the program `run_figures` must print.
 
 Each operation is one Python float operation, which is the same f64 operation. Each number is tested as it is worked, where the code tests at the end.
     crosscheck/equation.py | diff - crates/run_figures/stdout

@@ -17,7 +17,7 @@ use Rattle.door_limits.specs.declared.Limits.{Limits}
 use Rattle.door_checks.specs.Check.{boxed}
 use Rattle.door_checks.specs.declared.Check.{Check}
 use Rattle.door_checks.specs.declared.Check.the-variants.{Passed, No}
-use Rattle.door_answers.specs.Answer.{passed, answered}
+use Rattle.door_answers.specs.Answer.{passed, answerWith}
 use Rattle.door_answers.specs.declared.Answer.{Answer}
 use Rattle.door_answers.specs.declared.Answer.the-variants as answer
 use Rattle.door_density.specs.DensityDoor.{inPhase, below, within, unboxed, densityDoor}
@@ -34,17 +34,20 @@ module _ (E : Equation) (L : Limits) (lawful : Lawful E) (t rho : Float) where
 
   module _ (past : PastD E L t rho) where
     of-state : (phase : Phase) → Phased E L t rho phase → (p : Float) → E .pressure t rho ≡ Number p → outside (L .asked .pressure) p ≡ false
-        → (s : Stated) → E .state t phase rho ≡ s → Explains (answered s)
+        → (s : Stated) → E .state t phase rho ≡ s → Explains (answerWith s)
     of-state phase phased p e o Unknown q = refuses 7 refl (no-state past phased e o q)
     of-state phase phased p e o (Known y) q =
         let k = sym (lawful .phase t phase rho y q) in
+        let f = lawful .pressure t phase rho y q in
+        let same : p ≡ y .p = cc in
         answers y refl
         (record {
-          pressure = p;
           past = past;
           phased = subst (λ (h : Phase). Phased E L t rho h) k phased;
-          worked = e;
-          within = o;
+          temperature = lawful .temperature t phase rho y q;
+          density = lawful .density t phase rho y q;
+          pressure = lawful .pressure t phase rho y q;
+          within = subst (λ (z : Float). outside (L .asked .pressure) z ≡ false) same o;
           stated = subst (λ (h : Phase). E .state t h rho ≡ Known y) k q;
         })
 

@@ -20,7 +20,7 @@ use Rattle.door_density.specs.DensityDoor.{densityDoor}
 use Rattle.num_whole.specs.Whole.{wholeBelow}
 use Rattle.num_whole.specs.declared.Below.{Below}
 use Rattle.num_working.proofs.Cases.{by-test}
-use Rattle.sheet_weigh.specs.Weighing.{ifNumber, ifKelvin, isVolume, mass, milligrams, answered, filled, byReading, weighed}
+use Rattle.sheet_weigh.specs.Weighing.{ifNumber, ifKelvin, isVolume, mass, milligrams, byAnswer, filled, byReading, weighed}
 use Rattle.sheet_outcome.specs.declared.Weighed.{Weighed}
 use Rattle.demands.specs.Demands.{Exactly}
 use Rattle.demands.proofs.Ranges.{Outside, below-one, above-top, inside, outside, is-inside, is-outside}
@@ -57,7 +57,7 @@ module _ (L : Limits) where
     of-product s (Below.At mg) f r e = weighs (record { v = _; s = s; figures = f; in-range = r; at-or-below = e })
     of-product s Below.Out f r e = refused (no-product f r e)
 
-    of-answer : {v : ℕ} (a : Answer) → Figures L c v a → Volume v → Comes c (answered a v)
+    of-answer : {v : ℕ} (a : Answer) → Figures L c v a → Volume v → Comes c (byAnswer a v)
     unfolding milligrams
     of-answer {v} (Answer.State s) f r = of-product s (wholeBelow (product s v)) f r refl
     of-answer (Answer.Refused n) f r = refused (by-door f r)
@@ -65,7 +65,7 @@ module _ (L : Limits) where
     of-volume : {v : ℕ} (a : Answer) → Figures L c v a → Comes c (filled v a)
     unfolding filled
     of-volume {v} a f =
-        by-test (Comes c) (isVolume v) (answered a v) (Weighed.Refused 2) (λ r. of-answer a f (in-volume-range v r))
+        by-test (Comes c) (isVolume v) (byAnswer a v) (Weighed.Refused 2) (λ r. of-answer a f (in-volume-range v r))
         (λ r. refused (no-volume f (out-of-volume-range (outside 1_000_000 v r))))
 
     of-parts : (n : Field) → c .number ≡ n → (g : Field) → c .volume ≡ g → (k : Field) → c .temperature ≡ k → (d : Kind) → c .kind ≡ d
@@ -115,7 +115,7 @@ module _ (L : Limits) where
     at-the-door t d x a v (by-pressure n) = refl
     at-the-door t d x a v (by-density n) = refl
 
-    figured : {v : ℕ} {a : Answer} → Figures L c v a → weighed L (lineOf c) ≡ cond (isVolume v) (answered a v) (Weighed.Refused 2)
+    figured : {v : ℕ} {a : Answer} → Figures L c v a → weighed L (lineOf c) ≡ cond (isVolume v) (byAnswer a v) (Weighed.Refused 2)
     unfolding weighed filled
     figured {v} {a} f =
         rw (f .number, f .volume, f .temperature)

@@ -22,7 +22,7 @@ use Rattle.door_limits.specs.declared.Limits.{Limits}
 use Rattle.door_checks.specs.Check.{boxed}
 use Rattle.door_checks.specs.declared.Check.{Check}
 use Rattle.door_checks.specs.declared.Check.the-variants.{Passed, No}
-use Rattle.door_answers.specs.Answer.{passed, answered}
+use Rattle.door_answers.specs.Answer.{passed, answerWith}
 use Rattle.door_answers.specs.declared.Answer.{Answer}
 use Rattle.door_answers.specs.declared.Answer.the-variants as answer
 use Rattle.door_pressure.specs.Search.{figure, found, searched}
@@ -69,7 +69,7 @@ module _ (E : Equation) (L : Limits) (lawful : Lawful E) (t p : Float) where
       abbrev hi : ℕ
       hi = toBits binary64 to
 
-      of-state : (r : ℕ) → halve f p lo hi ≡ At r → (s : Stated) → E .state t phase (ofBits binary64 r) ≡ s → Explains (answered s)
+      of-state : (r : ℕ) → halve f p lo hi ≡ At r → (s : Stated) → E .state t phase (ofBits binary64 r) ≡ s → Explains (answerWith s)
       of-state r e Unknown q = refuses 7 refl (state-fails past ranged e q)
       of-state r e (Known y) q =
           let k = sym (lawful .phase t phase (ofBits binary64 r) y q) in
@@ -82,6 +82,8 @@ module _ (E : Equation) (L : Limits) (lawful : Lawful E) (t p : Float) where
             ranged = subst (λ (h : Phase). Ranged E L t p h from to) k ranged;
             found = answer f p lo hi r (top ranged) e;
             worked = subst (λ (h : Phase). E .state t h (ofBits binary64 r) ≡ Known y) k q;
+            temperature = lawful .temperature t phase (ofBits binary64 r) y q;
+            pressure = lawful .pressure t phase (ofBits binary64 r) y q;
           })
 
       of-crossing : (c : Crossing) → halve f p lo hi ≡ c → Explains (found (E .state t phase) c)
@@ -158,7 +160,7 @@ module _ (E : Equation) (L : Limits) (lawful : Lawful E) (t p : Float) where
       searches past ranged ∙ ap (found (E .state t phase)) (nowhere-back (figure (E .pressure t)) p (toBits binary64 from) (toBits binary64 to) n)
   refuses-back (probe-fails {phase} {from} {to} past ranged h b) =
       searches past ranged ∙ ap (found (E .state t phase)) (breaks-back (figure (E .pressure t)) p (toBits binary64 from) (toBits binary64 to) h (top ranged) b)
-  refuses-back (state-fails {phase} past ranged e q) = searches past ranged ∙ ap (found (E .state t phase)) e ∙ ap answered q
+  refuses-back (state-fails {phase} past ranged e q) = searches past ranged ∙ ap (found (E .state t phase)) e ∙ ap answerWith q
 
 -- ---- the demands
 module _ (E : Equation) (L : Limits) (lawful : Lawful E) where
@@ -182,7 +184,7 @@ module _ (E : Equation) (L : Limits) (lawful : Lawful E) where
   no-crossing-exactly t p phase from to past ranged =
       (λ e. is-nowhere (sym (searches E L lawful t p past ranged) ∙ e), λ n. refuses-back E L lawful t p (no-crossing past ranged n))
     where
-      of-state : (s : Stated) → answered s ≡ answer.Refused 9 → ⊥
+      of-state : (s : Stated) → answerWith s ≡ answer.Refused 9 → ⊥
       of-state Unknown e = let z : _≡_ {A = ℕ} 7 9 = cc in omega arith
       of-state (Known y) e = let z : _≡_ {A = ℕ} 0 1 = cc in omega arith
 

@@ -10,7 +10,7 @@ use Rattle.door_limits.specs.Limits.{document01}
 use Rattle.door_checks.specs.Check.{ranged, boxed}
 use Rattle.door_pressure.specs.PressureDoor.{unboxed, pressureDoor}
 use Rattle.sheet_weigh.specs.Weighing.{filled, byReading, weighed}
-use Rattle.demands.specs.Readings.{Read, number, Starred, at, of-checks, of-lines, readings}
+use Rattle.demands.specs.Readings.{Read, number, Starred, passes, of-checks, of-lines, readings}
 
 abbrev worked : List Starred → List Read
 worked rs = map (λ (r : Starred). r .worked) rs
@@ -19,7 +19,7 @@ abbrev reads : List Starred → List Read
 reads rs = map (λ (r : Starred). r .reads) rs
 
 checks-read : worked of-checks ≡ reads of-checks
-unfolding of-checks at document01 ranged boxed whole decimal fraction ofInt round div lt
+unfolding of-checks passes document01 ranged boxed whole decimal fraction ofInt round div lt
 checks-read = refl
 
 lines-read : worked of-lines ≡ reads of-lines
@@ -27,7 +27,7 @@ unfolding of-lines weighed byReading filled pressureDoor unboxed document01 rang
 lines-read = refl
 
 pub all-read : worked readings ≡ reads readings
-unfolding readings numerics.readings of-checks of-lines
+unfolding readings numerics.readings of-checks passes of-lines
 all-read =
     ap (λ (ns : List Worked). map number ns ++ (worked of-checks ++ worked of-lines)) numerics-read.all-read
     ∙ ap (λ (ds : List Read). map number (map (λ (r : numerics.Starred). r .reads) numerics.readings) ++ (ds ++ worked of-lines)) checks-read

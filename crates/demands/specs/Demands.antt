@@ -87,6 +87,8 @@ module _ (E : Equation) (L : Limits) where
       pub ranged : Ranged (x .phase) from to
       pub found : Found (figure (E .pressure t)) p (toBits binary64 from) (toBits binary64 to) bits
       pub worked : E .state t (x .phase) (ofBits binary64 bits) ≡ Known x
+      pub temperature : x .t ≡ t
+      pub pressure : E .pressure t (ofBits binary64 bits) ≡ Number (x .p)
 
   -- ---- the density door
   module _ (t rho : Float) where
@@ -117,11 +119,12 @@ module _ (E : Equation) (L : Limits) where
       no-state : {phase : Phase} {p : Float} → PastD → Phased phase → E .pressure t rho ≡ Number p → outside (L .asked .pressure) p ≡ false → E .state t phase rho ≡ Unknown → RefusesD 7
 
     pub record AnsweredD (x : State) : Type 0 where
-      pub pressure : Float
       pub past : PastD
       pub phased : Phased (x .phase)
-      pub worked : E .pressure t rho ≡ Number pressure
-      pub within : outside (L .asked .pressure) pressure ≡ false
+      pub temperature : x .t ≡ t
+      pub density : x .rho ≡ rho
+      pub pressure : E .pressure t rho ≡ Number (x .p)
+      pub within : outside (L .asked .pressure) (x .p) ≡ false
       pub stated : E .state t (x .phase) rho ≡ Known x
 
 -- ---- the demands

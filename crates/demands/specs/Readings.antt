@@ -8,7 +8,7 @@ use Rattle.num_formulas.specs.Readings as numerics
 use Rattle.door_limits.specs.Limits.{document01}
 use Rattle.door_checks.specs.Check.{ranged, boxed}
 use Rattle.door_checks.specs.declared.Check.{Check}
-use Rattle.door_checks.specs.declared.Check.the-variants.{Passed, No}
+use Rattle.door_checks.specs.declared.Check.the-variants.{Passed}
 use Rattle.sheet_text.specs.declared.Field.the-variants.{Number}
 use Rattle.sheet_line.specs.Line.{lineOf}
 use Rattle.sheet_line.specs.declared.cylinder.Cylinder.{Cylinder}
@@ -27,28 +27,16 @@ pub record Starred : Type 0 where
   pub worked : Read
   pub reads : Read
 
--- one check after the other
-abbrev pub after : Check → Check → Check
-after (No n) c = No n
-after Passed c = c
-
--- "Temperature is the number over 10000", a pressure is in Pa
-unfoldable pub at : ℕ → ℕ → Check
-at t p =
+-- "does not" speaks of the checks on the inputs: both pieces are passed. "Temperature is the number over 10000", a pressure is in Pa
+unfoldable pub passes : ℕ → ℕ → List Starred
+passes t p =
     let k = div binary64 (whole t) (whole 10000) in
-    after (ranged (document01 .asked .temperature) (document01 .asked .pressure) k (whole p)) (boxed (document01 .critical .temperature) (document01 .critical .pressure) k (whole p))
-
-abbrev pub passes : Check → Starred
-passes c = record { worked = check c; reads = check Passed }
-
--- "does not" speaks of the checks on the inputs: they are passed
-unfoldable pub of-checks : List Starred
-of-checks =
-    passes (at 2165920 5000000)
-    ∷ passes (at 5230000 5000000)
-    ∷ passes (at 3000000 10000)
-    ∷ passes (at 3031281 7000000)
+    record { worked = check (ranged (document01 .asked .temperature) (document01 .asked .pressure) k (whole p)); reads = check Passed }
+    ∷ record { worked = check (boxed (document01 .critical .temperature) (document01 .critical .pressure) k (whole p)); reads = check Passed }
     ∷ []
+
+unfoldable pub of-checks : List Starred
+of-checks = passes 2165920 5000000 ++ (passes 5230000 5000000 ++ (passes 3000000 10000 ++ passes 3031281 7000000))
 
 -- "gives": a cylinder's line with a pressure, as it is written, is refused by this number
 abbrev pub written : ℕ → ℕ → ℕ → Cylinder

@@ -1,4 +1,5 @@
 -- What a door answers. Definitions only.
+use Prim.Native.Nat.{ℕ}
 use Rattle.eos_state.specs.declared.Stated.{Stated}
 use Rattle.eos_state.specs.declared.Stated.the-variants.{Known, Unknown}
 use Rattle.door_checks.specs.declared.Check.{Check}
@@ -12,6 +13,11 @@ passed (No n) a = answer.Refused n
 passed Passed a = a
 
 -- "7: working failed"
-abbrev pub answered : Stated → Answer
-answered Unknown = answer.Refused 7
-answered (Known x) = answer.State x
+abbrev pub answerWith : Stated → Answer
+answerWith Unknown = answer.Refused 7
+answerWith (Known x) = answer.State x
+
+-- the refusal's number, to be handed on
+abbrev pub refusalNumber : Answer → ℕ
+refusalNumber (answer.Refused n) = n
+refusalNumber (answer.State x) = 0

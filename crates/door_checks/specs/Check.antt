@@ -1,5 +1,6 @@
 -- The checks on a door's inputs (document 01, "The doors, step by step"), x being the pressure or the density. Definitions only.
 use mathlib.Core.Bool.{cond, _&&_, not}
+use Prim.Native.Nat.{ℕ}
 use lib.Ieee.{Float}
 use lib.Ieee.Scale.{finite}
 use Rattle.door_limits.specs.Limits.{outside}
@@ -18,3 +19,8 @@ ranged temperature value t x =
 -- "6 inside the critical box"
 unfoldable pub boxed : Range → Range → Float → Float → Check
 boxed temperature value t x = cond (not (outside temperature t) && not (outside value x)) (No 6) Passed
+
+-- the refusal's number, to be handed on
+abbrev pub numberOf : Check → ℕ
+numberOf (No n) = n
+numberOf Passed = 0

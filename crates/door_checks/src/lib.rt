@@ -2,7 +2,7 @@
 ghost use mathlib.Core.Path.{_≡_};
 ghost use mathlib.Core.Bool.{_&&_};
 ghost use lib.Ieee.Scale.{finite};
-ghost use Rattle.door_checks.specs.Check.{boxed, ranged};
+ghost use Rattle.door_checks.specs.Check.{boxed, numberOf, ranged};
 use door_limits::Range;
 use door_limits::is_outside;
 use num_working::is_finite;
@@ -10,6 +10,16 @@ use num_working::is_finite;
 pub enum Check {
     Passed,
     No(u8),
+}
+
+// The number of a check that was not passed, to be handed on; 0 of one that was.
+pub fn number_of(c: Check) -> u8
+    ensures { λ r. ⌜ r ≡ numberOf c ⌝ }
+{
+    match c {
+        Check::No(n) => n,
+        Check::Passed => 0,
+    }
 }
 
 fn are_finite(x: f64, y: f64) -> bool

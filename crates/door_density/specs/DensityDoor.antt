@@ -8,7 +8,7 @@ use Rattle.equation.specs.Equation.{Equation}
 use Rattle.door_limits.specs.Limits.{outside}
 use Rattle.door_limits.specs.declared.Limits.{Limits}
 use Rattle.door_checks.specs.Check.{ranged, boxed}
-use Rattle.door_answers.specs.Answer.{passed, answered}
+use Rattle.door_answers.specs.Answer.{passed, answerWith}
 use Rattle.door_answers.specs.declared.Answer.{Answer}
 use Rattle.door_answers.specs.declared.Answer.the-variants as answer
 
@@ -17,7 +17,7 @@ module _ (E : Equation) (L : Limits) where
   unfoldable pub inPhase : Phase → Float → Float → Answer
   inPhase phase t rho =
       orElse (E .pressure t rho) (answer.Refused 7) (λ p.
-      cond (outside (L .asked .pressure) p) (answer.Refused 5) (answered (E .state t phase rho)))
+      cond (outside (L .asked .pressure) p) (answer.Refused 5) (answerWith (E .state t phase rho)))
 
   -- "Below 304.1282 K work both saturated densities, vapour first; strictly between: 8; not above the vapour one: vapour; else liquid."
   unfoldable pub below : Float → Float → Answer

@@ -7,6 +7,7 @@ use door_answers::Answer;
 use door_answers::answer_with;
 use door_checks::Check;
 use door_checks::in_range;
+use door_checks::number_of;
 use door_checks::out_of_box;
 use door_limits::Limits;
 use door_limits::is_outside;
@@ -65,17 +66,19 @@ fn enter(l: Limits, t: f64, rho: f64) -> Answer
 fn unbox(l: Limits, t: f64, rho: f64) -> Answer
     ensures { λ r. ⌜ r ≡ unboxed of1996 l t rho ⌝ }
 {
-    match out_of_box(l.critical.temperature, l.critical.density, t, rho) {
-        Check::No(n) => Answer::Refused(n),
-        Check::Passed => enter(l, t, rho),
-    }
+    let c = out_of_box(l.critical.temperature, l.critical.density, t, rho);
+    let Check::Passed = c else {
+        return Answer::Refused(number_of(c));
+    };
+    enter(l, t, rho)
 }
 
 pub fn from_density(l: Limits, t: f64, rho: f64) -> Answer
     ensures { λ r. ⌜ r ≡ densityDoor of1996 l t rho ⌝ }
 {
-    match in_range(l.asked.temperature, l.asked.density, t, rho) {
-        Check::No(n) => Answer::Refused(n),
-        Check::Passed => unbox(l, t, rho),
-    }
+    let c = in_range(l.asked.temperature, l.asked.density, t, rho);
+    let Check::Passed = c else {
+        return Answer::Refused(number_of(c));
+    };
+    unbox(l, t, rho)
 }

@@ -25,7 +25,7 @@ document01 = record {
   };
 }
 
--- "range 0.05 to 1,400", "1.01 times saturated vapour density", "0.99 times saturated liquid density": whatever may be asked
+-- "range 0.05 to 1,400", "1.01 times saturated vapour density", "0.99 times saturated liquid density": of every search, whatever a client's limits are
 unfoldable pub searchEnds : Ends
 searchEnds = record { from = decimal 5 2; to = whole 1400; vapour = decimal 101 2; liquid = decimal 99 2 }
 

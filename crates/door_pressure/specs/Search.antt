@@ -5,7 +5,7 @@ use Rattle.num_halving.specs.Halving.{Figure, halve}
 use Rattle.num_halving.specs.declared.Crossing.{Crossing}
 use Rattle.num_halving.specs.declared.Crossing.the-variants.{At, Nowhere, Broke}
 use Rattle.eos_state.specs.declared.Stated.{Stated}
-use Rattle.door_answers.specs.Answer.{answered}
+use Rattle.door_answers.specs.Answer.{answerWith}
 use Rattle.door_answers.specs.declared.Answer.{Answer}
 use Rattle.door_answers.specs.declared.Answer.the-variants as answer
 
@@ -15,7 +15,7 @@ figure pressure b = pressure (ofBits binary64 b)
 
 -- "9: no crossing", "not finite: 7"
 abbrev pub found : (Float → Stated) → Crossing → Answer
-found state (At b) = answered (state (ofBits binary64 b))
+found state (At b) = answerWith (state (ofBits binary64 b))
 found state Nowhere = answer.Refused 9
 found state Broke = answer.Refused 7
 

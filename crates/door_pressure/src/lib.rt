@@ -9,6 +9,7 @@ use crate::search::search_at;
 use door_answers::Answer;
 use door_checks::Check;
 use door_checks::in_range;
+use door_checks::number_of;
 use door_checks::out_of_box;
 use door_limits::Limits;
 use door_limits::search_ends;
@@ -81,17 +82,19 @@ fn enter(t: f64, p: f64) -> Answer
 fn unbox(l: Limits, t: f64, p: f64) -> Answer
     ensures { λ r. ⌜ r ≡ unboxed of1996 l t p ⌝ }
 {
-    match out_of_box(l.critical.temperature, l.critical.pressure, t, p) {
-        Check::No(n) => Answer::Refused(n),
-        Check::Passed => enter(t, p),
-    }
+    let c = out_of_box(l.critical.temperature, l.critical.pressure, t, p);
+    let Check::Passed = c else {
+        return Answer::Refused(number_of(c));
+    };
+    enter(t, p)
 }
 
 pub fn from_pressure(l: Limits, t: f64, p: f64) -> Answer
     ensures { λ r. ⌜ r ≡ pressureDoor of1996 l t p ⌝ }
 {
-    match in_range(l.asked.temperature, l.asked.pressure, t, p) {
-        Check::No(n) => Answer::Refused(n),
-        Check::Passed => unbox(l, t, p),
-    }
+    let c = in_range(l.asked.temperature, l.asked.pressure, t, p);
+    let Check::Passed = c else {
+        return Answer::Refused(number_of(c));
+    };
+    unbox(l, t, p)
 }

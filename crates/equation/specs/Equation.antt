@@ -50,11 +50,13 @@ of1996 = record {
   state = λ t. stateOn (curve t);
 }
 
--- ---- what the doors' theorems take of an equation: its saturated densities have no minus sign; a state is at the density and of the phase asked for, and
--- its eight numbers don't hang on the phase
+-- ---- what the doors' theorems take of an equation: its saturated densities have no minus sign; a state is at the temperature and density and of the phase asked
+-- for, its pressure is the one worked there, and its eight numbers don't hang on the phase
 pub record Lawful (E : Equation) : Type 0 where
   pub vapour : (t d : Float) → E .vapourDensity t ≡ Number d → T (nonneg d)
   pub liquid : (t d : Float) → E .liquidDensity t ≡ Number d → T (nonneg d)
+  pub temperature : (t : Float) (phase : Phase) (rho : Float) (x : State) → E .state t phase rho ≡ Known x → x .t ≡ t
+  pub pressure : (t : Float) (phase : Phase) (rho : Float) (x : State) → E .state t phase rho ≡ Known x → E .pressure t rho ≡ Number (x .p)
   pub density : (t : Float) (phase : Phase) (rho : Float) (x : State) → E .state t phase rho ≡ Known x → x .rho ≡ rho
   pub phase : (t : Float) (phase : Phase) (rho : Float) (x : State) → E .state t phase rho ≡ Known x → x .phase ≡ phase
   pub same : (t : Float) (phase other : Phase) (rho : Float) (x y : State) → E .state t phase rho ≡ Known x → E .state t other rho ≡ Known y → eight y ≡ eight x

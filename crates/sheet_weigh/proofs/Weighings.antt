@@ -12,7 +12,7 @@ use Rattle.num_whole.specs.Whole.{wholeBelow}
 use Rattle.num_whole.specs.declared.Below.{Below}
 use Rattle.door_answers.specs.declared.Answer.{Answer}
 use Rattle.sheet_outcome.specs.declared.Weighed.{Weighed}
-use Rattle.sheet_weigh.specs.Weighing.{isVolume, mass, milligrams, answered, filled}
+use Rattle.sheet_weigh.specs.Weighing.{isVolume, mass, milligrams, byAnswer, filled}
 
 pub in-float : (v : ℕ) → v ≤ 1_000_000 → T (inFloat binary64 (pos v))
 unfolding inFloat
@@ -29,6 +29,6 @@ pub out-of-range : (v : ℕ) (a : Answer) → isVolume v ≡ false → Weighed.R
 unfolding filled
 out-of-range v a e = rw e refl
 
-pub in-range : (v : ℕ) (a : Answer) → isVolume v ≡ true → answered a v ≡ filled v a
+pub in-range : (v : ℕ) (a : Answer) → isVolume v ≡ true → byAnswer a v ≡ filled v a
 unfolding filled
 in-range v a e = rw e refl

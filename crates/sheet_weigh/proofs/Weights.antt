@@ -14,7 +14,7 @@ use Rattle.sheet_line.specs.declared.line.Temperature.{Temperature}
 use Rattle.sheet_line.specs.declared.line.Reading.{Reading}
 use Rattle.sheet_line.specs.declared.line.Line.{Line}
 use Rattle.sheet_outcome.specs.declared.Weighed.{Weighed}
-use Rattle.sheet_weigh.specs.Weighing.{ifNumber, ifKelvin, isVolume, mass, milligrams, answered, filled, byReading, weighed}
+use Rattle.sheet_weigh.specs.Weighing.{ifNumber, ifKelvin, isVolume, mass, milligrams, byAnswer, filled, byReading, weighed}
 
 -- one that was refused has none
 abbrev pub Under : Weighed → Type 0
@@ -25,7 +25,7 @@ mass-under : (x : Float) (b : Below) → wholeBelow x ≡ b → Under (mass b)
 mass-under x (Below.At n) e = is-at-or-below x n e .2
 mass-under x Below.Out e = tt
 
-answered-under : (a : Answer) (v : ℕ) → Under (answered a v)
+answered-under : (a : Answer) (v : ℕ) → Under (byAnswer a v)
 unfolding milligrams
 answered-under (Answer.State s) v = let x = mul binary64 (s .rho) (whole v) in mass-under x (wholeBelow x) refl
 answered-under (Answer.Refused n) v = tt
@@ -40,7 +40,7 @@ kelvin-under (Temperature.Kelvin t) g h = h t
 
 filled-under : (v : ℕ) (a : Answer) → Under (filled v a)
 unfolding filled
-filled-under v a = by-test Under (isVolume v) (answered a v) (Weighed.Refused 2) (λ _. answered-under a v) (λ _. tt)
+filled-under v a = by-test Under (isVolume v) (byAnswer a v) (Weighed.Refused 2) (λ _. answered-under a v) (λ _. tt)
 
 module _ (L : Limits) where
   reading-under : (k : Temperature) (v : ℕ) (r : Reading) → Under (byReading L k v r)

@@ -42,12 +42,12 @@ mass Below.Out = Weighed.Refused 7
 unfoldable pub milligrams : Float → ℕ → Weighed
 milligrams rho v = mass (wholeBelow (mul binary64 rho (whole v)))
 
-abbrev pub answered : Answer → ℕ → Weighed
-answered (Answer.State s) v = milligrams (s .rho) v
-answered (Answer.Refused n) v = Weighed.Refused n
+abbrev pub byAnswer : Answer → ℕ → Weighed
+byAnswer (Answer.State s) v = milligrams (s .rho) v
+byAnswer (Answer.Refused n) v = Weighed.Refused n
 
 unfoldable pub filled : ℕ → Answer → Weighed
-filled v a = cond (isVolume v) (answered a v) (Weighed.Refused 2)
+filled v a = cond (isVolume v) (byAnswer a v) (Weighed.Refused 2)
 
 -- ---- the line
 

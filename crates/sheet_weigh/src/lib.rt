@@ -7,9 +7,10 @@ ghost use lib.ListN.{take};
 ghost use Rattle.sheet_outcome.specs.Outcome.{marksOf, total};
 ghost use Rattle.sheet_outcome.specs.declared.Admitted.{Admitted};
 ghost use Rattle.sheet_line.specs.declared.line.Reading.{Reading};
-ghost use Rattle.sheet_weigh.specs.Weighing.{isVolume, milligrams, answered, byReading, weighed};
+ghost use Rattle.sheet_weigh.specs.Weighing.{isVolume, milligrams, byAnswer, byReading, weighed};
 ghost use Rattle.sheet_weigh.specs.Sheet.{marksFor, finished, marked, outcome, Light};
 use door_answers::Answer;
+use door_answers::refusal_number;
 use door_density::from_density;
 use door_limits::Limits;
 use door_pressure::from_pressure;
@@ -50,12 +51,12 @@ fn milligrams(rho: f64, v: u64) -> Weighed
 // By the state's density, or the door's refusal handed on.
 fn by_answer(a: Answer, v: u64) -> Weighed
     requires { ⌜ v ≤ 1_000_000 ⌝ }
-    ensures { λ r. ⌜ r ≡ answered a v ⌝ }
+    ensures { λ r. ⌜ r ≡ byAnswer a v ⌝ }
 {
-    match a {
-        Answer::State(s) => milligrams(s.rho, v),
-        Answer::Refused(n) => Weighed::Refused(n),
-    }
+    let Answer::State(s) = a else {
+        return Weighed::Refused(refusal_number(a));
+    };
+    milligrams(s.rho, v)
 }
 
 fn by_pressure(limits: Limits, k: Temperature, p: f64, v: u64) -> Weighed

@@ -1,5 +1,7 @@
 -- The check, and the steps after it. Assumes nothing.
-use mathlib.Core.Path.{sym, _∙_}
+use mathlib.Core.Path.{sym, ap, _∙_}
+use Rattle.door_checks.specs.Check.{numberOf}
+use Rattle.door_answers.specs.declared.Answer.the-variants.{Refused}
 use Rattle.door_density.specs.DensityDoor.{unboxed}
 use borrow.Author.Needs.{needs}
 use Rattle.door_density.proofs.unbox.Statement.{statement}
@@ -7,7 +9,9 @@ use Rattle.door_density.proofs.unbox.Tie as tie
 
 returns : tie.Need-returns
 unfolding unboxed
-returns c = rw (sym (c .before .before .before .out-of-box .ensures) ∙ c .before .n .given .1)
+returns c =
+    let e = c .before .enum-told2 .given .1 in
+    ap Refused (c .number-of .ensures ∙ ap numberOf e) ∙ rw (sym (c .before .before .before .out-of-box .ensures) ∙ e)
 
 returns-2 : tie.Need-returns-2
 unfolding unboxed
@@ -22,4 +26,5 @@ unbox-spec =
     (λ c. search needs)
     (λ c κs. search needs)
     returns
+    (λ c κs. search needs)
     returns-2)

@@ -5,7 +5,7 @@ use lib.Ieee.{binary64, toBits}
 use Rattle.num_working.proofs.Numbers.{no-nan, nonneg-no-nan}
 use Rattle.num_halving.proofs.Halvings.{answer}
 use Rattle.equation.specs.Equation.{pressureOn, stateOn}
-use Rattle.door_answers.specs.Answer.{answered}
+use Rattle.door_answers.specs.Answer.{answerWith}
 use Rattle.door_pressure.specs.Search.{figure, found, searched}
 use Rattle.door_pressure.proofs.Searches.{bits-below}
 use borrow.Author.Needs.{needs}
@@ -38,7 +38,7 @@ returns c =
     let n = c .before .before .before in
     let q = n .before .before in
     let a = q .before .args in
-    c .answer-with .ensures ∙ ap answered (c .before .state-on .ensures)
+    c .answer-with .ensures ∙ ap answerWith (c .before .state-on .ensures)
     ∙ sym (ap (found (stateOn (a .curve) (a .phase))) (sym (q .crossing .ensures) ∙ n .b .given .1))
 
 returns-2 : tie.Need-returns-2

@@ -20,7 +20,7 @@ use Rattle.door_checks.specs.declared.Check.the-variants.{Passed, No}
 use Rattle.door_answers.specs.Answer.{passed, answerWith}
 use Rattle.door_answers.specs.declared.Answer.{Answer}
 use Rattle.door_answers.specs.declared.Answer.the-variants as answer
-use Rattle.door_density.specs.DensityDoor.{inPhase, below, within, unboxed, densityDoor}
+use Rattle.door_density.specs.DensityDoor.{inPhase, beneath, entered, unboxed, densityDoor}
 use Rattle.demands.specs.Demands.{InRangeD, inBoxD, PastD, Phased, above-critical, as-vapour, as-liquid}
 use Rattle.demands.specs.Demands.{RefusesD, out-of-ranges, in-the-box, no-vapour, no-liquid}
 use Rattle.demands.specs.Demands.{between, no-pressure, pressure-outside, no-state, AnsweredD, DensityRefusals, DensityAnswers}
@@ -64,22 +64,22 @@ module _ (E : Equation) (L : Limits) (lawful : Lawful E) (t rho : Float) where
     sides cold v l e f true false g h = of-phase Liquid (as-liquid cold e f g h)
     sides cold v l e f false b g h = of-phase Vapour (as-vapour cold e f g)
 
-    of-below : le (E .critical) t ≡ false → Explains (below E L t rho)
-    unfolding below
-    of-below cold =
+    of-beneath : le (E .critical) t ≡ false → Explains (beneath E L t rho)
+    unfolding beneath
+    of-beneath cold =
         by-working Explains (E .vapourDensity t) _ _ (λ e. refuses 7 refl (no-vapour past cold e))
         (λ v e. by-working Explains (E .liquidDensity t) _ _ (λ f. refuses 7 refl (no-liquid past cold e f))
         (λ l f. sides cold v l e f (lt v rho) (lt rho l) refl refl))
 
-    of-within : Explains (within E L t rho)
-    unfolding within
-    of-within = by-test Explains (le (E .critical) t) _ _ (λ e. of-phase Supercritical (above-critical e)) of-below
+    of-entered : Explains (entered E L t rho)
+    unfolding entered
+    of-entered = by-test Explains (le (E .critical) t) _ _ (λ e. of-phase Supercritical (above-critical e)) of-beneath
 
   of-unboxed : InRangeD E L t rho → Explains (unboxed E L t rho)
   unfolding unboxed boxed
   of-unboxed r =
-      by-test (λ (c : Check). Explains (passed c (within E L t rho))) (inBoxD E L t rho) (No 6) Passed (λ e. refuses 6 refl (in-the-box r e))
-      (λ e. of-within (record { ranged = r; unboxed = e }))
+      by-test (λ (c : Check). Explains (passed c (entered E L t rho))) (inBoxD E L t rho) (No 6) Passed (λ e. refuses 6 refl (in-the-box r e))
+      (λ e. of-entered (record { ranged = r; unboxed = e }))
 
   pub explained : Explains (densityDoor E L t rho)
   unfolding densityDoor
@@ -89,18 +89,18 @@ module _ (E : Equation) (L : Limits) (lawful : Lawful E) (t rho : Float) where
   ]
 
   -- ---- and back
-  enters : PastD E L t rho → densityDoor E L t rho ≡ within E L t rho
+  enters : PastD E L t rho → densityDoor E L t rho ≡ entered E L t rho
   unfolding densityDoor unboxed boxed
   enters past = rw (passes-back (L .asked .temperature) (L .asked .density) t rho (past .ranged), past .unboxed) refl
 
   has-phase : {phase : Phase} → PastD E L t rho → Phased E L t rho phase → densityDoor E L t rho ≡ inPhase E L phase t rho
-  unfolding within below
+  unfolding entered beneath
   has-phase past (above-critical h) = enters past ∙ rw h refl
   has-phase past (as-vapour cold e f g) = enters past ∙ rw (cold, e, f, g) refl
   has-phase past (as-liquid cold e f g h) = enters past ∙ rw (cold, e, f, g, h) refl
 
   pub refuses-back : {n : ℕ} → RefusesD E L t rho n → densityDoor E L t rho ≡ answer.Refused n
-  unfolding densityDoor unboxed boxed within below inPhase
+  unfolding densityDoor unboxed boxed entered beneath inPhase
   refuses-back (out-of-ranges b) = ap (λ (c : Check). passed c (unboxed E L t rho)) (stops-back (L .asked .temperature) (L .asked .density) t rho b)
   refuses-back (in-the-box r e) = rw (passes-back (L .asked .temperature) (L .asked .density) t rho r, e) refl
   refuses-back (no-vapour past cold e) = enters past ∙ rw (cold, e) refl

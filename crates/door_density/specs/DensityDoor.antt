@@ -20,20 +20,20 @@ module _ (E : Equation) (L : Limits) where
       cond (outside (L .asked .pressure) p) (answer.Refused 5) (answerWith (E .state t phase rho)))
 
   -- "Below 304.1282 K work both saturated densities, vapour first; strictly between: 8; not above the vapour one: vapour; else liquid."
-  unfoldable pub below : Float → Float → Answer
-  below t rho =
+  unfoldable pub beneath : Float → Float → Answer
+  beneath t rho =
       orElse (E .vapourDensity t) (answer.Refused 7) (λ v.
       orElse (E .liquidDensity t) (answer.Refused 7) (λ l.
       cond (lt v rho && lt rho l) (answer.Refused 8)
       (cond (not (lt v rho)) (inPhase Vapour t rho) (inPhase Liquid t rho))))
 
   -- "At or above: supercritical."
-  unfoldable pub within : Float → Float → Answer
-  within t rho = cond (le (E .critical) t) (inPhase Supercritical t rho) (below t rho)
+  unfoldable pub entered : Float → Float → Answer
+  entered t rho = cond (le (E .critical) t) (inPhase Supercritical t rho) (beneath t rho)
 
   -- "3, 4, 5, 6 on its inputs", and then the steps
   unfoldable pub unboxed : Float → Float → Answer
-  unboxed t rho = passed (boxed (L .critical .temperature) (L .critical .density) t rho) (within t rho)
+  unboxed t rho = passed (boxed (L .critical .temperature) (L .critical .density) t rho) (entered t rho)
 
   unfoldable pub densityDoor : Float → Float → Answer
   densityDoor t rho = passed (ranged (L .asked .temperature) (L .asked .density) t rho) (unboxed t rho)

@@ -2,7 +2,7 @@
 // definition and a function of the same shape.
 ghost use mathlib.Core.Path.{_≡_};
 ghost use Rattle.equation.specs.Equation.{of1996};
-ghost use Rattle.door_density.specs.DensityDoor.{inPhase, below, within, unboxed, densityDoor};
+ghost use Rattle.door_density.specs.DensityDoor.{inPhase, beneath, entered, unboxed, densityDoor};
 use door_answers::Answer;
 use door_answers::answer_with;
 use door_checks::Check;
@@ -35,7 +35,7 @@ fn in_phase(l: Limits, phase: Phase, t: f64, rho: f64) -> Answer
 
 // Below the critical temperature.
 fn beneath(l: Limits, t: f64, rho: f64) -> Answer
-    ensures { λ r. ⌜ r ≡ below of1996 l t rho ⌝ }
+    ensures { λ r. ⌜ r ≡ beneath of1996 l t rho ⌝ }
 {
     let Worked::Number(vapour) = vapour_density(t) else {
         return Answer::Refused(7);
@@ -54,7 +54,7 @@ fn beneath(l: Limits, t: f64, rho: f64) -> Answer
 
 // Past the checks.
 fn enter(l: Limits, t: f64, rho: f64) -> Answer
-    ensures { λ r. ⌜ r ≡ within of1996 l t rho ⌝ }
+    ensures { λ r. ⌜ r ≡ entered of1996 l t rho ⌝ }
 {
     if critical_temperature() <= t {
         return in_phase(l, Phase::Supercritical, t, rho);

@@ -10,7 +10,7 @@ use Rattle.num_working.specs.declared.Worked.{Worked}
 use Rattle.num_working.specs.Number.{whole}
 use Rattle.num_working.specs.Working.{checked, _-ᵂ_, _*ᵂ_, _/ᵂ_}
 use Rattle.num_exponential.specs.Exponential.{falling, series, squared}
-use Rattle.num_exponential.specs.Lockstep.{chain, powers}
+use Rattle.num_exponential.specs.Lockstep.{chain, squarings}
 use Rattle.num_exponential.proofs.Tables.{at}
 use Rattle.num_working.proofs.Workings.{checked-sub, checked-mul, checked-div}
 
@@ -51,8 +51,8 @@ unfolding series chain
 series-chain y zero s h = refl
 series-chain y (suc k) s h = ap (series (checked y) k) (sym (turned y (suc k) s h)) ∙ series-chain y k _ (omega arith)
 
-pub squared-powers : (n : ℕ) (s : Float) → squared n (checked s) ≡ checked (powers n s)
-unfolding squared powers
+pub squared-powers : (n : ℕ) (s : Float) → squared n (checked s) ≡ checked (squarings n s)
+unfolding squared squarings
 squared-powers zero s = refl
 squared-powers (suc n) s = ap (squared n) (sym (checked-mul s s)) ∙ squared-powers n (mul binary64 s s)
 

@@ -17,7 +17,7 @@ use Rattle.num_working.specs.Working.{checked, plain}
 use Rattle.num_exponential.specs.declared.decay.Twelve.{Twelve}
 use Rattle.num_exponential.specs.Exponential.{squared}
 use Rattle.num_exponential.specs.Decay.{decay, each, every, numbers, inSeries}
-use Rattle.num_exponential.specs.Lockstep.{chain, pairs, powers, turn}
+use Rattle.num_exponential.specs.Lockstep.{chain, pairs, squarings, turn}
 use Rattle.num_laws.specs.Quotient.{normal}
 use Rattle.num_exponential.proofs.Decays.{decay-is, each-of, range}
 use Rattle.num_exponential.proofs.Exponentials.{series-chain, squared-powers}
@@ -104,8 +104,8 @@ chain-within y zero s t h v = v
 chain-within y (suc k) s t h v =
     chain-within y k _ t (omega arith) (less-within _ (mul-within _ s (quotient-within y (suc k) t (zero-lt-suc k) h) v))
 
-powers-within : (n : ℕ) (s : Float) → Within s → Within (powers n s)
-unfolding powers
+powers-within : (n : ℕ) (s : Float) → Within s → Within (squarings n s)
+unfolding squarings
 powers-within zero s v = v
 powers-within (suc n) s v = powers-within n (mul binary64 s s) (mul-within s s v v)
 
@@ -125,16 +125,16 @@ pub normal-parts : (x : Twelve) → T (every inSeries (numbers x)) → T (every 
 unfolding each
 normal-parts x h = every-map inSeries normal (λ v. div binary64 v (whole 1024)) normal-part (numbers x) h
 
-decay-worked : (x : Float) → T (inSeries x) → powers 10 (chain (div binary64 x (whole 1024)) 14 (whole 1)) ≡ decay x
+decay-worked : (x : Float) → T (inSeries x) → squarings 10 (chain (div binary64 x (whole 1024)) 14 (whole 1)) ≡ decay x
 decay-worked x h =
     let y = div binary64 x (whole 1024) in
     let s = chain y 14 (whole 1) in
     sym (decay-is x h
     ∙ ap (λ w. plain (squared 10 w)) (series-chain y 14 (whole 1) (omega arith))
     ∙ ap plain (squared-powers 10 s)
-    ∙ plain-within (powers 10 s) (powers-within 10 s (chain-within y 14 (whole 1) (normal-part x h) (omega arith) one-within)))
+    ∙ plain-within (squarings 10 s) (powers-within 10 s (chain-within y 14 (whole 1) (normal-part x h) (omega arith) one-within)))
 
 pub all-worked : (x : Twelve) → T (every inSeries (numbers x))
-    → each (powers 10) (each (λ v. chain v 14 (whole 1)) (each (λ v. div binary64 v (whole 1024)) x)) ≡ each decay x
+    → each (squarings 10) (each (λ v. chain v 14 (whole 1)) (each (λ v. div binary64 v (whole 1024)) x)) ≡ each decay x
 unfolding each
-all-worked x h = same-each inSeries (λ v. powers 10 (chain (div binary64 v (whole 1024)) 14 (whole 1))) decay x decay-worked h
+all-worked x h = same-each inSeries (λ v. squarings 10 (chain (div binary64 v (whole 1024)) 14 (whole 1))) decay x decay-worked h

@@ -15,9 +15,9 @@ chain y zero s = s
 chain y (suc k) s = chain y k (Ieee.sub binary64 (whole 1) (Ieee.mul binary64 (Ieee.div binary64 y (whole (suc k))) s))
 
 -- "then s = s·s ten times"
-unfoldable pub powers : ℕ → Float → Float
-powers zero s = s
-powers (suc n) s = powers n (Ieee.mul binary64 s s)
+unfoldable pub squarings : ℕ → Float → Float
+squarings zero s = s
+squarings (suc n) s = squarings n (Ieee.mul binary64 s s)
 
 -- twelve pairs at once
 unfoldable pub pairs : (Float → Float → Float) → Twelve → Twelve → Twelve

@@ -4,7 +4,7 @@ ghost use mathlib.Core.Path.{_≡_};
 ghost use lib.Dec.{T};
 ghost use lib.Ieee.{binary64, div, mul};
 ghost use Rattle.num_exponential.specs.Decay.{each, every, numbers};
-ghost use Rattle.num_exponential.specs.Lockstep.{chain, pairs, powers, turn};
+ghost use Rattle.num_exponential.specs.Lockstep.{chain, pairs, squarings, turn};
 ghost use Rattle.num_laws.specs.Quotient.{justAbove, divisor, justBelow, normal};
 ghost use Rattle.num_working.specs.Number.{whole};
 use crate::decay::Twelve;
@@ -122,7 +122,7 @@ fn squares(s: Twelve) -> Twelve
 
 // "then s = s·s ten times"
 pub(crate) fn ten_squarings(s: Twelve) -> Twelve
-    ensures { λ r. ⌜ r ≡ each (powers 10) s ⌝ }
+    ensures { λ r. ⌜ r ≡ each (squarings 10) s ⌝ }
 {
     let mut s = squares(s);
     s = squares(s);

@@ -2,7 +2,7 @@
 use mathlib.Core.Path.{_≡_, sym, _∙_}
 use Rattle.num_working.specs.declared.Worked.the-variants.{Number}
 use Rattle.equation.specs.Equation.{of1996}
-use Rattle.door_density.specs.DensityDoor.{below}
+use Rattle.door_density.specs.DensityDoor.{beneath}
 use borrow.Author.Needs.{needs}
 use Rattle.door_density.proofs.beneath.Statement.{statement}
 use Rattle.door_density.proofs.beneath.Tie as tie
@@ -16,29 +16,29 @@ liquid-is : (c : tie.After-liquid)
 liquid-is c = sym (c .before .before .liquid-density .ensures) ∙ c .liquid .given .1
 
 returns : tie.Need-returns
-unfolding below
+unfolding beneath
 returns c = rw (sym (c .before .before .vapour-density .ensures) ∙ c .enum-told .given .1)
 
 returns-2 : tie.Need-returns-2
-unfolding below
+unfolding beneath
 returns-2 c =
     let d = c .before .before in
     rw (vapour-is (d .before .before), sym (d .liquid-density .ensures) ∙ c .enum-told2 .given .1)
 
 returns-3 : tie.Need-returns-3
-unfolding below
+unfolding beneath
 returns-3 c =
     let l = c .before .before .before in
     rw (vapour-is (l .before .before .before .before), liquid-is l, c .before .if1 .taken, c .if2 .taken)
 
 returns-4 : tie.Need-returns-4
-unfolding below
+unfolding beneath
 returns-4 c =
     let l = c .before .before .before .before in
     c .in-phase .ensures ∙ rw (vapour-is (l .before .before .before .before), liquid-is l, c .before .before .if1 .taken, c .before .if2 .left)
 
 returns-5 : tie.Need-returns-5
-unfolding below
+unfolding beneath
 returns-5 c =
     let l = c .before .before .before in
     c .in-phase2 .ensures ∙ rw (vapour-is (l .before .before .before .before), liquid-is l, c .before .if1 .left)

@@ -6,7 +6,7 @@ use lib.Ieee.{Float}
 use Rattle.num_working.specs.Number.{whole}
 use Rattle.num_exponential.specs.declared.decay.Twelve.{Twelve}
 use Rattle.num_exponential.specs.Decay.{each, every, numbers}
-use Rattle.num_exponential.specs.Lockstep.{chain, powers}
+use Rattle.num_exponential.specs.Lockstep.{chain, squarings}
 use Rattle.num_laws.specs.Quotient.{normal}
 use Rattle.num_exponential.proofs.Lanes.{all-worked, normal-parts}
 use Rattle.num_exponential.proofs.decay.side_by_side.Statement.{statement}
@@ -19,7 +19,7 @@ returns : tie.Need-returns
 returns c =
     let s = c .before .before .before in
     c .ten-squarings .ensures
-    ∙ ap (each (powers 10)) (c .before .chains .ensures ∙ ap (each (λ (v : Float). chain v 14 (whole 1))) (c .before .before .by-1024 .ensures))
+    ∙ ap (each (squarings 10)) (c .before .chains .ensures ∙ ap (each (λ (v : Float). chain v 14 (whole 1))) (c .before .before .by-1024 .ensures))
     ∙ all-worked (s .args .x) (s .pre)
 
 pub side-by-side-spec : {M : Type 1} → statement M

@@ -1,12 +1,12 @@
 -- Ten squarings of each number, one after the other. Assumes nothing.
 use mathlib.Core.Path.{refl}
 use Rattle.num_exponential.specs.Decay.{each}
-use Rattle.num_exponential.specs.Lockstep.{powers}
+use Rattle.num_exponential.specs.Lockstep.{squarings}
 use Rattle.num_exponential.proofs.lockstep.ten_squarings.Statement.{statement}
 use Rattle.num_exponential.proofs.lockstep.ten_squarings.Tie as tie
 
 returns : tie.Need-returns
-unfolding each powers
+unfolding each squarings
 returns c =
     rw (
       c .squares10 .ensures,

@@ -11,7 +11,7 @@ import sys
 sys.dont_write_bytecode = True
 import doors
 
-DATA = pathlib.Path(__file__).parent.parent / "crates" / "sheets" / "data"
+DATA = pathlib.Path(__file__).parent.parent / "crates" / "run_sheets" / "data"
 EXAMPLE = b"N 45000000\nC 7 - P 5000000 40000\nC 8 2000000 P 5000000 40000\n"
 NUMBER = rb"(-|0|[1-9][0-9]{0,9})"
 NEED = rb"N " + NUMBER + rb"\n"

@@ -59,7 +59,8 @@ module _ (E : Equation) (L : Limits) (lawful : Lawful E) (t rho : Float) where
         (λ o. of-state phase phased p e o (E .state t phase rho) refl))
 
     sides : le (E .critical) t ≡ false → (v l : Float) → E .vapourDensity t ≡ Number v → E .liquidDensity t ≡ Number l
-        → (a b : Bool) → lt v rho ≡ a → lt rho l ≡ b → Explains (cond (a && b) (answer.Refused 8) (cond (not a) (inPhase E L Vapour t rho) (inPhase E L Liquid t rho)))
+        → (a b : Bool) → lt v rho ≡ a → lt rho l ≡ b
+        → Explains (cond (a && b) (answer.Refused 8) (cond (not a) (inPhase E L Vapour t rho) (inPhase E L Liquid t rho)))
     sides cold v l e f true true g h = refuses 8 refl (between past cold e f g h)
     sides cold v l e f true false g h = of-phase Liquid (as-liquid cold e f g h)
     sides cold v l e f false b g h = of-phase Vapour (as-vapour cold e f g)

@@ -30,7 +30,8 @@ allTested x = stated (x .phase) (x .t) (x .rho) (checked (x .p)) (checked (x .u)
 
 -- by two tests of three numbers each
 choice : (x : State)
-    → allTested x ≡ cond (finite (x .p) && (finite (x .u) && finite (x .h))) (cond (finite (x .cv) && (finite (x .cp) && finite (x .w))) (Known x) Unknown) Unknown
+    → allTested x
+    ≡ cond (finite (x .p) && (finite (x .u) && finite (x .h))) (cond (finite (x .cv) && (finite (x .cp) && finite (x .w))) (Known x) Unknown) Unknown
 choice x =
     three (x .p) (x .u) (x .h)
     (λ p u h. stated (x .phase) (x .t) (x .rho) (Number p) (Number u) (Number h) (checked (x .cv)) (checked (x .cp)) (checked (x .w)))

@@ -1,5 +1,5 @@
-"""The doors worked a second time, from document 01 ("Constants and ranges", "The doors, step by step"): what the program `run_readings` must print of them, after numerics.py's
-lines. `python3 numerics.py; python3 doors.py` is all of it.
+"""The doors worked a second time, by RULES 2.2, 2.3, 3.3 and 5: what the program `run_readings` must print of them, after numerics.py's lines.
+`python3 numerics.py; python3 doors.py` is all of it.
 """
 import math
 import sys

@@ -1,5 +1,5 @@
-"""Saturation and the ideal part worked a second time, from 004 and document 01 (docs/ARRANGEMENT.md, sections 8 and 10): the first part of what the program `run_figures`
-must print. The rest, and all of it together, is equation.py's.
+"""Saturation and the ideal part worked a second time, from 004, RULES 4.7 and docs/ARRANGEMENT.md, sections 8 and 10: the first part of what the program
+`run_figures` must print. The rest, and all of it together, is equation.py's.
 
 Each operation is one Python float operation, which is the same f64 operation. Each number is tested as it is worked, where the code tests at the end.
 """

@@ -1,7 +1,7 @@
 #!/usr/bin/env python3
-"""The numerics worked a second time, from document 01 alone: prints what the program `run_readings` must print of them, its first lines.
+"""The numerics worked a second time, by RULES 4.3 to 4.6 alone: prints what the program `run_readings` must print of them, its first lines.
 
-Each operation is one Python float operation, which is the same f64 operation. Roots halve as document 01 says, with no guess.
+Each operation is one Python float operation, which is the same f64 operation. Roots halve as RULES 4.6 says, with no guess.
     (crosscheck/numerics.py; python3 crosscheck/doors.py) | diff - crates/run_readings/stdout
 """
 import math

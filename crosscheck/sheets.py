@@ -1,4 +1,4 @@
-"""Sheets scored a second time, from document 01 ("The sheet", "Refusal numbers") and docs/ARRANGEMENT.md, section 12: what the program `run_sheets` must print.
+"""Sheets scored a second time, by RULES 2.4, 3, 6 and 7: what the program `run_sheets` must print.
     python3 crosscheck/sheets.py | diff - crates/run_sheets/stdout
 
 The texts are those of crates/run_sheets/data, and the few below that a file can't show.

@@ -1,8 +1,8 @@
--- Document 01, "Constants and ranges". Definitions only.
+-- RULES 2.1: the constants. Definitions only.
 use Rattle.num_working.specs.Number.{decimal, whole}
 use Rattle.eos_constants.specs.declared.Constants.{Constants}
 
--- "Critical temperature 304.1282 K, critical density 467.6 kg/m³, gas constant 188.9241 J/(kg K), critical pressure 7.3773 MPa."
+-- the critical temperature in K, the critical density in kg/m³, the gas constant in J/(kg K), the critical pressure in Pa
 unfoldable pub spanWagner : Constants
 spanWagner = record {
   temperature = decimal 3041282 4;

@@ -1,5 +1,6 @@
-// The constants of the equation of 1996 (document 01, "Constants and ranges"), each the f64 nearest to what is printed; the reduced
-// variables δ and τ (004, section 2.1); and the exponents of its roots that 004 prints in another way than as the fraction that document 01 works.
+// The constants of the equation of 1996 (RULES 2.1), each the f64 nearest to what is printed (RULES 4.1); the reduced
+// variables δ and τ (RULES 4.9; 004, section 2.1); and the exponents of its roots that 004 prints in another way than
+// as the fraction that is worked (RULES 4.7).
 ghost use mathlib.Core.Path.{_≡_};
 ghost use Rattle.eos_constants.specs.Constant.{spanWagner};
 ghost use Rattle.eos_constants.specs.Exponent.{workedAs};

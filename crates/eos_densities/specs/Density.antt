@@ -1,4 +1,5 @@
--- 004, sections 3.6 and 3.7: saturated liquid density and saturated vapour density, in the order of docs/ARRANGEMENT.md, section 10. Definitions only.
+-- 004, sections 3.6 and 3.7: saturated liquid density and saturated vapour density, in the order of docs/ARRANGEMENT.md, section 10; the powers of θ by
+-- RULES 4.3 and 4.7. Definitions only.
 use mathlib.Core.Bool.{cond}
 use lib.Ieee as Ieee
 use lib.Ieee.{Float}
@@ -12,8 +13,8 @@ use Rattle.eos_constants.specs.Exponent.{workedAs}
 use Rattle.eos_constants.specs.declared.Printed.the-variants.{Of0_34, Of10_6}
 use Rattle.eos_saturation.specs.Saturation.{theta, to}
 
--- eq. (3.14), t₁ = 0.34, t₂ = 1/2, t₃ = 10/6, t₄ = 11/6 ("0.34 is 17/50", "10/6 is 5/3"):
--- "a₁ = 1.9245108, a₂ = −0.62385555, a₃ = −0.32731127, a₄ = 0.39245142"
+-- eq. (3.14), t₁ = 0.34, t₂ = 1/2, t₃ = 10/6, t₄ = 11/6:
+-- a₁ = 1.9245108, a₂ = −0.62385555, a₃ = −0.32731127, a₄ = 0.39245142
 unfoldable pub liquidSum : Formula → Formula
 liquidSum θ =
     num (decimal 19245108 7) ⊗ root (workedAs Of0_34) θ
@@ -21,8 +22,8 @@ liquidSum θ =
     ⊕ num (Ieee.neg (decimal 32731127 8)) ⊗ root (workedAs Of10_6) θ
     ⊕ num (decimal 39245142 8) ⊗ to θ 11 6
 
--- eq. (3.15), t₁ = 0.340, t₂ = 1/2, t₃ = 1, t₄ = 7/3, t₅ = 14/3 ("7/3 is x² times x^(1/3), 14/3 is x⁴ times x^(2/3)"):
--- "a₁ = −1.7074879, a₂ = −0.82274670, a₃ = −4.6008549, a₄ = −10.111178, a₅ = −29.742252"
+-- eq. (3.15), t₁ = 0.340, t₂ = 1/2, t₃ = 1, t₄ = 7/3, t₅ = 14/3:
+-- a₁ = −1.7074879, a₂ = −0.82274670, a₃ = −4.6008549, a₄ = −10.111178, a₅ = −29.742252
 unfoldable pub vapourSum : Formula → Formula
 vapourSum θ =
     num (Ieee.neg (decimal 17074879 7)) ⊗ root (workedAs Of0_34) θ
@@ -31,7 +32,7 @@ vapourSum θ =
     ⊕ num (Ieee.neg (decimal 10111178 6)) ⊗ (θ ^^ 2 ⊗ to θ 1 3)
     ⊕ num (Ieee.neg (decimal 29742252 6)) ⊗ (θ ^^ 4 ⊗ to θ 2 3)
 
--- "A saturated density that is not above 0 is 7, in either door."
+-- RULES 5: one that is not above 0 is a failure
 abbrev pub aboveZero : Worked → Worked
 aboveZero w = orElse w Failed (λ x. cond (Ieee.lt (whole 0) x) (Number x) Failed)
 

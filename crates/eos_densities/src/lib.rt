@@ -1,5 +1,5 @@
-// The saturated densities at a temperature (004, eqs. (3.14) and (3.15); document 01, "How a number is worked", for the
-// roots). A working that fails is refusal 7.
+// The saturated densities at a temperature (004, eqs. (3.14) and (3.15); RULES 4.3 and 4.7 for the powers). A working
+// that fails is refusal 7 (RULES 4.2).
 ghost use mathlib.Core.Path.{_≡_};
 ghost use Rattle.num_working.specs.Working.{plain};
 ghost use Rattle.num_roots.specs.Root as Root;
@@ -45,7 +45,7 @@ fn vapour_sum(theta: f64) -> f64
         + -29.742252 * (whole_power(theta, 4) * to(theta, Exponent { m: 2, k: 3 }))
 }
 
-// A saturated density that is not above 0 is refusal 7.
+// One that is not above 0 is refusal 7 too (RULES 5).
 fn above_zero(w: Worked) -> Worked
     ensures { λ r. ⌜ r ≡ aboveZero w ⌝ }
 {
@@ -59,7 +59,8 @@ fn above_zero(w: Worked) -> Worked
     }
 }
 
-// The density whose logarithm over the critical density is the sum. One test stands for all: what has failed on the way is a NaN.
+// The density whose logarithm over the critical density is the sum. One test stands for all: what has failed on the way
+// is a NaN.
 fn density_of(sum: f64) -> Worked
     ensures { λ r. ⌜ r ≡ densityOf (num sum) ⌝ }
 {

@@ -1,5 +1,5 @@
 // τφ°_τ and τ²φ°_ττ, the ideal part of what Table 3 needs (004, section 6.1, Tables 27 and 28). A working that fails is
-// refusal 7; each of the two is worked on its own, so that one can fail and the other not.
+// refusal 7 (RULES 4.2); each of the two is worked on its own, so that one can fail and the other not.
 ghost use mathlib.Core.Path.{_≡_};
 ghost use Rattle.num_formulas.specs.Formula.{num, _⊕_, _⊖_};
 ghost use Rattle.eos_ideal.specs.Ideal.{table27, head-τ, head-ττ, row-τ, row-ττ, phi-τ, phi-ττ, sums, idealPart};

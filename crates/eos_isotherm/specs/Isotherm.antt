@@ -1,4 +1,5 @@
--- What hangs on the temperature alone, in plain f64. Where τ or its quarter root fails, so does every sum (eos_residual, Failures). Definitions only.
+-- What hangs on the temperature alone, in plain f64: the powers of τ (RULES 4.7), and parts of exponents. Where τ or its quarter root fails, so does every sum
+-- (eos_residual, Failures). Definitions only.
 use Prim.Native.Nat.{ℕ, _-_, _/_, _%_}
 use mathlib.Core.Bool.{cond}
 use mathlib.Core.List.{List, _++_, map}
@@ -15,14 +16,14 @@ use Rattle.eos_rows.specs.declared.Gaussian.{Gaussian}
 use Rattle.eos_rows.specs.declared.NonAnalytic.{NonAnalytic}
 use Rattle.eos_isotherm.specs.declared.Isotherm.{Isotherm}
 
--- "Quarters of τ come from a square root taken twice"
+-- the quarter root of τ, by two square roots
 abbrev pub half : Exponent
 half = record { m = 1; k = 2 }
 
 unfoldable pub quarterOf : Float → Formula
 quarterOf t = root half (root half (Reduced.tau t))
 
--- "τ to j/4 is the whole power j div 4 of τ times the whole power j mod 4 of that quarter root"
+-- τ to j/4: one product of two whole powers
 unfoldable pub tauPower : Float → Float → ℕ → Formula
 tauPower tau quarter j = num tau ^^ (j / 4) ⊗ num quarter ^^ (j % 4)
 

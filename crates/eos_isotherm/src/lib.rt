@@ -1,4 +1,4 @@
-// What hangs on the temperature alone, in plain f64, worked once for a search and handed on by value.
+// What hangs on the temperature alone, in plain f64, worked once for a search (RULES 5.1) and handed on by value.
 ghost use mathlib.Core.Path.{_≡_};
 ghost use lib.ListN.{getD};
 ghost use Rattle.num_working.specs.Working.{plain};

@@ -30,7 +30,7 @@ around delta =
     let X = e ⊗ e in
     record { e = e; X = X; r = root (workedAs Of10_6) X; v = root two-thirds X }
 
--- "3.5 is the cube times |δ−1|": Xʲ, times |e| where a has a half. Xᵃ has the cube and Xᵃ⁻¹ the square
+-- Xᵃ from the cube of X and Xᵃ⁻¹ from its square: times |e| where a is 3.5 (RULES 4.7), and as it is where a is 3
 abbrev pub raised : Bool → Formula → Formula → Formula
 raised half e power = cond half (power ⊗ size e) power
 

@@ -1,5 +1,5 @@
-// The figures of rows 40 to 42, the term (n·δ)·Ψ times the bracket of each derivative (004, Table 32), added to the sums
-// so far: all five, or the first, which a pressure needs.
+// The figures of rows 40 to 42, the term (n·δ)·Ψ times the bracket of each derivative (004, Table 32), added to the
+// sums so far: all five, or the first, which a pressure needs.
 ghost use mathlib.Core.Path.{_≡_};
 ghost use Rattle.num_formulas.specs.Formula.{num, _⊕_, _⊗_, value};
 ghost use Rattle.eos_brackets.specs.Derivative.{Delta, of, five};
@@ -94,7 +94,8 @@ pub fn add_figures(
     )
 }
 
-// The first sum so far, which a pressure needs, and the row's figure of it. Apart from the five, so that it stays short where it is worked.
+// The first sum so far, which a pressure needs, and the row's figure of it. Apart from the five, so that it stays short
+// where it is worked.
 pub fn add_slope(
     s: f64,
     row: NonAnalytic,

@@ -1,5 +1,5 @@
-// Rows 40 to 42, the non-analytic ones, which see the neighbourhood of the critical point: what their terms and brackets
-// are made of but for Ψ, in plain f64. A number here that is not finite fails whatever is worked from it.
+// Rows 40 to 42, the non-analytic ones, which see the neighbourhood of the critical point: what their terms and
+// brackets are made of but for Ψ, in plain f64. A number here that is not finite fails whatever is worked from it.
 ghost use mathlib.Core.Path.{_≡_};
 ghost use Rattle.num_working.specs.Working.{over};
 ghost use Rattle.num_formulas.specs.Formula.{absolute, num, value};

@@ -1,9 +1,9 @@
-// The whole powers that Table 31 needs, as arrays whose sizes are the table's: each worked once and handed on together
-// (document 01, "How a number is worked").
+// The whole powers that Table 31 needs, each worked once and handed on together (RULES 4.3; docs/ARRANGEMENT.md,
+// section 2), as arrays whose sizes are the table's.
 ghost use mathlib.Core.Path.{_≡_};
 ghost use Rattle.num_powers.specs.Power.{powers};
 
-// The powers that a state needs of δ, worked once and handed on together: δ⁰ to δ¹⁰.
+// Those of δ: δ⁰ to δ¹⁰.
 pub fn powers_to_10(x: f64) -> [f64; 11]
     ensures { λ r. ⌜ r ≡ powers 10 x ⌝ }
 {

@@ -1,5 +1,5 @@
-// The pressure on an isotherm at a density. What hangs on the temperature alone is worked once, as an isotherm, and handed on by
-// value, so that no probe of a search works it again.
+// The pressure on an isotherm at a density. What hangs on the temperature alone is worked once, as an isotherm, and
+// handed on by value, so that no probe of a search works it again.
 ghost use mathlib.Core.Path.{_≡_};
 ghost use Rattle.num_formulas.specs.Formula.{value};
 ghost use Rattle.eos_pressure.specs.Pressure.{pressureFormula, pressureOn};

@@ -1,4 +1,4 @@
--- The sums of the residual part: "sums run in the table's row order from the first term". Definitions only.
+-- RULES 4.8: the sums of the residual part, from the first row on in the table's order. Definitions only.
 use Prim.Native.Nat.{ℕ, _-_}
 use mathlib.Core.Path.{_≡_}
 use mathlib.Core.Bool.{Bool}
@@ -32,7 +32,7 @@ unfoldable pub total : List Worked → Worked
 total [] = Failed
 total (f ∷ fs) = onto f fs
 
--- ---- a row's figure: its term times its bracket, "worked first". The row at place i of the table, counted from 0, has its τᵗ at place i of the isotherm
+-- ---- a row's figure: its term times its bracket, which is worked first. The row at place i of the table, from 0 on, has its τᵗ at place i of the isotherm
 module _ (iso : Isotherm) (delta : Float) (k : Derivative) where
   abbrev pub polynomialFigure : ℕ → Polynomial → Worked
   polynomialFigure i r = work (polynomialTerm delta (getD (iso .powers) i nan) r ⊗ polynomialBracket r k)

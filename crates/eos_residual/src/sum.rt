@@ -1,6 +1,6 @@
-// The sums of the residual part over all 42 rows in row order: all five, or the first, which a pressure needs. Each
-// row's term is worked once for all that are asked for, in plain f64, and each sum is tested once, at its end. What hangs
-// on the temperature comes with the isotherm.
+// RULES 4.8: the sums of the residual part over all 42 rows in the table's order: all five, or the first, which a
+// pressure needs. Each row's term is worked once for all that are asked for, in plain f64, and each sum is tested once,
+// at its end. What hangs on the temperature comes with the isotherm.
 ghost use mathlib.Core.Path.{_≡_};
 ghost use mathlib.Core.Bool.{true, _&&_};
 ghost use lib.Ieee.Scale.{finite};

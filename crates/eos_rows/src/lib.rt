@@ -1,7 +1,7 @@
 // Table 31 of 004, read as docs/READING.md says: a table for each kind of row, each row equal to the definition's
-// (specs/Row.antt) by computation. A row is had by its place among those of its kind, counted from 0, since a table that is
-// taken whole is written to the stack each time; past the end stands the last. `new` makes a row of what one line of the
-// table prints.
+// (specs/Row.antt) by computation. A row is had by its place among those of its kind, counted from 0, since a table
+// that is taken whole is written to the stack each time; past the end stands the last. `new` makes a row of what one
+// line of the table prints.
 ghost use mathlib.Core.Path.{_≡_};
 ghost use lib.ListN.{getD};
 ghost use Rattle.eos_rows.specs.Row.{polynomials, row7, exponentials, row34, gaussians, row39, nonAnalytics, row42};

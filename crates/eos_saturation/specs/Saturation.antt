@@ -1,4 +1,4 @@
--- 004, section 3.5: the vapour pressure, in the order of docs/ARRANGEMENT.md, section 10. Definitions only.
+-- 004, section 3.5: the vapour pressure, in the order of docs/ARRANGEMENT.md, section 10; the powers of θ by RULES 4.3 and 4.7. Definitions only.
 use Prim.Native.Nat.{ℕ}
 use lib.Ieee as Ieee
 use lib.Ieee.{Float}
@@ -20,7 +20,7 @@ to θ m k = root (record { m = m; k = k }) θ
 
 -- ---- the vapour pressure
 
--- eq. (3.13), t₁ = 1.0, t₂ = 1.5, t₃ = 2.0, t₄ = 4.0: "a₁ = −7.0602087, a₂ = 1.9391218, a₃ = −1.6463597, a₄ = −3.2995634"
+-- eq. (3.13), t₁ = 1.0, t₂ = 1.5, t₃ = 2.0, t₄ = 4.0: a₁ = −7.0602087, a₂ = 1.9391218, a₃ = −1.6463597, a₄ = −3.2995634
 unfoldable pub pressureSum : Formula → Formula
 pressureSum θ =
     num (Ieee.neg (decimal 70602087 7)) ⊗ θ

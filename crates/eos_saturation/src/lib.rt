@@ -1,5 +1,5 @@
-// The vapour pressure at a temperature (004, eq. (3.13); document 01, "How a number is worked", for the roots), and θ,
-// which the saturated densities stand on too. A working that fails is refusal 7.
+// The vapour pressure at a temperature (004, eq. (3.13); RULES 4.3 and 4.7 for the powers), and θ, which the saturated
+// densities stand on too. A working that fails is refusal 7 (RULES 4.2).
 ghost use mathlib.Core.Path.{_≡_};
 ghost use Rattle.num_formulas.specs.Formula.{num, value, work};
 ghost use Rattle.eos_saturation.specs.Saturation.{theta, pressureSum, vapourPressure};

@@ -1,4 +1,5 @@
--- The state at a temperature and a density (docs/ARRANGEMENT.md, section 9; 004, Table 3): each field by its own formula, or a failure. Definitions only.
+-- RULES 4.9: the state at a temperature and a density, each field by its own formula (docs/ARRANGEMENT.md, section 9; 004, Table 3), or a failure.
+-- Definitions only.
 use lib.Ieee.{Float}
 use mathlib.Core.List.{List, [], _∷_}
 use Rattle.num_working.specs.Working.{orElse}

@@ -1,4 +1,5 @@
-// The state on an isotherm at a density (004, Table 3; docs/ARRANGEMENT.md, section 9): eight numbers and a phase, or a failure.
+// RULES 4.9: the state on an isotherm at a density (004, Table 3; docs/ARRANGEMENT.md, section 9), eight numbers and a
+// phase, or a failure.
 ghost use mathlib.Core.Path.{_≡_};
 ghost use mathlib.Core.Bool.{_&&_};
 ghost use lib.Ieee.Scale.{finite};
@@ -45,7 +46,7 @@ pub enum Stated {
     Unknown,
 }
 
-// cₚ in plain f64, with z, g and k as docs/ARRANGEMENT.md has them.
+// cₚ in plain f64, with z, g and k as docs/ARRANGEMENT.md, section 9, has them.
 fn heat_p(sums: Five, i2: f64) -> f64
     ensures { λ r. ⌜ r ≡ value (heatP sums i2) ⌝ }
 {

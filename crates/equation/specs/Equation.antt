@@ -1,4 +1,4 @@
--- What a door needs of an equation of state, and the one of 1996. Definitions only.
+-- What a door (RULES 5) needs of an equation of state, and the one of 1996. Definitions only.
 use mathlib.Core.Path.{_≡_}
 use lib.Dec.{T}
 use lib.Ieee.{Float}
@@ -50,8 +50,8 @@ of1996 = record {
   state = λ t. stateOn (curve t);
 }
 
--- ---- what the doors' theorems take of an equation: its saturated densities have no minus sign; a state is at the temperature and density and of the phase asked
--- for, its pressure is the one worked there, and its eight numbers don't hang on the phase
+-- ---- what the doors' theorems take of an equation: its saturated densities have no minus sign; a state is at the temperature and density and of the phase
+-- asked for, its pressure is the one worked there, and, as RULES 5.3 needs it, its eight numbers don't hang on the phase
 pub record Lawful (E : Equation) : Type 0 where
   pub vapour : (t d : Float) → E .vapourDensity t ≡ Number d → T (nonneg d)
   pub liquid : (t d : Float) → E .liquidDensity t ≡ Number d → T (nonneg d)

@@ -1,4 +1,4 @@
-// What a door needs of an equation of state, of that of 1996: the one room of it that the doors know.
+// What a door (RULES 5) needs of an equation of state, of that of 1996: the one room of it that the doors know.
 ghost use mathlib.Core.Path.{_≡_};
 ghost use Rattle.equation.specs.Equation.{of1996, curve, pressureOn, stateOn};
 use eos_constants::span_wagner;

@@ -1,4 +1,4 @@
--- For an x from 10⁻²⁰⁰ to 700 the exponential of −x is that of "x ≤ 0", and y = x/1024 lies from 10⁻²⁵⁰ to 1. Assumes nothing.
+-- For an x from 10⁻²⁰⁰ to 700 the exponential of −x is worked by step 4 of RULES 4.4, and y = x/1024 lies from 10⁻²⁵⁰ to 1. Assumes nothing.
 use mathlib.Core.Path.{_≡_, refl, ap, _∙_}
 use mathlib.Core.Bool.{Bool, true, false, _||_}
 use Prim.Native.Nat.{ℕ, zero, suc, _+_, _*_, _^_, _≤_, _<_}

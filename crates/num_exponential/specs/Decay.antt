@@ -1,4 +1,4 @@
--- e⁻ˣ for a formula that goes on in plain f64. Definitions only.
+-- RULES 4.4: e⁻ˣ for a formula that goes on in plain f64. Definitions only.
 use mathlib.Core.Bool.{Bool, true, _&&_}
 use mathlib.Core.List.{List, [], _∷_}
 use lib.Ieee as Ieee
@@ -30,7 +30,7 @@ each f x = record {
 
 -- ---- what code inside asks for
 
--- x from 10⁻²⁰⁰ to 700, where the exponential of −x is that of "x ≤ 0", and y/k of a y = x/1024 is in the normal range for each k
+-- x from 10⁻²⁰⁰ to 700, where the exponential of −x is worked by step 4, and y/k of a y = x/1024 is in the normal range for each k
 unfoldable pub inSeries : Float → Bool
 inSeries x = Ieee.le (decimal 1 200) x && Ieee.le x (whole 700)
 

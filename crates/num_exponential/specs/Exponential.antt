@@ -1,4 +1,4 @@
--- Document 01: "Exponential eˣ." Definitions only.
+-- RULES 4.4: the exponential eˣ. Definitions only.
 use Prim.Native.Nat.{ℕ, zero, suc}
 use mathlib.Core.Bool.{cond}
 use lib.Ieee as Ieee
@@ -9,21 +9,21 @@ use Rattle.num_working.specs.Working.{checked, _-ᵂ_, _*ᵂ_, _/ᵂ_}
 use Rattle.num_working.specs.declared.Worked.{Worked}
 use Rattle.num_working.specs.declared.Worked.the-variants.{Number, Failed}
 
--- "for k = 14 down to 1, s = 1 − (y/k)·s"
+-- s becomes 1 − (y/k)·s for k, k − 1, .., 1
 unfoldable pub series : Worked → ℕ → Worked → Worked
 series y zero s = s
 series y (suc k) s = series y k (checked (whole 1) -ᵂ (y /ᵂ checked (whole (suc k))) *ᵂ s)
 
--- "then s = s·s ten times"
+-- s becomes s·s, n times
 unfoldable pub squared : ℕ → Worked → Worked
 squared zero s = s
 squared (suc n) s = squared n (s *ᵂ s)
 
--- "x ≤ 0: y = (−x)/1024; s = 1"
+-- step 4: fourteen turns of the series from s = 1, with y = (−x)/1024, then ten squarings
 unfoldable pub falling : Float → Worked
 falling x = squared 10 (series (checked (Ieee.neg x) /ᵂ checked (whole 1024)) 14 (checked (whole 1)))
 
--- "Not finite: refused. x < −700: 0. x > 700: refused. x ≤ 0: .. x > 0: 1 divided by the exponential of −x", which lies from −700 to 0
+-- the five steps in their order; what step 5 divides 1 by is worked by step 4, since −x lies from −700 to 0 there
 unfoldable pub exponential : Float → Worked
 exponential x =
     cond (finite x)

@@ -1,5 +1,5 @@
-// e⁻ˣ of twelve numbers side by side, for a formula that goes on in plain f64. One exponential is a chain of 38 operations, each of which waits for the
-// one before it; twelve chains fill each other's waits.
+// RULES 4.4: e⁻ˣ of twelve numbers side by side, for a formula that goes on in plain f64. One exponential is a chain of
+// 38 operations, each of which waits for the one before it; twelve chains fill each other's waits.
 ghost use mathlib.Core.Path.{_≡_};
 ghost use mathlib.Core.Bool.{_&&_};
 ghost use lib.Dec.{T};

@@ -1,4 +1,4 @@
-// The exponential (document 01, "How a number is worked").
+// RULES 4.4: the exponential.
 ghost use mathlib.Core.Path.{_≡_};
 ghost use lib.Dec.{T};
 ghost use lib.Ieee.{le};
@@ -10,7 +10,7 @@ use num_working::Worked;
 use num_working::checked;
 use num_working::is_finite;
 
-// "for k = 14 down to 1, s = 1 − (y/k)·s"
+// s becomes 1 − (y/k)·s for k = 14, 13, .., 1.
 fn series(y: f64) -> f64
     ensures { λ r. ⌜ checked r ≡ series (checked y) 14 (checked (whole 1)) ⌝ }
 {
@@ -23,7 +23,8 @@ fn series(y: f64) -> f64
     s
 }
 
-// The same with six divisions that are none by a power of two: for such a y each y/(k·2ᵗ) is in the normal range, and is y/k times 2⁻ᵗ bit for bit (`halved`, num_laws/proofs/Halves.antt).
+// The same with six divisions that are none by a power of two: for such a y each y/(k·2ᵗ) is in the normal range, and
+// is y/k times 2⁻ᵗ bit for bit (`halved`, num_laws/proofs/Halves.antt).
 fn eased(y: f64) -> f64
     requires { ⌜ T (le (decimal 1 250) y) × T (le y (whole 1)) ⌝ }
     ensures { λ r. ⌜ checked r ≡ series (checked y) 14 (checked (whole 1)) ⌝ }
@@ -47,7 +48,7 @@ fn eased(y: f64) -> f64
     1.0 - (y / 1.0) * s
 }
 
-// "then s = s·s ten times"
+// s becomes s·s, ten times.
 fn squared(s: f64) -> f64
     ensures { λ r. ⌜ checked r ≡ squared 10 (checked s) ⌝ }
 {
@@ -67,7 +68,7 @@ pub(crate) fn in_series(x: f64) -> bool
     if 1e-200 <= x { x <= 700.0 } else { false }
 }
 
-// eˣ for x from −700 to 0.
+// Step 4: eˣ for x from −700 to 0.
 fn falling(x: f64) -> Worked
     ensures { λ r. ⌜ r ≡ falling x ⌝ }
 {

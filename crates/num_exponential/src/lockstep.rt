@@ -1,5 +1,5 @@
-// The series and the squarings of twelve exponentials, step by step together: each step is the same for all twelve, so that a compiler works them two by two,
-// and a chain's waits are filled by the others.
+// The series and the squarings of twelve exponentials (RULES 4.4), step by step together: each step is the same for all
+// twelve, so that a compiler works them two by two, and a chain's waits are filled by the others.
 ghost use mathlib.Core.Path.{_≡_};
 ghost use lib.Dec.{T};
 ghost use lib.Ieee.{binary64, div, mul};
@@ -9,8 +9,8 @@ ghost use Rattle.num_laws.specs.Quotient.{justAbove, divisor, justBelow, normal
 ghost use Rattle.num_working.specs.Number.{whole};
 use crate::decay::Twelve;
 
-// y/k bit for bit with no division, which would be the slowest of all: c is a little below 1/k and h a little above it. q has 48 bits, so that q·k and
-// y − q·k are exact (`parted`, num_laws/proofs/Parts.antt).
+// y/k bit for bit with no division, which would be the slowest of all: c is a little below 1/k and h a little above it.
+// q has 48 bits, so that q·k and y − q·k are exact (`parted`, num_laws/proofs/Parts.antt).
 fn part(y: f64, k: f64, c: f64, h: f64) -> f64
     requires { ⌜ T (normal y) × T (divisor k) × T (justBelow k c) × T (justAbove k h) ⌝ }
     ensures { λ r. ⌜ r ≡ div binary64 y k ⌝ }
@@ -40,7 +40,7 @@ fn parts(y: Twelve, k: f64, c: f64, h: f64) -> Twelve
     }
 }
 
-// "s = 1 − (y/k)·s", with q·h for y/k
+// s becomes 1 − (y/k)·s, with q·h for y/k.
 fn step(s: Twelve, q: Twelve, h: f64) -> Twelve
     ensures { λ r. ⌜ r ≡ pairs (turn h) q s ⌝ }
 {
@@ -60,7 +60,8 @@ fn step(s: Twelve, q: Twelve, h: f64) -> Twelve
     }
 }
 
-// "for k = 14 down to 1", with y/(k·2ᵗ) as y/k times 2⁻ᵗ, as in `eased`. Beside each k stand 1/k less a little and 1/k and a little more.
+// The steps for k = 14, 13, .., 1, with y/(k·2ᵗ) as y/k times 2⁻ᵗ, as in `eased`. Beside each k stand 1/k less a little
+// and 1/k and a little more.
 pub(crate) fn chains(y: Twelve) -> Twelve
     requires { ⌜ T (every normal (numbers y)) ⌝ }
     ensures { λ r. ⌜ r ≡ each (λ v. chain v 14 (whole 1)) y ⌝ }
@@ -120,7 +121,7 @@ fn squares(s: Twelve) -> Twelve
     }
 }
 
-// "then s = s·s ten times"
+// s becomes s·s, ten times.
 pub(crate) fn ten_squarings(s: Twelve) -> Twelve
     ensures { λ r. ⌜ r ≡ each (squarings 10) s ⌝ }
 {

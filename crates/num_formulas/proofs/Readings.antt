@@ -1,4 +1,4 @@
--- Every starred reading of the numerics is what document 01 says, by computation. Assumes nothing.
+-- Every reading of the numerics in RULES 8.1 is what stands there, by computation. Assumes nothing.
 use mathlib.Core.Path.{_≡_, refl}
 use mathlib.Core.List.{map}
 use lib.Ieee as Ieee

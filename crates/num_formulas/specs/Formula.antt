@@ -1,5 +1,5 @@
--- Formulas, and how one is worked: a number that is not finite anywhere on the way, or a root or exponential that is refused, fails the whole
--- (document 01, refusal 7). Of x⁰, which is 1, nothing is worked. Definitions only.
+-- RULES 4.1 and 4.2: formulas, and how one is worked. A number on the way that is not finite, or a root or an exponential that is refused, fails the whole.
+-- Of x⁰, which is 1, nothing is worked (RULES 4.3). Definitions only.
 use Prim.Native.Nat.{ℕ}
 use mathlib.Core.Bool.{cond}
 use lib.Ieee as Ieee
@@ -33,7 +33,7 @@ two = num (whole 2)
 unfoldable pub absolute : Float → Float
 absolute x = cond (Ieee.lt x (whole 0)) (Ieee.neg x) x
 
--- every operation is an f64 operation rounded once, in the order in which the formula is written
+-- each operation is rounded once, and they come in the order in which the formula is written
 unfoldable pub work : Formula → Worked
 work (num x) = checked x
 work (a ⊕ b) = work a +ᵂ work b

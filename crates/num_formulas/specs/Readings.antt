@@ -1,4 +1,4 @@
--- Document 01, "Readings on each side of a boundary": the starred ones of the numerics, as one table. Definitions only.
+-- RULES 8.1: the readings of the numerics, as one table. Definitions only.
 use mathlib.Core.List.{List, [], _∷_}
 use lib.Ieee as Ieee
 use Rattle.num_working.specs.Number.{whole}
@@ -30,6 +30,6 @@ readings =
     ∷ (root square-root (whole 1) gives Number (whole 1))
     ∷ []
 
--- |−1| and |1|, which no reading of 01 names
+-- |−1| and |1|, which are no readings of RULES 8.1
 unfoldable pub sizes : List Starred
 sizes = (work (size (num (Ieee.neg (whole 1)))) gives Number (whole 1)) ∷ (work (size (num (whole 1))) gives Number (whole 1)) ∷ []

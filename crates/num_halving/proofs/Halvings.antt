@@ -1,5 +1,5 @@
--- The shared facts about halving, over whatever figure is probed: what an answer means, "no crossing" exactly when, failure exactly when, and that
--- 63 halvings are enough. Assumes nothing.
+-- The shared facts about halving (RULES 4.5), over whatever figure is probed: what an answer means, when exactly there is no crossing, when exactly it fails,
+-- and that 63 halvings are enough. Assumes nothing.
 use mathlib.Core.Path.{_≡_, refl, sym, ap, _∙_}
 use mathlib.Core.Bool.{Bool, true, false, cond, true≢false}
 use Prim.Native.Nat.{ℕ, zero, suc, _+_, _-_, _*_, _^_, _≤_, _<_}

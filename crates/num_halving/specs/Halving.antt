@@ -1,4 +1,4 @@
--- Document 01: "Halving between bits lo and hi", over whatever figure is probed. Definitions only.
+-- RULES 4.5: halving, over whatever figure is probed. Definitions only.
 use Prim.Native.Nat.{ℕ, zero, suc, _+_, _-_, _/_, _≤_}
 use mathlib.Core.Path.{_≡_}
 use mathlib.Core.Bool.{true, false, cond}
@@ -14,7 +14,7 @@ use Rattle.num_halving.specs.declared.Crossing.the-variants.{At, Nowhere
 abbrev pub Figure : Type 0
 Figure = ℕ → Worked
 
--- where a figure stands: not above the target, above it, or "not finite", whether its working failed or what it worked is not finite
+-- where a figure stands: not above the target, above it, or not finite; one whose working failed counts as not finite
 pub data Side : Type 0 where
   low high broken : Side
 
@@ -22,7 +22,7 @@ abbrev pub side : Float → Worked → Side
 side t (Number x) = cond (finite x) (cond (lt t x) high low) broken
 side t Failed = broken
 
--- "the figure is worked at lo, then at hi (not finite: 7); no crossing if the first is above the target or the second is not above it"
+-- at lo, then at hi: not finite is a failure; above the target at lo, or not above it at hi, is no crossing
 abbrev pub ends : Side → Side → Crossing → Crossing
 ends low low c = Nowhere
 ends low high c = c
@@ -32,17 +32,18 @@ ends high high c = Nowhere
 ends high broken c = Broke
 ends broken b c = Broke
 
--- "not above the target: lo = mid; above: hi = mid; not finite: 7"
+-- at mid: the upper half is left where the figure is not above the target, the lower where it is; not finite is a failure
 abbrev pub half : Side → Crossing → Crossing → Crossing
 half low upper lower = upper
 half high upper lower = lower
 half broken upper lower = Broke
 
--- "mid = lo + (hi − lo) div 2"
+-- mid, rounded down
 unfoldable pub middle : ℕ → ℕ → ℕ
 middle lo hi = lo + (hi - lo) / 2
 
--- "While hi is not lo + 1": at most n halvings, of which 63 are always enough (`at-most-63`). Each half is bound by a `let`, so that antt works only the one that is picked.
+-- as long as hi is not lo + 1: at most n halvings, of which 63 are always enough (`at-most-63`). Each half is bound by a `let`, so that antt works only the
+-- one that is picked.
 unfoldable pub narrow : Figure → Float → ℕ → ℕ → ℕ → Crossing
 narrow f t zero lo hi = At lo
 narrow f t (suc n) lo hi =
@@ -51,7 +52,7 @@ narrow f t (suc n) lo hi =
     let rest = half (side t (f (middle lo hi))) upper lower in
     cond (eqb hi (lo + 1)) (At lo) rest
 
--- "refused as "no crossing" if lo ≥ hi; .. At most 63 halvings."
+-- lo not below hi is no crossing; else the ends are looked at, and then at most 63 halvings are made
 unfoldable pub halve : Figure → Float → ℕ → ℕ → Crossing
 halve f t lo hi =
     let rest = ends (side t (f lo)) (side t (f hi)) (narrow f t 63 lo hi) in

@@ -1,4 +1,4 @@
--- Document 01: "Whole power xⁿ: ((x·x)·x).., n−1 products; x⁰ is 1." Definitions only.
+-- RULES 4.3: whole powers. Definitions only.
 use Prim.Native.Nat.{ℕ, zero, suc}
 use mathlib.Core.List.{List, [], _∷_, _++_}
 use lib.Ieee as Ieee
@@ -19,7 +19,7 @@ w ^ᵂ zero = checked (whole 1)
 w ^ᵂ suc zero = w
 w ^ᵂ suc (suc n) = (w ^ᵂ suc n) *ᵂ w
 
--- x⁰ to xⁿ: "whole powers .. up to the largest needed are worked once for a state and handed on together"
+-- x⁰ to xⁿ, which are handed on together
 unfoldable pub powers : ℕ → Float → List Float
 powers zero x = power x zero ∷ []
 powers (suc n) x = powers n x ++ power x (suc n) ∷ []

@@ -1,4 +1,4 @@
-// Whole powers: ((x·x)·x).., n − 1 products; x⁰ is 1.
+// RULES 4.3: whole powers, by n − 1 products from the left.
 ghost use mathlib.Core.Path.{_≡_};
 ghost use Rattle.num_powers.specs.Power.{power};
 

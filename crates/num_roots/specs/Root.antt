@@ -1,4 +1,4 @@
--- Document 01: "Root x^(m/k), for m/k below 2." Definitions only.
+-- RULES 4.6: the root x^(m/k). Definitions only.
 use Prim.Native.Nat.{ℕ, _*_}
 use mathlib.Core.Bool.{cond}
 use lib.Dec.{ltb}
@@ -19,21 +19,21 @@ use Rattle.num_roots.specs.declared.root.Exponent.{Exponent}
 unfoldable pub powerAt : ℕ → Figure
 powerAt k b = checked (Ieee.ofBits binary64 b) ^ᵂ k
 
--- "halve over the floats' bits taken as whole numbers, from the bits of 0 to those of 2²⁰, looking for the place where the k-th whole power passes" t
+-- halve from the bits of 0 to those of 2²⁰, with the k-th whole power as the figure and t as the target
 unfoldable pub rootBits : ℕ → Float → Crossing
 rootBits k t = halve (powerAt k) t (Ieee.toBits binary64 (whole 0)) (Ieee.toBits binary64 (whole 1048576))
 
--- "In a root, no crossing counts as 7."
+-- no crossing is refused, as a failure is
 abbrev pub rootOf : Crossing → Worked
 rootOf (At b) = Number (Ieee.ofBits binary64 b)
 rootOf Nowhere = Failed
 rootOf Broke = Failed
 
--- "looking for the place where the k-th whole power passes the m-th whole power of x"
+-- with xᵐ as the target, refused where that is not finite
 unfoldable pub searched : ℕ → ℕ → Float → Worked
 searched m k x = orElse (checked x ^ᵂ m) Failed (λ t. rootOf (rootBits k t))
 
--- "x negative or not finite: refused. x = 0: 0. Otherwise halve". An m/k that is not below 2 is refused too.
+-- an m/k that is not below 2 is refused, and an x that is below 0 or not finite; of 0, of either sign, the root is 0; any other is searched for
 unfoldable pub root : Exponent → Float → Worked
 root e x =
     let rest = searched (e .m) (e .k) x in

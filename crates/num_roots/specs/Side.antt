@@ -1,4 +1,4 @@
--- Roots side by side. Definitions only.
+-- RULES 4.6: roots side by side. Definitions only.
 use mathlib.Core.Path.{_≡_}
 use mathlib.Core.Bool.{Bool, not, _&&_}
 use Prim.Native.Nat.{ℕ, _+_, _-_, _*_, _<_}

@@ -1,3 +1,3 @@
-// Powers to a fraction (document 01, "Root"), by themselves and side by side.
+// RULES 4.6: powers to a fraction, by themselves and side by side.
 pub mod root;
 pub mod side;

@@ -1,6 +1,6 @@
-// The root x^(m/k) (document 01, "How a number is worked"). The definition halves from the bits of 0 to those of 2²⁰.
-// The k-th whole power rises with the bits, so it passes its target at one place only (proofs/Roots.antt). The code guesses
-// that place, tells it from the powers of the guess and its neighbours, and looks further out only where these don't show it.
+// RULES 4.6: the root x^(m/k). The definition halves from the bits of 0 to those of 2²⁰. The k-th whole power rises
+// with the bits, so it passes its target at one place only (proofs/Roots.antt). The code guesses that place, tells it
+// from the powers of the guess and its neighbours, and looks further out only where these don't show it.
 ghost use mathlib.Core.Path.{_≡_};
 ghost use Prim.Native.Nat.{_+_, _≤_, _<_};
 ghost use lib.Dec.{T};
@@ -86,9 +86,9 @@ pub(crate) fn about_whole_power(y: f64, k: usize) -> f64 {
     p
 }
 
-// Bits near those of x^(m/k), for an x with about the logarithm l and about the m-th power t: a power of 2 and a Newton step.
-// Whatever is guessed the search finds the same place, so no more is promised than that the guess lies below the search's
-// upper end. 0 is no guess.
+// Bits near those of x^(m/k), for an x with about the logarithm l and about the m-th power t: a power of 2 and a Newton
+// step. Whatever is guessed the search finds the same place, so no more is promised than that the guess lies below the
+// search's upper end. 0 is no guess.
 pub(crate) fn guess(l: f64, e: Exponent, t: f64) -> u64
     requires { ⌜ (e .k ≤ 51) × (e .m < 102) ⌝ }
     ensures { λ r. ⌜ r < 0x4130_0000_0000_0000 ⌝ }
@@ -273,8 +273,8 @@ pub(crate) fn searchable(x: f64, e: Exponent) -> bool
     is_finite(x)
 }
 
-// As a rule the root is the guess or the float below it, and is looked for only where it is neither. Which of the two it is
-// no processor foresees: the place is chosen and not branched to.
+// As a rule the root is the guess or the float below it, and is looked for only where it is neither. Which of the two
+// it is no processor foresees: the place is chosen and not branched to.
 pub(crate) fn root_about(x: f64, e: Exponent, t: f64, at: u64, p: Three) -> Worked
     requires { ⌜ Guessed e x t at ⌝ }
     requires { ⌜ PowersAbout at (e .k) (p .below) (p .here) (p .above) ⌝ }

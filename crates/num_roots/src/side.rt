@@ -1,5 +1,6 @@
-// Roots side by side, for formulas that go on in plain f64. A root is a chain of operations that wait for each other, and
-// several chains fill each other's waits: all are guessed, then all powers about the guesses are worked, then all are told.
+// RULES 4.6: roots side by side, for formulas that go on in plain f64. A root is a chain of operations that wait for
+// each other, and several chains fill each other's waits: all are guessed, then all powers about the guesses are
+// worked, then all are told.
 ghost use mathlib.Core.Path.{_≡_};
 ghost use lib.Dec.{T};
 ghost use Rattle.num_roots.specs.Side.{Guessed, searchable, threeRoots, twoRoots};

@@ -1,4 +1,4 @@
--- Document 01, "The sheet": "the whole number at or below it". Definitions only.
+-- RULES 6.5: the whole number at or below a float. Definitions only.
 use Prim.Native.Nat.{ℕ, _/_, _^_}
 use mathlib.Core.Bool.{cond}
 use lib.Ieee.{Float, le}

@@ -1,4 +1,4 @@
-// "the whole number at or below it" (document 01, "The sheet").
+// RULES 6.5: the whole number at or below a float.
 ghost use mathlib.Core.Path.{_≡_};
 ghost use Rattle.num_whole.specs.Whole.{wholeBelow};
 

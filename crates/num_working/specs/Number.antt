@@ -1,4 +1,4 @@
--- Numbers as they are printed. Document 01, "Constants and ranges": constants are the nearest f64. Definitions only.
+-- RULES 4.1: a number that is printed is the f64 nearest to it. Definitions only.
 use Prim.Native.Nat.{ℕ, _^_}
 use mathlib.Core.Bool.{Bool, false, not}
 use lib.Ieee as Ieee

@@ -1,4 +1,4 @@
--- Document 01, refusal 7: working failed, a number that was worked is not finite. Definitions only.
+-- RULES 4.2: a number that was worked is finite, or the working has failed. Definitions only.
 use lib.Ieee as Ieee
 use lib.Ieee.{Float, nan, inf, fin, binary64}
 use Rattle.num_working.specs.declared.Worked.{Worked}
@@ -24,7 +24,7 @@ abbrev pub orElse : {A : Type 0} → Worked → A → (Float → A) → A
 orElse Failed z f = z
 orElse (Number x) z f = f x
 
--- an f64 operation, rounded once, on two numbers that were worked
+-- an operation, rounded once (RULES 4.1), on two numbers that were worked
 abbrev pub both : (Float → Float → Float) → Worked → Worked → Worked
 both op Failed w = Failed
 both op (Number x) Failed = Failed

@@ -1,4 +1,4 @@
-// A number that was worked is finite, or the working has failed (document 01, refusal 7).
+// RULES 4.2: a number that was worked is finite, or the working has failed.
 ghost use mathlib.Core.Path.{_≡_};
 ghost use lib.Ieee.Scale.{finite};
 ghost use Rattle.num_working.specs.Working.{checked, over, plain};

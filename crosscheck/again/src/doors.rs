@@ -1,4 +1,4 @@
-//! Document 01, "Refusal numbers" and "The doors, step by step"; docs/ARRANGEMENT.md, section 11.
+//! RULES 3.3 and 5: the doors.
 
 use crate::equation::{isotherm, pressure, state, Isotherm, CRITICAL_TEMPERATURE};
 use crate::numbers::{halve, Halved};
@@ -14,7 +14,7 @@ pub enum Phase {
 /// The eight numbers with their phase, or a refusal number.
 pub type Answer = Result<(Phase, [f64; 8]), u32>;
 
-/// Document 01, "Constants and ranges": ends are inside.
+/// RULES 2.2 and 2.3: every end is inside its range.
 pub const TEMPERATURES: [f64; 2] = [216.592, 523.0];
 pub const PRESSURES: [f64; 2] = [10000.0, 30000000.0];
 pub const DENSITIES: [f64; 2] = [0.1, 1300.0];
@@ -26,7 +26,7 @@ fn within(x: f64, [low, high]: [f64; 2]) -> bool {
     low <= x && x <= high
 }
 
-/// "Each door: 3, 4, 5, 6 on its inputs".
+/// RULES 3.3: 3, 4, 5 and 6, on what was asked.
 fn check(t: f64, x: f64, range: [f64; 2], of_box: [f64; 2]) -> Result<(), u32> {
     if !t.is_finite() || !x.is_finite() {
         Err(3)

@@ -3,7 +3,7 @@
 use crate::numbers::{exponentials, powers, root};
 use crate::tables::{A2, A3, GAUSSIANS, IDEAL, ROWS, SHAPES, SHARPS};
 
-/// Document 01, "Constants and ranges".
+/// RULES 2.1.
 pub const CRITICAL_TEMPERATURE: f64 = 304.1282;
 pub const CRITICAL_DENSITY: f64 = 467.6;
 pub const GAS: f64 = 188.9241;
@@ -138,7 +138,7 @@ fn sums<const ALL: bool>(on: &Isotherm, rho: f64) -> [f64; 5] {
     sums
 }
 
-/// Section 9, the first row; section 7: "A pressure needs S₁ alone". Failed where it is not finite.
+/// Section 9, the first row; by section 7 a pressure needs S₁ alone. Failed where it is not finite.
 pub fn pressure(on: &Isotherm, rho: f64) -> f64 {
     let [s1, ..] = sums::<false>(on, rho);
     ((rho * GAS) * on.t) * (1.0 + s1)

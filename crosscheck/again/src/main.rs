@@ -1,4 +1,5 @@
-//! Makhroeng worked a second time, from document 01, docs/ and the paper, without the sources, and compared with the library bit for bit.
+//! Makhroeng worked a second time, by docs/ (RULES, ARRANGEMENT, READING) and the paper, without the sources, and compared with the library
+//! bit for bit.
 //!
 //!     again [--states N] [--texts N] [--seed S] [--threads N]    compares with the library it is linked with
 //!     again --ask        reads lines `P T p` or `D T rho`, each number as the hexadecimal digits of its bits, and answers each

@@ -1,11 +1,11 @@
-//! Document 01, "How a number is worked"; docs/ARRANGEMENT.md, section 1.
+//! RULES 4: how a number is worked.
 //!
 //! A working that failed is a NaN. Sums, differences and products of what is not finite are not finite, so a formula of these may be
 //! tested at its end; a quotient loses an infinite divisor, so divisors that could be one are tested where they stand.
 
 pub const FAILED: f64 = f64::NAN;
 
-/// "Whole power xⁿ: ((x·x)·x).., n−1 products; x⁰ is 1."
+/// RULES 4.3: n − 1 products from the left; x⁰ is 1.
 pub fn whole_power(x: f64, n: u32) -> f64 {
     if n == 0 {
         return 1.0;
@@ -17,7 +17,7 @@ pub fn whole_power(x: f64, n: u32) -> f64 {
     p
 }
 
-/// x⁰ to x to the N−1, "worked once for a state and handed on together".
+/// x⁰ to x to the N−1, worked once and handed on together.
 pub fn powers<const N: usize>(x: f64) -> [f64; N] {
     let mut p = [1.0; N];
     for n in 1..N {
@@ -26,7 +26,7 @@ pub fn powers<const N: usize>(x: f64) -> [f64; N] {
     p
 }
 
-/// The exponential's step 4, N numbers side by side: each goes through its own operations in the one order.
+/// RULES 4.4, step 4, N numbers side by side: each goes through its own operations in the one order.
 fn falling<const N: usize>(x: [f64; N]) -> [f64; N] {
     let y = x.map(|x| (-x) / 1024.0);
     let mut s = [1.0; N];
@@ -43,7 +43,7 @@ fn falling<const N: usize>(x: [f64; N]) -> [f64; N] {
     s
 }
 
-/// "Exponential eˣ", steps 1 to 5 in their order; refused: failed.
+/// RULES 4.4, steps 1 to 5 in their order; refused: failed.
 pub fn exponentials<const N: usize>(x: [f64; N]) -> [f64; N] {
     let mut e = falling(x);
     for i in 0..N {
@@ -71,7 +71,7 @@ pub enum Halved {
     NotFinite,
 }
 
-/// "Halving between bits lo and hi": the five steps of section 1, a figure worked at exactly those places.
+/// RULES 4.5: its five steps, a figure worked at exactly those places.
 pub fn halve(mut lo: u64, mut hi: u64, target: f64, figure: impl Fn(f64) -> f64) -> Halved {
     if lo >= hi {
         return Halved::NoCrossing;
@@ -104,7 +104,7 @@ pub fn halve(mut lo: u64, mut hi: u64, target: f64, figure: impl Fn(f64) -> f64)
 
 const TOP: f64 = 1048576.0;
 
-/// "Root x^(m/k), for m/k below 2", steps 1 to 5 of section 1. The crossing is looked for beside a guess, then by the plain halving.
+/// RULES 4.6, steps 1 to 5. The crossing is looked for beside a guess, then by the plain halving.
 pub fn root(x: f64, m: u32, k: u32) -> f64 {
     if m >= 2 * k || !x.is_finite() || x < 0.0 {
         return FAILED;

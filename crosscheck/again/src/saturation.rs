@@ -3,7 +3,7 @@
 use crate::equation::{CRITICAL_DENSITY, CRITICAL_TEMPERATURE};
 use crate::numbers::{exponential, root, whole_power};
 
-/// Document 01, "Constants and ranges": 7.3773 MPa, in Pa.
+/// RULES 2.1: 7.3773 MPa, in Pa.
 const CRITICAL_PRESSURE: f64 = 7377300.0;
 
 fn theta(t: f64) -> f64 {
@@ -21,7 +21,7 @@ pub fn vapour_pressure(t: f64) -> Option<f64> {
     finite(CRITICAL_PRESSURE * exponential(tau * sum))
 }
 
-/// Document 01, "The doors": "A saturated density that is not above 0 is 7, in either door".
+/// RULES 5: a saturated density that is not above 0 is 7.
 fn above_zero(rho: f64) -> Option<f64> {
     finite(rho).filter(|&rho| rho > 0.0)
 }

@@ -1,4 +1,4 @@
-//! Document 01, "The sheet", "Refusal numbers" and "Constants and ranges"; docs/ARRANGEMENT.md, section 12.
+//! RULES 2.4, 3.2, 3.4, 6 and 7: a sheet and its report.
 
 use crate::doors::{from_density, from_pressure};
 
@@ -26,7 +26,7 @@ pub struct Sheet {
     pub lines: Vec<Line>,
 }
 
-/// "Whole numbers are 1 to 10 digits with no leading zero except `0` itself; `-` in place of any of them is a blank." None: neither.
+/// RULES 6.2: a whole number or a blank. None: neither.
 fn field(part: &[u8]) -> Option<Field> {
     match part {
         b"-" => Some(None),
@@ -38,7 +38,7 @@ fn field(part: &[u8]) -> Option<Field> {
     }
 }
 
-/// "Lines end in LF, one space between parts." "A text over 65,536 bytes is not in the form." None: not in the form.
+/// RULES 6.1 and 6.3. None: not in the form.
 pub fn read(text: &[u8]) -> Option<Sheet> {
     if text.len() > 65536 {
         return None;
@@ -70,7 +70,7 @@ pub fn read(text: &[u8]) -> Option<Sheet> {
     Some(sheet)
 }
 
-/// A line's milligrams or its refusal: "Order in a line: 1, 2, then the door."
+/// A line's milligrams or its refusal (RULES 3.2, 6.4 and 6.5).
 pub fn weigh(line: &Line) -> Result<u64, u32> {
     let (Some(_), Some(temperature), Some(value), Some(volume)) = (line.number, line.temperature, line.value, line.volume) else {
         return Err(1);
@@ -91,7 +91,7 @@ pub fn weigh(line: &Line) -> Result<u64, u32> {
     Ok(mass as u64) // drops what is after the point
 }
 
-/// What a text comes to. "Order for a sheet: 14, 10, 11, 12, 13".
+/// What a text comes to, in the order of RULES 3.4.
 pub enum Outcome {
     Alone(u32),
     Weighed { lines: Vec<Result<u64, u32>>, need: u64 },
@@ -109,7 +109,7 @@ pub fn score(text: &[u8]) -> Outcome {
     Outcome::Weighed { lines: sheet.lines.iter().map(weigh).collect(), need }
 }
 
-/// How a report ends.
+/// How a report ends (RULES 7.2).
 #[derive(Clone, Copy, Debug, PartialEq)]
 pub enum Ending {
     Covered,
@@ -135,7 +135,7 @@ impl Outcome {
         }
     }
 
-    /// "The report".
+    /// RULES 7.1 and 7.2.
     pub fn report(&self) -> Vec<u8> {
         let mut report = String::new();
         if let Outcome::Weighed { lines, .. } = self {

@@ -80,7 +80,7 @@ pub const SHAPES: [Shape; 2] = [
     Shape { a: 3.0, ka: 0.7, kb: 1.0, kc: 12.5, kd: 275.0 },
 ];
 
-/// b, and as the root m/k that document 01 names for it.
+/// b, and as the root m/k that RULES 4.7 names for it.
 pub struct Sharp {
     pub n: f64,
     pub b: f64,

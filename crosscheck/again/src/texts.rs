@@ -46,7 +46,7 @@ const COLUMNS: [&str; 20] = [
     "L other",
 ];
 
-/// What stands on a sheet, as text; "-" is a blank.
+/// What stands on a sheet, as text; `-` is a blank.
 struct Draft {
     need: String,
     lines: Vec<[String; 5]>,

@@ -1,4 +1,4 @@
--- The law of proofs/Parts.antt: y is a value that f64 holds, as each parameter is. Assumes nothing.
+-- The law of num_laws/proofs/Parts.antt: y is a value that f64 holds, as each parameter is. Assumes nothing.
 use mathlib.Core.Path.{sym, subst}
 use lib.Dec.{T}
 use borrow.Author.Needs.{needs}

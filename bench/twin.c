@@ -1,5 +1,6 @@
-/* Span and Wagner 1996 and the two doors in plain C, every operation in the order of docs/ARRANGEMENT.md: the twin that
-   the proved library is timed against and compared with bit by bit. Compile with -O2 or -O3 and -ffp-contract=off.
+/* Span and Wagner 1996 and the two doors in plain C, every operation in the order of RULES 4 and 5 (docs/RULES.md) and
+   of docs/ARRANGEMENT.md: the twin that the proved library is timed against and compared with bit by bit. Compile with
+   -O2 or -O3 and -ffp-contract=off.
    With -DLIBM the same formulas, with exp and pow of the C library and a Newton search, as a property package has them:
    the peer, whose answers are near and not the same.
    A working that fails is NaN. What hangs on the temperature is worked once (struct isotherm), powers once, and a row's
@@ -24,7 +25,7 @@ static inline uint64_t bits(double x) { uint64_t b; memcpy(&b, &x, 8); return b;
 static inline double of_bits(uint64_t b) { double x; memcpy(&x, &b, 8); return x; }
 static inline int finite_(double x) { return x < INFINITY && -INFINITY < x; }
 
-/* ---- 1 How a number is worked */
+/* ---- RULES 4: how a number is worked */
 
 static inline double power(double x, int n) {
     if (n == 0) return 1.0;
@@ -212,7 +213,7 @@ static const struct { double n, a, b, kb, kc; int i; } NON[3] = {   /* A is 0.7,
 #define KA 0.7
 #define KD 275.0
 
-/* ---- 7 The sums */
+/* ---- docs/ARRANGEMENT.md, section 7: the sums */
 
 static inline double slope(const isotherm *iso, double delta) {
     critical c; point p;
@@ -302,7 +303,7 @@ static inline void five(const isotherm *iso, double delta, sums *out) {
     out->d = s1; out->dd = s2; out->t = s3; out->tt = s4; out->dt = s5;
 }
 
-/* ---- 8 The ideal part */
+/* ---- docs/ARRANGEMENT.md, section 8: the ideal part */
 
 static inline void ideal(double tau, double *i1, double *i2) {
     static const double A[5] = { 1.99427042, 0.62105248, 0.41195293, 1.04028922, 0.08327678 };
@@ -317,7 +318,7 @@ static inline void ideal(double tau, double *i1, double *i2) {
     *i2 = tau * tau * second;
 }
 
-/* ---- 9 Pressure and state */
+/* ---- docs/ARRANGEMENT.md, section 9: pressure and state */
 
 static inline double pressure_on(double t, const isotherm *iso, double rho) {
     double delta = rho / RHOC;
@@ -342,7 +343,7 @@ static int state_on(double t, const isotherm *iso, double rho, double out[8]) {
     return 1;
 }
 
-/* ---- 10 Saturation */
+/* ---- docs/ARRANGEMENT.md, section 10: saturation */
 
 static double vapour_pressure(double t) {
     double tau = TC / t, x = 1.0 - t / TC;
@@ -361,7 +362,7 @@ static double vapour_density(double t) {
         + -10.111178 * (power(x, 2) * root(x, 1, 3)) + -29.742252 * (power(x, 4) * root(x, 2, 3)));
 }
 
-/* ---- 11 The doors: what the library's functions for C return, with eight figures lent */
+/* ---- RULES 3.3 and 5: the doors, with what the library's functions for C return where eight figures are lent */
 
 static uint32_t checks(double t, double x, double low, double high, double box_low, double box_high) {
     if (!finite_(t) || !finite_(x)) return 3;

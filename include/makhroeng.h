@@ -1,8 +1,8 @@
 /* Makhroeng: the state of carbon dioxide by Span and Wagner (1996), and the scorer of cylinder banks.
  *
  * Nothing is kept between calls: there is no global, so any number of threads may call at once, as long as no two lend
- * the same output. No function allocates or prints. No pointer may be null, even where
- * its length is 0. */
+ * the same output. No function allocates or prints. No pointer may be null, even where its length is 0.
+ * RULES 3.1 is section 3.1 of docs/RULES.md. */
 #ifndef MAKHROENG_H
 #define MAKHROENG_H
 
@@ -16,16 +16,16 @@ extern "C" {
 /* What a door returns where it answers. Every refusal number is below these. */
 enum { MAKHROENG_VAPOUR = 256, MAKHROENG_LIQUID = 257, MAKHROENG_SUPERCRITICAL = 258 };
 
-/* What a door returns where it refuses. */
+/* What a door returns where it refuses (RULES 3.1). */
 enum {
-    MAKHROENG_NOT_FINITE = 3,      /* an input is infinite or not a number */
+    MAKHROENG_NOT_FINITE = 3,      /* the temperature, or the pressure or density, is infinite or not a number */
     MAKHROENG_TEMPERATURE_OUT = 4, /* not 216.592 to 523 K */
     MAKHROENG_VALUE_OUT = 5,       /* not 10,000 to 30,000,000 Pa, as asked or as worked, or not 0.1 to 1,300 kg/m3 */
     MAKHROENG_CRITICAL_BOX = 6,    /* 303.1282 to 305.1282 K with 7 to 8 MPa, or with 350.7 to 584.5 kg/m3 */
-    MAKHROENG_FAILED = 7,          /* a number that was worked is not finite */
-    MAKHROENG_SATURATION = 8,      /* on the saturation line, or between the saturated densities */
-    MAKHROENG_NO_CROSSING = 9,     /* no density in the range has this pressure */
-    MAKHROENG_TOO_SHORT = 15       /* fewer than eight figures lent */
+    MAKHROENG_FAILED = 7,          /* a working failed (RULES 4.2), or a saturated density is not above 0 (RULES 5) */
+    MAKHROENG_SATURATION = 8,      /* on the saturation line, or strictly between the saturated densities */
+    MAKHROENG_NO_CROSSING = 9,     /* the search finds no crossing in its range of densities */
+    MAKHROENG_TOO_SHORT = 15       /* fewer than eight figures are lent */
 };
 
 /* The places of the eight numbers in `figures`. */

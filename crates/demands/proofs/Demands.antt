@@ -1,4 +1,4 @@
--- The demands, over any lawful equation and any limits, of 1996, and of the public functions: whatever meets a door's promise has them. Assumes nothing.
+-- RULES 10.1, over any lawful equation and any limits, of 1996, and of the public functions: whatever meets a door's promise has them. Assumes nothing.
 use Prim.Native.Nat.{ℕ, _+_, _≤_}
 use mathlib.Core.Path.{_≡_, refl, sym, ap, subst, _∙_}
 use native.Mathlib.Omega.{arith}

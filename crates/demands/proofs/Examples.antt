@@ -1,4 +1,4 @@
--- Document 01's sheets have the reports that it prints, by computation. Assumes nothing.
+-- Each sheet has its report, by computation. Assumes nothing.
 use mathlib.Core.Path.{_≡_, refl}
 use mathlib.Core.List.{map}
 use lib.Ieee.{ofInt, round, div, lt}

@@ -89,7 +89,7 @@ module _ (L : Limits) where
     unfolding weighed
     comes = of-parts (c .number) refl (c .volume) refl (c .temperature) refl (c .kind) refl (c .value) refl
 
-    -- ---- a blank is refused by 1, whatever the other fields are: "A blank is never read as a number"
+    -- ---- DEMAND 2: a blank is refused by 1, whatever the other fields are, and never read as a number
 
     of-number : (n : Field) (f : ℕ → Weighed) → ((k : ℕ) → f k ≡ Weighed.Refused 1) → ifNumber n f ≡ Weighed.Refused 1
     of-number Field.Blank f h = refl

@@ -1,4 +1,4 @@
--- Every starred reading is what document 01 says. Assumes nothing.
+-- Every reading of the table is what RULES 8.1 says. Assumes nothing.
 use mathlib.Core.Path.{_≡_, refl, ap, _∙_}
 use mathlib.Core.List.{List, _++_, map}
 use lib.Ieee.{ofInt, round, div, lt}

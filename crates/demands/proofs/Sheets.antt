@@ -143,7 +143,7 @@ module _ (L : Limits) (t : List ℕ) where
   only (covered {b} {need} {mgs} n a h) = needing n ∙ rw (weighed-total L a, le-leb need (sum mgs) h)
   only (short {b} {need} {mgs} n a h) = needing n ∙ rw (weighed-total L a, lt-leb need (sum mgs) h)
 
--- THE REPORT of a text is bs exactly where document 01's order says so
+-- THE REPORT of a text is bs exactly where the order of RULES 3.4 says so
 pub reports : (L : Limits) (t bs : List ℕ) → Exactly (report L (inForm t) ≡ bs) (Reported L t bs)
 reports L t bs = (λ e. subst (Reported L t) e (reported L t), only L t)
 

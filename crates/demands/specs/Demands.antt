@@ -1,4 +1,4 @@
--- What is demanded of the doors, over any equation and any limits: when each refusal is given, and what an answer means. Definitions only.
+-- RULES 10.1: what is demanded of the doors, over any equation and any limits: when each refusal is given, and what an answer means. Definitions only.
 use Prim.Native.Nat.{ℕ, _+_, _<_, _≤_}
 use mathlib.Core.Path.{_≡_}
 use mathlib.Core.Bool.{Bool, true, false, _&&_, not}
@@ -23,7 +23,7 @@ use Rattle.door_pressure.specs.Search.{figure}
 use Rattle.door_pressure.specs.PressureDoor.{scaled, pressureDoor}
 use Rattle.door_density.specs.DensityDoor.{densityDoor}
 
--- ---- the checks on the inputs: 3, 4, 5, each only where none before it holds; and the critical box, 6
+-- ---- RULES 3.3, the checks on what is asked: 3, 4, 5, each only where none before it holds; and the critical box, 6
 module _ (ts xs : Range) (t x : Float) where
   pub data OutOfRange : ℕ → Type 0 where
     no-number : finite t && finite x ≡ false → OutOfRange 3
@@ -39,7 +39,7 @@ module _ (ts xs : Range) (t x : Float) where
   inBox = not (outside ts t) && not (outside xs x)
 
 module _ (E : Equation) (L : Limits) where
-  -- ---- the pressure door
+  -- ---- RULES 5.1: the pressure door
   module _ (t p : Float) where
     abbrev pub InRangeP : Type 0
     InRangeP = InRange (L .asked .temperature) (L .asked .pressure) t p
@@ -56,7 +56,7 @@ module _ (E : Equation) (L : Limits) where
       lower : {s : Float} → le (E .critical) t ≡ false → E .vapourPressure t ≡ Number s → eq p s ≡ false → lt p s ≡ true → Beside Vapour
       higher : {s : Float} → le (E .critical) t ≡ false → E .vapourPressure t ≡ Number s → eq p s ≡ false → lt p s ≡ false → Beside Liquid
 
-    -- "the range for its phase"
+    -- the range for the phase
     pub data Ranged : Phase → Float → Float → Type 0 where
       supercritical : le (E .critical) t ≡ true → Ranged Supercritical (searchEnds .from) (searchEnds .to)
       vapour : {to : Float} → Beside Vapour → scaled (searchEnds .vapour) (E .vapourDensity t) ≡ Number to → Ranged Vapour (searchEnds .from) to
@@ -70,15 +70,16 @@ module _ (E : Equation) (L : Limits) where
       on-line : {s : Float} → PastP → le (E .critical) t ≡ false → E .vapourPressure t ≡ Number s → eq p s ≡ true → RefusesP 8
       vapour-fails : PastP → Beside Vapour → scaled (searchEnds .vapour) (E .vapourDensity t) ≡ Failed → RefusesP 7
       liquid-fails : PastP → Beside Liquid → scaled (searchEnds .liquid) (E .liquidDensity t) ≡ Failed → RefusesP 7
-      -- "9 exactly when the range holds fewer than two floats, or both ends' pressures are finite and the lower end's is above the one asked or the upper end's is not"
+      -- demand 3: 9 where the range holds fewer than two floats, or the pressures at both ends are finite and the lower end's is above the one asked or the
+      -- upper end's is not
       no-crossing : {phase : Phase} {from to : Float} → PastP → Ranged phase from to → NoCrossing (figure (E .pressure t)) p (toBits binary64 from) (toBits binary64 to) → RefusesP 9
       probe-fails : {phase : Phase} {from to : Float} → PastP → Ranged phase from to → toBits binary64 from < toBits binary64 to
           → Breaks (figure (E .pressure t)) p (toBits binary64 from) (toBits binary64 to) → RefusesP 7
       state-fails : {phase : Phase} {from to : Float} {r : ℕ} → PastP → Ranged phase from to → halve (figure (E .pressure t)) p (toBits binary64 from) (toBits binary64 to) ≡ At r
           → E .state t phase (ofBits binary64 r) ≡ Unknown → RefusesP 7
 
-    -- what an answer means: "that density and the next float above lie in the range for its phase; the pressure worked at the first is finite and not above the one
-    -- asked, at the second finite and above it" (Found)
+    -- what an answer means; Found is demand 3: the density and the next float above it lie in the range for the phase, and the pressure worked at the first is
+    -- finite and not above the one asked, at the second finite and above it
     pub record Answered (x : State) : Type 0 where
       pub from : Float
       pub to : Float
@@ -90,7 +91,7 @@ module _ (E : Equation) (L : Limits) where
       pub temperature : x .t ≡ t
       pub pressure : E .pressure t (ofBits binary64 bits) ≡ Number (x .p)
 
-  -- ---- the density door
+  -- ---- RULES 5.2: the density door
   module _ (t rho : Float) where
     abbrev pub InRangeD : Type 0
     InRangeD = InRange (L .asked .temperature) (L .asked .density) t rho
@@ -132,7 +133,7 @@ module _ (E : Equation) (L : Limits) where
 abbrev pub Exactly : Type 0 → Type 0 → Type 0
 Exactly A B = (A → B) × (B → A)
 
--- "Any .. numbers, blanks, infinities and non-numbers get an answer or one of document 01's refusals, by its order. A refused state carries no figures."
+-- demand 1: whatever numbers come in, there is an answer or one of a door's refusals, 3 to 9, and a refused state carries no figures
 pub data Settled (a : Answer) : Type 0 where
   given : (x : State) → a ≡ answer.State x → Settled a
   not-given : (n : ℕ) → a ≡ answer.Refused n → 3 ≤ n → n ≤ 9 → Settled a
@@ -149,7 +150,7 @@ module _ (E : Equation) (L : Limits) where
   abbrev pub PressureAnswers : Type 0
   PressureAnswers = (t p : Float) (x : State) → pressureDoor E L t p ≡ answer.State x → Answered E L t p x
 
-  -- "that density and the next float above lie in the range for its phase", as floats
+  -- that density and the next float above it lie in the range for the phase, as floats
   abbrev pub LiesInRange : Type 0
   LiesInRange = (t p : Float) (x : State) (a : Answered E L t p x) → (x .rho ≡ ofBits binary64 (a .bits)) × T (le (a .from) (x .rho)) × T (le (ofBits binary64 (a .bits + 1)) (a .to))
 
@@ -160,7 +161,7 @@ module _ (E : Equation) (L : Limits) where
   abbrev pub DensityAnswers : Type 0
   DensityAnswers = (t rho : Float) (x : State) → densityDoor E L t rho ≡ answer.State x → AnsweredD E L t rho x
 
-  -- "Whenever this door answers for a temperature and density the other door gave, the eight numbers are the same bits"
+  -- RULES 5.3: where the density door answers for a temperature and a density that the pressure door gave, the eight numbers are the same bits
   abbrev pub SameEight : Type 0
   SameEight = (t p : Float) (x y : State) → pressureDoor E L t p ≡ answer.State x → densityDoor E L t (x .rho) ≡ answer.State y → eight y ≡ eight x
 

@@ -1,4 +1,4 @@
--- Document 01's sheets and their reports, byte for byte: "The sheet", and the readings "an empty file gives 14; `N -` alone gives 10; 33 good lines with `N -` give 11". Definitions only.
+-- Sheets and their reports, byte for byte: the example of RULES 7.4, the sheets of RULES 8.2, and two more, of 12 and of blanks. Definitions only.
 use Prim.Native.Nat.{ℕ, zero, suc}
 use Prim.Native.String.{String}
 use mathlib.Core.List.{List, [], _∷_, _++_}

@@ -1,4 +1,5 @@
--- What is demanded of a cylinder's line as it is written: when each refusal is given, and what its milligrams are. "Order in a line: 1, 2, then the door". Definitions only.
+-- RULES 10.1: what is demanded of a cylinder's line as it is written: when each refusal is given, in the order of RULES 3.2, and what its milligrams are.
+-- Definitions only.
 use Prim.Native.Nat.{ℕ, _≤_, _<_}
 use mathlib.Core.Path.{_≡_}
 use lib.Ieee.{Float, binary64, div, mul}
@@ -15,14 +16,14 @@ use Rattle.door_density.specs.DensityDoor.{densityDoor}
 use Rattle.num_whole.specs.Whole.{wholeBelow}
 use Rattle.num_whole.specs.declared.Below.{Below}
 
--- "a field of the line is blank (cylinder number, temperature, value, volume)": `-` in the place of one of them
+-- one of the four fields is blank: `-` in its place
 pub data Dashed (c : Cylinder) : Type 0 where
   in-number : c .number ≡ Field.Blank → Dashed c
   in-temperature : c .temperature ≡ Field.Blank → Dashed c
   in-value : c .value ≡ Field.Blank → Dashed c
   in-volume : c .volume ≡ Field.Blank → Dashed c
 
--- "volume 1 to 1,000,000 mL"
+-- RULES 2.4, in mL
 pub record Volume (v : ℕ) : Type 0 where
   pub at-least : 1 ≤ v
   pub at-most : v ≤ 1_000_000
@@ -31,17 +32,17 @@ pub data NoVolume (v : ℕ) : Type 0 where
   none : v ≡ 0 → NoVolume v
   too-large : 1_000_000 < v → NoVolume v
 
--- ρ times volume
+-- ρ times the volume
 abbrev pub product : State → ℕ → Float
 product s v = mul binary64 (s .rho) (whole v)
 
 module _ (L : Limits) where
-  -- the door that a kind and its value ask: "density the number over 1000", a pressure the number itself
+  -- RULES 6.4: the door that a kind and its value ask, a pressure being the number itself and a density the number over 1000
   pub data Asked (t : Float) : Kind → Field → Answer → Type 0 where
     by-pressure : (n : ℕ) → Asked t Kind.Pressure (Field.Number n) (pressureDoor of1996 L t (whole n))
     by-density : (n : ℕ) → Asked t Kind.Density (Field.Number n) (densityDoor of1996 L t (div binary64 (whole n) (whole 1000)))
 
-  -- none is blank: the line's figures, and what its door answers. "Temperature is the number over 10000"
+  -- none is blank: the line's figures, the temperature being the number over 10000, and what its door answers
   pub record Figures (c : Cylinder) (v : ℕ) (a : Answer) : Type 0 where
     pub cylinder : ℕ
     pub degrees : ℕ
@@ -57,7 +58,7 @@ module _ (L : Limits) where
     by-door : {v n : ℕ} → Figures c v (Answer.Refused n) → Volume v → RefusesLine c n
     no-product : {v : ℕ} {s : State} → Figures c v (Answer.State s) → Volume v → wholeBelow (product s v) ≡ Below.Out → RefusesLine c 7
 
-  -- what an answered line's milligrams are: "ρ times volume, one product, the whole number at or below it"
+  -- RULES 6.5: what an answered line's milligrams are, the whole number at or below the one product
   pub record Weighs (c : Cylinder) (mg : ℕ) : Type 0 where
     pub v : ℕ
     pub s : State

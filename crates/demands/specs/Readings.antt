@@ -1,4 +1,4 @@
--- Document 01, "Readings on each side of a boundary": the starred ones, those of the numerics, of the doors' checks on their inputs and of a sheet's line, as one table. Definitions only.
+-- RULES 8.1: the readings that are proved, of the numerics, of the checks on what a door is asked and of a sheet's line, as one table. Definitions only.
 use Prim.Native.Nat.{ℕ}
 use mathlib.Core.List.{List, [], _∷_, _++_, map}
 use lib.Ieee.{binary64, div}
@@ -17,7 +17,7 @@ use Rattle.sheet_weigh.specs.Weighing.{weighed}
 use Rattle.sheet_outcome.specs.declared.Weighed.{Weighed}
 use Rattle.sheet_outcome.specs.declared.Weighed.the-variants.{Refused}
 
--- what a reading is of: a number that is worked, the checks on the inputs, or a line
+-- what a reading is of: a number that is worked, the checks on what is asked, or a line
 pub data Read : Type 0 where
   number : Worked → Read
   check : Check → Read
@@ -27,7 +27,7 @@ pub record Starred : Type 0 where
   pub worked : Read
   pub reads : Read
 
--- "does not" speaks of the checks on the inputs: both pieces are passed. "Temperature is the number over 10000", a pressure is in Pa
+-- a reading that passes: both pieces of the checks are passed. RULES 6.4: a temperature is the number over 10000, a pressure is in Pa
 unfoldable pub passes : ℕ → ℕ → List Starred
 passes t p =
     let k = div binary64 (whole t) (whole 10000) in
@@ -38,7 +38,7 @@ passes t p =
 unfoldable pub of-checks : List Starred
 of-checks = passes 2165920 5000000 ++ (passes 5230000 5000000 ++ (passes 3000000 10000 ++ passes 3031281 7000000))
 
--- "gives": a cylinder's line with a pressure, as it is written, is refused by this number
+-- a reading that is refused: a cylinder's line with a pressure, as it is written, is refused by this number
 abbrev pub written : ℕ → ℕ → ℕ → Cylinder
 written t p v = record { number = Number 1; temperature = Number t; kind = Pressure; value = Number p; volume = Number v }
 

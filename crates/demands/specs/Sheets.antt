@@ -1,4 +1,4 @@
--- What is demanded of a sheet: its report, for every byte string. "Order for a sheet: 14, 10, 11, 12, 13, and 15 last". Definitions only.
+-- RULES 10.1: what is demanded of a sheet: its report, for every byte string, in the order of RULES 3.4. Definitions only.
 use Prim.Native.Nat.{ℕ, _+_, _≤_, _<_}
 use mathlib.Core.Path.{_≡_}
 use mathlib.Core.List.{List, [], _∷_, _++_, map}
@@ -21,12 +21,12 @@ use Rattle.sheet_score.specs.Score.{sentBack}
 abbrev pub lines : Bank → List Line
 lines b = map lineOf (b .cylinders)
 
--- "the exact sum of the lines"
+-- the exact sum of the lines' milligrams
 abbrev pub sum : List ℕ → ℕ
 sum [] = 0
 sum (mg ∷ mgs) = mg + sum mgs
 
--- "needed agent blank or out of range": not "1 to 9,999,999,999 mg"
+-- the agent needed is blank or out of its range (RULES 2.4)
 pub data NoNeed : Field → Type 0 where
   blank : NoNeed Field.Blank
   no-agent : NoNeed (Field.Number 0)
@@ -56,7 +56,7 @@ module _ (L : Limits) where
     none-left : AllWeighed [] []
     one-more : {l : Line} {ls : List Line} {mg : ℕ} {mgs : List ℕ} → weighed L l ≡ Weighed.Mass mg → AllWeighed ls mgs → AllWeighed (l ∷ ls) (mg ∷ mgs)
 
-  -- the report of a text
+  -- RULES 7.1 and 7.2: the report of a text
   pub data Reported (t : List ℕ) : List ℕ → Type 0 where
     not-in-form : inForm t ≡ none → Reported t (sentBack 14)
     no-lines : {b : Bank} → inForm t ≡ some b → length (b .cylinders) ≡ 0 → Reported t (sentBack 10)
@@ -68,7 +68,7 @@ module _ (L : Limits) where
     short : {b : Bank} {need : ℕ} {mgs : List ℕ} → Needs t b need → AllWeighed (lines b) mgs → sum mgs < need
         → Reported t (linesBytes 1 (marked L (lines b)) ++ endingBytes (Ending.Short (sum mgs)))
 
-  -- and what the lent output holds then: byte by byte, the report and after it what was there; or, where it doesn't fit, what was there
+  -- RULES 7.3: and what the lent output holds then, byte by byte: the report and after it what was there; or, where it doesn't fit, what was there
   pub data Delivered (t old new : List ℕ) : Written → Type 0 where
     fits : {bs : List ℕ} → Reported t bs → length bs ≤ length old → length new ≡ length old
         → ((i : ℕ) → i < length bs → getD new i 0 ≡ getD bs i 0) → ((i : ℕ) → length bs ≤ i → getD new i 0 ≡ getD old i 0)

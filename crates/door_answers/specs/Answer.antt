@@ -1,4 +1,4 @@
--- What a door answers. Definitions only.
+-- RULES 3.5: what a door answers, a state or a refusal's number and nothing else. Definitions only.
 use Prim.Native.Nat.{ℕ}
 use Rattle.eos_state.specs.declared.Stated.{Stated}
 use Rattle.eos_state.specs.declared.Stated.the-variants.{Known, Unknown}
@@ -12,7 +12,7 @@ abbrev pub passed : Check → Answer → Answer
 passed (No n) a = answer.Refused n
 passed Passed a = a
 
--- "7: working failed"
+-- RULES 4.2: a working that fails is 7
 abbrev pub answerWith : Stated → Answer
 answerWith Unknown = answer.Refused 7
 answerWith (Known x) = answer.State x

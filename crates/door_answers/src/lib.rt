@@ -1,4 +1,4 @@
-// What a door answers: a state, or the number of its refusal and nothing else.
+// RULES 3.5: what a door answers, a state or the number of its refusal and nothing else.
 ghost use mathlib.Core.Path.{_≡_};
 ghost use Rattle.door_answers.specs.Answer.{answerWith, refusalNumber};
 use eos_state::State;

@@ -1,4 +1,4 @@
--- The checks on a door's inputs (document 01, "The doors, step by step"), x being the pressure or the density. Definitions only.
+-- RULES 3.1 and 3.3: the checks on what is asked of a door, x being the pressure or the density. Definitions only.
 use mathlib.Core.Bool.{cond, _&&_, not}
 use Prim.Native.Nat.{ℕ}
 use lib.Ieee.{Float}
@@ -8,7 +8,7 @@ use Rattle.door_limits.specs.declared.Range.{Range}
 use Rattle.door_checks.specs.declared.Check.{Check}
 use Rattle.door_checks.specs.declared.Check.the-variants.{Passed, No}
 
--- "3 an input is infinite or not a number; 4 temperature out of range; 5 pressure or density out of range", in this order
+-- the first that holds: 3 where one of the two is infinite or not a number, 4 where the temperature is out of its range, 5 where x is
 unfoldable pub ranged : Range → Range → Float → Float → Check
 ranged temperature value t x =
     cond (not (finite t && finite x)) (No 3)
@@ -16,7 +16,7 @@ ranged temperature value t x =
     (cond (outside value x) (No 5)
     Passed))
 
--- "6 inside the critical box"
+-- 6 where both lie in the ranges of the critical box
 unfoldable pub boxed : Range → Range → Float → Float → Check
 boxed temperature value t x = cond (not (outside temperature t) && not (outside value x)) (No 6) Passed
 

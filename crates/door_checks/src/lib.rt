@@ -1,4 +1,4 @@
-// The checks on a door's inputs (document 01, "The doors, step by step"), in two pieces: 3, 4 and 5, and 6.
+// RULES 3.1 and 3.3: the checks on what is asked of a door, in two pieces: 3, 4 and 5, and 6.
 ghost use mathlib.Core.Path.{_≡_};
 ghost use mathlib.Core.Bool.{_&&_};
 ghost use lib.Ieee.Scale.{finite};

@@ -1,4 +1,4 @@
--- The density door, from a temperature and a density, step by step (document 01), over any equation and any limits. Definitions only.
+-- RULES 5.2: the density door, from a temperature and a density, step by step, over any equation and any limits. Definitions only.
 use mathlib.Core.Bool.{cond, _&&_, not}
 use lib.Ieee.{Float, lt, le}
 use Rattle.num_working.specs.Working.{orElse}
@@ -13,13 +13,13 @@ use Rattle.door_answers.specs.declared.Answer.{Answer}
 use Rattle.door_answers.specs.declared.Answer.the-variants as answer
 
 module _ (E : Equation) (L : Limits) where
-  -- "Work the pressure; not finite: 7; out of range: 5. Then the rest of the state."
+  -- the pressure is worked: 7 where that fails, 5 where it is out of its range; then the rest of the state
   unfoldable pub inPhase : Phase → Float → Float → Answer
   inPhase phase t rho =
       orElse (E .pressure t rho) (answer.Refused 7) (λ p.
       cond (outside (L .asked .pressure) p) (answer.Refused 5) (answerWith (E .state t phase rho)))
 
-  -- "Below 304.1282 K work both saturated densities, vapour first; strictly between: 8; not above the vapour one: vapour; else liquid."
+  -- below the critical temperature, with the saturated densities, the vapour's first: 8 strictly between them, vapour up to the vapour's, else liquid
   unfoldable pub beneath : Float → Float → Answer
   beneath t rho =
       orElse (E .vapourDensity t) (answer.Refused 7) (λ v.
@@ -27,11 +27,11 @@ module _ (E : Equation) (L : Limits) where
       cond (lt v rho && lt rho l) (answer.Refused 8)
       (cond (not (lt v rho)) (inPhase Vapour t rho) (inPhase Liquid t rho))))
 
-  -- "At or above: supercritical."
+  -- at the critical temperature or above it: supercritical
   unfoldable pub entered : Float → Float → Answer
   entered t rho = cond (le (E .critical) t) (inPhase Supercritical t rho) (beneath t rho)
 
-  -- "3, 4, 5, 6 on its inputs", and then the steps
+  -- RULES 3.3: 3, 4, 5 and 6 on what is asked, and then the steps
   unfoldable pub unboxed : Float → Float → Answer
   unboxed t rho = passed (boxed (L .critical .temperature) (L .critical .density) t rho) (entered t rho)
 

@@ -1,5 +1,5 @@
-// The density door: the state at a temperature and a density (document 01, "The doors, step by step"). A step of the
-// definition and a function of the same shape.
+// RULES 5.2: the density door, the state at a temperature and a density. Each step of the definition has a function of
+// the same shape.
 ghost use mathlib.Core.Path.{_≡_};
 ghost use Rattle.equation.specs.Equation.{of1996};
 ghost use Rattle.door_density.specs.DensityDoor.{inPhase, beneath, entered, unboxed, densityDoor};

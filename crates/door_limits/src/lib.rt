@@ -1,4 +1,4 @@
-// What may be asked of a door, and the ends of a search (document 01, "Constants and ranges"). Ends are inside.
+// RULES 2.2, 2.3 and 5.1: what may be asked of a door, the critical box, and the ends of a search. Ends are inside.
 ghost use mathlib.Core.Path.{_≡_};
 ghost use Rattle.door_limits.specs.Limits.{outside, document01, searchEnds};
 
@@ -13,15 +13,15 @@ pub struct Region {
     pub density: Range,
 }
 
-// A client's: what may be asked, and the critical box, its temperatures with its pressures for the pressure door and with its
-// densities for the density door.
+// A client's: what may be asked, and the critical box, its temperatures with its pressures for the pressure door and
+// with its densities for the density door.
 pub struct Limits {
     pub asked: Region,
     pub critical: Region,
 }
 
-// Those of every search: its densities, of vapour up to so many times the saturated vapour's, of liquid from so many times
-// the saturated liquid's.
+// Those of every search: its densities, of vapour up to so many times the saturated vapour's, of liquid from so many
+// times the saturated liquid's.
 pub struct Ends {
     pub from: f64,
     pub to: f64,

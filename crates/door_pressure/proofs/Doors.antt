@@ -32,7 +32,7 @@ scaled-reached a (Number d) x p q e =
       fits = subst (λ (y : Float). T (fits binary64 y)) (n .0) (mul-fits binary64 a d);
     }
 
--- document 01's ends
+-- ends that can be searched between, as those of RULES 5.1 can
 pub record Searchable (ends : Ends) : Type 0 where
   pub from : Reached (ends .from)
   pub to : Reached (ends .to)

@@ -1,4 +1,4 @@
--- The search for a density: "Halve with the worked pressure as the figure and the asked one as the target. Then work the state at the found density". Definitions only.
+-- RULES 4.5 and 5.1: the search for a density, with the pressure worked as the figure and the one asked as the target. Definitions only.
 use lib.Ieee.{Float, binary64, ofBits, toBits}
 use Rattle.num_working.specs.declared.Worked.{Worked}
 use Rattle.num_halving.specs.Halving.{Figure, halve}
@@ -13,7 +13,7 @@ use Rattle.door_answers.specs.declared.Answer.the-variants as answer
 abbrev pub figure : (Float → Worked) → Figure
 figure pressure b = pressure (ofBits binary64 b)
 
--- "9: no crossing", "not finite: 7"
+-- the state at the density found; no crossing is 9, and a figure that is not finite is 7
 abbrev pub found : (Float → Stated) → Crossing → Answer
 found state (At b) = answerWith (state (ofBits binary64 b))
 found state Nowhere = answer.Refused 9

@@ -1,5 +1,5 @@
-// The pressure door: the state at a temperature and a pressure (document 01, "The doors, step by step"). A step of the
-// definition and a function of the same shape.
+// RULES 5.1: the pressure door, the state at a temperature and a pressure. Each step of the definition has a function
+// of the same shape.
 mod search;
 
 ghost use mathlib.Core.Path.{_≡_};

@@ -1,5 +1,5 @@
-// The search for the density at which the pressure worked on a curve passes the one asked for. Nothing is taken of the
-// curve's shape, so each probe is where the definition's is (num_halving, specs/Halving.antt).
+// RULES 4.5 and 5.1: the search for the density at which the pressure worked on a curve passes the one asked for.
+// Nothing is taken of the curve's shape, so each probe is where the definition's is (num_halving, specs/Halving.antt).
 ghost use mathlib.Core.Path.{_≡_};
 ghost use Prim.Native.Nat.{_<_};
 ghost use lib.Dec.{T};
@@ -19,7 +19,7 @@ use equation::state_on;
 use num_halving::Crossing;
 use num_working::Worked;
 
-// From lo, where the pressure is not above p, to hi, where it is above.
+// From where the pressure is not above p to where it is above.
 fn narrow(curve: Curve, p: f64, from: u64, to: u64) -> Crossing
     requires { ⌜ from < to ⌝ }
     requires { ⌜ to < 0x7ff0_0000_0000_0000 ⌝ }

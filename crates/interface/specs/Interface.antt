@@ -32,7 +32,8 @@ abbrev pub figuresOf : Answer → List Float → List Float
 figuresOf (Answer.State s) figures = withEight s figures
 figuresOf (Answer.Refused n) figures = figures
 
--- fewer than eight lent: 15, whatever the door says, and the figures stay. Else the phase's number and the eight numbers, or the refusal's number and the figures stay
+-- fewer than eight lent: 15, whatever the door says, and the figures stay
+-- else the phase's number and the eight numbers, or the refusal's number and the figures stay
 pub record AnsweredIn (old new : List Float) (a : Answer) (r : ℕ) : Type 0 where
   pub number : r ≡ cond (ltb (length old) 8) 15 (numberOf a)
   pub figures : new ≡ cond (ltb (length old) 8) old (figuresOf a old)

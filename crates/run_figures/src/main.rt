@@ -132,8 +132,8 @@ fn saturations() {
     );
 }
 
-// From 524 K down to the triple point, and where an exponential is 0 or refused, a divisor is 0 or not finite, or one of
-// the two fails alone.
+// From 524 K down to the triple point, and where an exponential is 0 or refused, a divisor is 0 or not finite, or one
+// of the two fails alone.
 fn ideal_gases() {
     each(
         true,
@@ -256,8 +256,8 @@ fn states() {
     state(311.1, 522.1);
 }
 
-// δ = τ = 1, where the working fails, and densities and temperatures that are no state's: some are answered all the same,
-// since what is a state is not for the equation to say.
+// δ = τ = 1, where the working fails, and densities and temperatures that are no state's: some are answered all the
+// same, since what is a state is not for the equation to say.
 fn no_states() {
     state(304.1282, 467.6);
     state(300.0, 0.0);

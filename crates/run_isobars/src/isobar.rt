@@ -1,5 +1,5 @@
-// 004's Table 35, its isobars, against the pressure door at the printed temperature and pressure (document 01, end of
-// "Readings on each side of a boundary"; docs/READING.md, D).
+// RULES 8.3: 004's Table 35, its isobars, against the pressure door at the printed temperature and pressure
+// (docs/READING.md, D).
 use door_answers::Answer;
 use door_limits::document_01;
 use door_limits::is_outside;

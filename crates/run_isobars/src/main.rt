@@ -1,6 +1,6 @@
-// 004's tables of states against the library: the isobars that document 01 asks for, and saturation. The tables,
-// data/isobars.csv and data/saturation.csv, are as read from the scan (docs/READING.md). A line for each failure, the
-// counts, and last how many failures there are.
+// 004's tables of states against the library: the isobars (RULES 8.3), and saturation. The tables, data/isobars.csv and
+// data/saturation.csv, are as read from the scan (docs/READING.md). A line for each failure, the counts, and last how
+// many failures there are.
 mod isobar;
 mod saturated;
 

@@ -1,6 +1,6 @@
 // 004's Table 34, saturation, up to the critical point, against the auxiliary equations (3.13) to (3.15). The table is
 // the equal-area solution and they are not, so they are compared at the uncertainties that 004 gives them
-// (docs/READING.md, "Saturation").
+// (docs/READING.md, Saturation).
 use eos_densities::liquid_density;
 use eos_densities::vapour_density;
 use eos_saturation::vapour_pressure;

@@ -6,8 +6,8 @@ use crate::bits::say;
 use crate::tally::Tally;
 use libc::STDOUT_FILENO;
 
-// The table, the number, and what it counts, the line of `words` at `at`; answers where the next line starts. A count with
-// an empty line is not told.
+// The table, the number, and what it counts, the line of `words` at `at`; answers where the next line starts. A count
+// with an empty line is not told.
 fn count(table: &[u8], n: u64, words: &[u8], at: usize) -> usize
     ensures { λ r. ⌜ r ≤ length (now (words .entry)) ⌝ }
 {

@@ -1,5 +1,6 @@
-// The doors: document 01's readings that are run, the ends of each range and the floats beside them, both sides of the
-// saturation line, the edges of the critical box, and what is no number. Bits worked elsewhere (crosscheck/doors.py).
+// The doors: the three rows of RULES 8.3, the temperatures and pressures of RULES 8.1, the ends of each range and the
+// floats beside them, both sides of the saturation line, the edges of the critical box, and what is no number. Bits
+// worked elsewhere (crosscheck/doors.py).
 use door_answers::Answer;
 use door_density::from_density;
 use door_limits::document_01;

@@ -1,5 +1,6 @@
-// The readings of document 01 that are run, exponentials and roots, and states by the two doors, whose bits were worked
-// elsewhere (crosscheck/numerics.py and doors.py): one a line, numbers as the sixteen hexadecimal digits of their bits.
+// The readings of RULES 8.1 and 8.2 but those of a sheet, and more: powers, exponentials and roots, and states by the
+// two doors, whose bits were worked elsewhere (crosscheck/numerics.py and doors.py). One a line, numbers as the sixteen
+// hexadecimal digits of their bits.
 mod doors;
 
 use eos_constants::Printed;

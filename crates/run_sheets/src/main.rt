@@ -1,4 +1,4 @@
-// Sheets, each by a title and its report: document 01's example and the readings that are run, the refusals that a sheet
+// Sheets, each by a title and its report: the example of RULES 7.4, the sheets of RULES 8.2, the refusals that a sheet
 // or a line of one can give, and their order; damaged texts; outputs of several lengths. What it prints is worked
 // elsewhere too (crosscheck/sheets.py).
 ghost use Prim.Native.Nat.{_≤_};
@@ -118,8 +118,8 @@ fn lent(out: &mut [u8]) {
     say(b"\n");
 }
 
-// The bank's 32 lines are good: both kinds of reading, the three phases, the ends of the ranges, and beside the critical
-// box.
+// The bank's 32 lines are good: both kinds of reading, the three phases, the ends of the ranges, and beside the
+// critical box.
 fn banks() {
     let mut space = io::buffer();
     let n = load(b"bank.txt", &mut space);
@@ -154,7 +154,7 @@ fn banks() {
     );
 }
 
-// "A text over 65,536 bytes is not in the form."
+// RULES 6.1: a sheet has 65,536 bytes at most.
 fn long() {
     built(b"= 65,536 bytes", b"N 1\n", b"C 1 1 P 1 1\n", 5461, b"");
     built(b"= 65,537 bytes", b"N 10\n", b"C 1 1 P 1 1\n", 5461, b"");

@@ -1,4 +1,5 @@
--- What the program's functions promise. No contract can say which bytes are read from a file or written to one; these say that what lies between is the report. Definitions only.
+-- What the program's functions promise. No contract can say which bytes are read from a file or written to one; these say that what lies between is the
+-- report. Definitions only.
 use Prim.Native.Nat.{ℕ, _≤_, _<_}
 use mathlib.Core.Path.{_≡_}
 use mathlib.Core.List.{List}
@@ -11,7 +12,8 @@ use Rattle.scorer.specs.declared.arguments.Asked.{Asked}
 use Rattle.scorer.specs.declared.Read.{Read}
 use Rattle.scorer.specs.declared.Scored.{Scored}
 
--- by the number of words, the program's own name counted, and the first after it: `scorer`, `scorer FILE`, `scorer --help`, `scorer --explain FILE`, and whatever else
+-- by the number of words, the program's own name counted, and the first after it: `scorer`, `scorer FILE`, `scorer --help`, `scorer --explain FILE`, and
+-- whatever else
 abbrev pub AskedIs : ℕ → List ℕ → Asked → Type 0
 AskedIs words first Asked.StandardInput = words < 2
 AskedIs words first Asked.File = (words ≡ 2) × (first ≡ ascii "--help" → ⊥) × (first ≡ ascii "--explain" → ⊥)

@@ -1,6 +1,6 @@
 // `scorer FILE`, or `scorer` alone on standard input: a sheet's report on standard output, exactly its bytes. With
-// `--explain FILE` what its refusals mean stands under it. What goes wrong is said on standard error; a program has no exit
-// status to choose.
+// `--explain FILE` what its refusals mean stands under it. What goes wrong is said on standard error; a program has no
+// exit status to choose.
 mod arguments;
 mod words;
 
@@ -71,7 +71,7 @@ fn complain(text: &[u8]) {
     io::write_all(STDERR_FILENO, text);
 }
 
-// "A text over 65,536 bytes is not in the form": one byte more is enough to know.
+// RULES 6.1: a sheet has 65,536 bytes at most, so that one byte more is enough to know.
 fn answer(fd: i32, name: &[u8], explained: bool) {
     let mut space = [0; 65537];
     let mut out = [0; 1512];

@@ -1,4 +1,4 @@
--- Document 01, "The sheet": "Then `C`, cylinder number, temperature in 0.1 mK, `P` or `D`, value (Pa, or g/m³), volume in mL"; "Lines end in LF, one space between parts". Definitions only.
+-- RULES 6.1 and 6.3: a cylinder's line as it is written. Definitions only.
 use Prim.Native.Nat.{ℕ}
 use mathlib.Core.Path.{_≡_}
 use mathlib.Core.Bool.{cond}
@@ -40,7 +40,7 @@ unfoldable pub kind : Parser Kind
 kind [] = none
 kind (b ∷ rest) = cond (eqb b 80) (some (Pressure, rest)) (cond (eqb b 68) (some (Density, rest)) none)
 
--- "`P` or `D`, value .., volume", after a number and a temperature
+-- `P` or `D`, the value and the volume, after a number and a temperature
 unfoldable pub reading : Field → Field → Parser Cylinder
 reading number temperature = do
   k ← kind
@@ -49,7 +49,7 @@ reading number temperature = do
   volume ← fieldTo 10
   give (record { number = number; temperature = temperature; kind = k; value = value; volume = volume })
 
--- "`C`, cylinder number, temperature .."
+-- `C`, the cylinder number and the temperature, and then the rest
 unfoldable pub cylinder : Parser Cylinder
 cylinder = do
   number ← fieldAfter 67 32

@@ -1,4 +1,4 @@
--- What a cylinder's line says (document 01, "The sheet"). Definitions only.
+-- RULES 6.4: what a cylinder's line says. Definitions only.
 use Prim.Native.Nat.{ℕ}
 use mathlib.Core.Path.{_≡_}
 use mathlib.Core.List.{List}
@@ -16,12 +16,12 @@ use Rattle.sheet_line.specs.declared.line.Reading.{Reading}
 use Rattle.sheet_line.specs.declared.line.Line.{Line}
 use Rattle.sheet_line.specs.declared.line.LineAt.{LineAt}
 
--- "Temperature is the number over 10000", "one division each"
+-- the number over 10000, in K, one division
 abbrev pub temperatureOf : Field → Temperature
 temperatureOf Field.Blank = Temperature.Blank
 temperatureOf (Field.Number n) = Temperature.Kelvin (div binary64 (whole n) (whole 10000))
 
--- "A reading is blank, a pressure, or a density, and keeps its figure with its kind"; "density the number over 1000"
+-- a figure stays with its kind, and a blank has none: a pressure is the number, in Pa, a density the number over 1000, in kg/m³, one division
 abbrev pub readingOf : Kind → Field → Reading
 readingOf k Field.Blank = Reading.Blank
 readingOf Kind.Pressure (Field.Number n) = Reading.Pressure (whole n)

@@ -1,5 +1,5 @@
-// A cylinder's line as it is written: `C`, cylinder number, temperature, `P` or `D`, value, volume (document 01, "The
-// sheet").
+// RULES 6.1 and 6.3: a cylinder's line as it is written: `C`, the cylinder number, the temperature, `P` or `D`, the
+// value, and the volume.
 ghost use lib.ListN.{drop};
 ghost use Rattle.sheet_line.specs.Cylinder.{kind, reading, cylinder, KindIs, CylinderIs};
 use sheet_text::Field;

@@ -1,3 +1,3 @@
-// A cylinder's line of the sheet: as it is written, and what it says (document 01, "The sheet").
+// A cylinder's line of the sheet: as it is written (RULES 6.3), and what it says (RULES 6.4).
 pub mod cylinder;
 pub mod line;

@@ -1,4 +1,4 @@
--- What a sheet comes to (document 01, "Refusal numbers", "The sheet"). Definitions only.
+-- RULES 3.4 and 7.2: what a sheet comes to. Definitions only.
 use Prim.Native.Nat.{ℕ, _+_}
 use mathlib.Core.Bool.{Bool, not, cond, _&&_}
 use mathlib.Core.List.{List, [], _∷_}
@@ -12,18 +12,18 @@ use Rattle.sheet_outcome.specs.declared.Admitted.{Admitted}
 use Rattle.sheet_outcome.specs.declared.Summed.{Summed}
 use Rattle.sheet_outcome.specs.declared.Ending.{Ending}
 
--- ---- before the lines are worked: "Order for a sheet: 14, 10, 11, 12"
+-- ---- before the lines are worked: 14, 10, 11, 12, in this order
 
--- "needed agent 1 to 9,999,999,999 mg"
+-- RULES 2.4, in mg
 abbrev pub isNeed : ℕ → Bool
 isNeed mg = leb 1 mg && leb mg 9_999_999_999
 
--- "12: needed agent blank or out of range"
+-- 12 where the agent needed is blank or out of its range
 abbrev pub needed : Field → Admitted
 needed Field.Blank = Admitted.SentBack 12
 needed (Field.Number mg) = cond (isNeed mg) (Admitted.Need mg) (Admitted.SentBack 12)
 
--- "14: text not in the form", "10: sheet has no cylinder lines", "11: more than 32"
+-- 14 where the text is not in the form, 10 where there is no cylinder line, 11 where there are more than 32
 unfoldable pub admitted : Bool → ℕ → Field → Admitted
 admitted ok count need =
     cond (not ok) (Admitted.SentBack 14)
@@ -33,7 +33,7 @@ admitted ok count need =
 
 -- ---- the lines
 
--- "Lines on a sheet 1 to 32": of the 32 marks the first `count` are the sheet's lines
+-- of the 32 marks the first `count` are the sheet's lines
 abbrev pub marksOf : Marks → List Mark
 marksOf m = take (m .count) (m .marks)
 
@@ -42,14 +42,14 @@ plus (Weighed.Mass mg) (Summed.Sum rest) = Summed.Sum (mg + rest)
 plus (Weighed.Mass mg) Summed.Refused = Summed.Refused
 plus (Weighed.Refused n) t = Summed.Refused
 
--- "the exact sum of the lines"; "13: some line was refused"
+-- the exact sum of the lines' milligrams, or that some line was refused
 unfoldable pub total : List Mark → Summed
 total [] = Summed.Sum 0
 total (m ∷ ms) = plus (m .weighed) (total ms)
 
 -- ---- after them
 
--- "`TOTAL mg COVERED` if the exact sum of the lines reaches the need, else `TOTAL mg SHORT`; with refusal 13 `SENT BACK 13` instead"
+-- 13 where some line was refused; else covered where the sum is the need or more, and short where it is less
 unfoldable pub ending : ℕ → Summed → Ending
 ending need Summed.Refused = Ending.SentBack 13
 ending need (Summed.Sum mg) = cond (leb need mg) (Ending.Covered mg) (Ending.Short mg)

@@ -1,5 +1,5 @@
-// What came of a line and of a sheet: whether the sheet is sent back before its lines are worked, and its ending after
-// (document 01, "Refusal numbers", "The sheet").
+// RULES 3.4 and 7.2: what came of a line and of a sheet, whether the sheet is sent back before its lines are worked,
+// and its ending after.
 ghost use mathlib.Core.Path.{_≡_};
 ghost use Rattle.sheet_outcome.specs.Outcome.{isNeed, needed, admitted, ending};
 use sheet_text::Field;

@@ -1,4 +1,4 @@
--- The form of a text (document 01, "The sheet"): how a sheet is printed, and how it is read. Definitions only.
+-- RULES 6.1, 6.2 and 6.3: the form of a text, how a sheet is printed and how it is read. Definitions only.
 use Prim.Native.Nat.{ℕ, zero, suc}
 use mathlib.Core.Bool.{cond}
 use mathlib.Core.List.{List, [], _∷_, _++_}
@@ -22,7 +22,7 @@ unfoldable pub cylindersText : List Cylinder → List ℕ
 cylindersText [] = []
 cylindersText (c ∷ cs) = cylinderText c ++ cylindersText cs
 
--- "First `N` and needed mg. Then `C`, cylinder number, .."
+-- the line of the need, and then one for each cylinder
 unfoldable pub text : Bank → List ℕ
 text b = 78 ∷ 32 ∷ fieldText (b .need) ++ (10 ∷ cylindersText (b .cylinders))
 
@@ -30,7 +30,7 @@ abbrev pub EachSmall : List Cylinder → Type 0
 EachSmall [] = Unit {0}
 EachSmall (c ∷ cs) = AllSmall c × EachSmall cs
 
--- "Whole numbers are 1 to 10 digits"
+-- each number of 10 digits at most
 pub record Fair (b : Bank) : Type 0 where
   pub need : Small (b .need)
   pub cylinders : EachSmall (b .cylinders)
@@ -55,6 +55,6 @@ withNeed need = Option·map (λ cs. record { need = need; cylinders = cs })
 unfoldable pub bank : ℕ → List ℕ → Option Bank
 bank k t = andThen (fieldAfter 78 10 t) (λ need rest. withNeed need (cylinders k rest))
 
--- "A text over 65,536 bytes is not in the form."
+-- a text of more than 65,536 bytes is not in the form
 unfoldable pub inForm : List ℕ → Option Bank
 inForm t = cond (leb (length t) 65536) (bank (length t) t) none

@@ -1,4 +1,4 @@
--- The sheet that a text says (document 01, "What form each place needs"): "A sheet struct holds an array of 32 line structs and a count". Definitions only.
+-- RULES 11: the sheet that a text says, an array of 32 lines and a count. Definitions only.
 use mathlib.Core.Bool.{true, false}
 use mathlib.Core.List.{[], map}
 use mathlib.Core.Option.{Option, none, some}

@@ -1,5 +1,5 @@
-// Reading a sheet: `N` and the needed mg, and then a line for each cylinder up to the end of the text (document 01, "The
-// sheet").
+// RULES 6.1 and 6.3: reading a sheet, `N` and the agent needed, and then a line for each cylinder up to the end of the
+// text.
 ghost use mathlib.Core.Path.{_≡_};
 ghost use mathlib.Core.Option.{none};
 ghost use Prim.Native.Nat.{_≤_};

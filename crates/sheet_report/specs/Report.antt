@@ -1,4 +1,4 @@
--- Document 01, "The sheet": the report as bytes. "Lines end in LF, one space between parts". Definitions only.
+-- RULES 7: the report as bytes. Definitions only.
 use Prim.Native.Nat.{ℕ, _+_, _≤_, _<_}
 use mathlib.Core.Path.{_≡_}
 use mathlib.Core.List.{List, [], _∷_, _++_}
@@ -12,12 +12,12 @@ use Rattle.sheet_outcome.specs.declared.Ending.{Ending}
 use Rattle.sheet_outcome.specs.declared.Outcome.{Outcome}
 use Rattle.sheet_report.specs.declared.Written.{Written}
 
--- "`M mg`" or "`R no`", and the line's end
+-- `M mg` or `R no`, and the line's end
 unfoldable pub weighedBytes : Weighed → List ℕ
 weighedBytes (Weighed.Mass mg) = ascii "M " ++ decimal mg ++ ascii "\n"
 weighedBytes (Weighed.Refused number) = ascii "R " ++ decimal number ++ ascii "\n"
 
--- "for each line `L i M mg` or `L i R no`"
+-- RULES 7.1: `L i M mg` or `L i R no`
 unfoldable pub lineBytes : ℕ → Weighed → List ℕ
 lineBytes i w = ascii "L " ++ decimal i ++ ascii " " ++ weighedBytes w
 
@@ -26,18 +26,18 @@ unfoldable pub linesBytes : ℕ → List Mark → List ℕ
 linesBytes i [] = []
 linesBytes i (m ∷ ms) = lineBytes i (m .weighed) ++ linesBytes (i + 1) ms
 
--- "then `TOTAL mg COVERED` .. else `TOTAL mg SHORT`; with refusal 13 `SENT BACK 13` instead"
+-- RULES 7.2: the last line
 unfoldable pub endingBytes : Ending → List ℕ
 endingBytes (Ending.Covered mg) = ascii "TOTAL " ++ decimal mg ++ ascii " COVERED\n"
 endingBytes (Ending.Short mg) = ascii "TOTAL " ++ decimal mg ++ ascii " SHORT\n"
 endingBytes (Ending.SentBack number) = ascii "SENT BACK " ++ decimal number ++ ascii "\n"
 
--- "i counts the cylinder lines from 1"
+-- the lines are counted from 1, and the ending stands after them
 unfoldable pub reportBytes : Outcome → List ℕ
 reportBytes o = linesBytes 1 (marksOf (o .marks)) ++ endingBytes (o .ending)
 
--- what a function ensures that writes the report bs into the lent output o, which becomes xs
--- 15, "report longer than the lent output", "leaves the output's every byte; otherwise bytes after the report's length are unchanged"
+-- RULES 7.3: what a function ensures that writes the report bs into the lent output o, which becomes xs
+-- where bs fits, it lies over the front of o; where it doesn't, the answer is 15 and every byte stays as it was
 -- no report is longer than 32 lines of 46 bytes and an ending of 40
 abbrev pub ReportIs : List ℕ → List ℕ → List ℕ → Written → Type 0
 ReportIs o xs bs (Written.Bytes r) = Wrote o xs r bs × (length bs ≤ length o)

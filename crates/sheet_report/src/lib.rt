@@ -1,4 +1,4 @@
-// The report (document 01, "The sheet"). Its length is worked first, so that refusal 15 leaves the output's every byte.
+// RULES 7: the report. Its length is worked first, so that with refusal 15 every byte of the output stays as it was.
 // Each `put_` writes to the front of out and answers how many bytes it wrote.
 ghost use mathlib.Core.Path.{_≡_};
 ghost use mathlib.Core.List.{_++_};
@@ -22,7 +22,7 @@ pub enum Written {
     Refused(u8),
 }
 
-// "15: report longer than the lent output"
+// RULES 3.1: the report is longer than the output lent for it.
 const TOO_LONG: u8 = 15;
 
 fn put_between(out: &mut [u8], front: &[u8], n: u64, back: &[u8]) -> usize

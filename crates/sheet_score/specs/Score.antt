@@ -1,4 +1,4 @@
--- A sheet's report (document 01, "The sheet"). Definitions only.
+-- RULES 7.1 and 7.2: a sheet's report. Definitions only.
 use Prim.Native.Nat.{ℕ}
 use mathlib.Core.Bool.{true}
 use mathlib.Core.List.{List, _++_, map}
@@ -14,11 +14,11 @@ use Rattle.sheet_outcome.specs.declared.Ending.{Ending}
 use Rattle.sheet_weigh.specs.Sheet.{marked}
 use Rattle.sheet_report.specs.Report.{linesBytes, endingBytes}
 
--- "with 10, 11, 12 or 14 the report is `SENT BACK` and that number, one line alone"
+-- `SENT BACK` and a number: with 10, 11, 12 or 14 the only line of the report
 abbrev pub sentBack : ℕ → List ℕ
 sentBack number = endingBytes (Ending.SentBack number)
 
--- "for each line `L i M mg` or `L i R no`; then" the ending
+-- a line for each cylinder, and then the ending
 abbrev pub listed : Admitted → List Mark → List ℕ
 listed (Admitted.SentBack number) ms = sentBack number
 listed (Admitted.Need mg) ms = linesBytes 1 ms ++ endingBytes (ending mg (total ms))

@@ -1,5 +1,5 @@
-// A sheet is read once, worked line by line, and reported: "Order for a sheet: 14, 10, 11, 12, 13, and 15 last, whatever
-// the report would say" (document 01).
+// RULES 3.4: a sheet is read once, worked line by line, and reported; sent back by 14, 10, 11, 12 or 13, in this order,
+// and 15 last, whatever the report would say.
 ghost use Rattle.sheet_report.specs.Report.{ReportIs};
 ghost use Rattle.sheet_read.specs.Form.{inForm};
 ghost use Rattle.sheet_score.specs.Score.{report};

@@ -1,4 +1,4 @@
--- A whole number as text. Definitions only.
+-- RULES 7: a whole number as text, with as many digits as it needs. Definitions only.
 use Prim.Native.Nat.{ℕ, zero, suc, _+_, _/_, _%_}
 use mathlib.Core.Bool.{cond}
 use mathlib.Core.List.{List, [], _∷_, _++_}
@@ -9,6 +9,5 @@ unfoldable pub decimalWithin : ℕ → ℕ → List ℕ
 decimalWithin zero n = (48 + n % 10) ∷ []
 decimalWithin (suc k) n = let front = decimalWithin k (n / 10) in cond (ltb n 10) ((48 + n % 10) ∷ []) (front ++ ((48 + n % 10) ∷ []))
 
--- "as many digits as they need"
 unfoldable pub decimal : ℕ → List ℕ
 decimal n = decimalWithin n n

@@ -1,4 +1,4 @@
--- Document 01, "The sheet": "Whole numbers are 1 to 10 digits with no leading zero except `0` itself; `-` in place of any of them is a blank". Definitions only.
+-- RULES 6.2: a field of a line, a whole number of 1 to 10 digits with no leading zero but for `0` itself, or a blank. Definitions only.
 use Prim.Native.Nat.{ℕ, _+_, _-_, _*_, _<_}
 use mathlib.Core.Bool.{Bool, cond, _&&_}
 use mathlib.Core.List.{List, [], _∷_}
@@ -9,7 +9,7 @@ use Rattle.sheet_text.specs.Decimal.{decimal}
 use Rattle.sheet_text.specs.declared.Field.{Field}
 use Rattle.sheet_text.specs.declared.Field.the-variants.{Blank, Number}
 
--- ---- as text
+-- ---- as text: a blank is `-`, which is 45
 
 unfoldable pub fieldText : Field → List ℕ
 fieldText Blank = 45 ∷ []

@@ -1,5 +1,5 @@
-// A field of a line: blank, or a whole number (document 01, "The sheet"). Each reader answers what stands at a place of
-// the text and the place after it.
+// RULES 6.2: a field of a line, blank or a whole number. Each reader answers what stands at a place of the text and the
+// place after it.
 ghost use mathlib.Core.Path.{_≡_};
 ghost use mathlib.Core.Bool.{true};
 ghost use Prim.Native.Nat.{_-_, _≤_};

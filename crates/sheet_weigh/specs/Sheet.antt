@@ -1,4 +1,4 @@
--- What comes of a sheet, line by line (document 01, "The sheet"). Definitions only.
+-- RULES 7.1 and 7.2: what comes of a sheet, line by line. Definitions only.
 use Prim.Native.Nat.{ℕ, _^_, _<_}
 use mathlib.Core.Path.{_≡_}
 use mathlib.Core.List.{List, [], map}
@@ -20,7 +20,7 @@ use Rattle.sheet_weigh.specs.Weighing.{weighed}
 unfoldable pub marksFor : List Mark → Marks
 marksFor ms = record { marks = padded (record { weighed = Weighed.Refused 0 }) 32 ms; count = length ms }
 
--- the marks and "then" the ending; "with 10, 11, 12 or 14 .. that number, one line alone"
+-- sent back with 10, 11, 12 or 14 it has that number alone; else the marks of its lines, and then the ending
 abbrev pub finished : Admitted → List Mark → Outcome
 finished (Admitted.SentBack number) ms = record { marks = marksFor []; ending = Ending.SentBack number }
 finished (Admitted.Need mg) ms = record { marks = marksFor ms; ending = ending mg (total ms) }

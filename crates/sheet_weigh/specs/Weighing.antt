@@ -1,4 +1,4 @@
--- A line's working: "Order in a line: 1, 2, then the door" (document 01, "Refusal numbers"). Definitions only.
+-- RULES 3.2: a line's working, refused by 1, then by 2, then by what its door says. Definitions only.
 use Prim.Native.Nat.{ℕ}
 use mathlib.Core.Bool.{Bool, cond, _&&_}
 use lib.Dec.{leb}
@@ -17,7 +17,7 @@ use Rattle.sheet_line.specs.declared.line.Reading.{Reading}
 use Rattle.sheet_line.specs.declared.line.Line.{Line}
 use Rattle.sheet_outcome.specs.declared.Weighed.{Weighed}
 
--- ---- "1: a field of the line is blank (cylinder number, temperature, value, volume)"
+-- ---- 1: one of the four fields of a line is blank
 
 abbrev pub ifNumber : Field → (ℕ → Weighed) → Weighed
 ifNumber Field.Blank f = Weighed.Refused 1
@@ -27,18 +27,18 @@ abbrev pub ifKelvin : Temperature → (Float → Weighed) → Weighed
 ifKelvin Temperature.Blank f = Weighed.Refused 1
 ifKelvin (Temperature.Kelvin t) f = f t
 
--- ---- "2: volume out of range", and what the door answers
+-- ---- 2: the volume is out of its range; and what the door answers
 
--- "volume 1 to 1,000,000 mL"
+-- RULES 2.4, in mL
 abbrev pub isVolume : ℕ → Bool
 isVolume v = leb 1 v && leb v 1_000_000
 
--- "the whole number at or below it"; 7 where there is none that an f64 holds exactly
+-- RULES 6.5: the whole number at or below a product; 7 where that is below 0, or 2⁵³ and more
 abbrev pub mass : Below → Weighed
 mass (Below.At mg) = Weighed.Mass mg
 mass Below.Out = Weighed.Refused 7
 
--- "Milligrams of a line: ρ times volume, one product"
+-- RULES 6.5: of ρ times the volume, one product
 unfoldable pub milligrams : Float → ℕ → Weighed
 milligrams rho v = mass (wholeBelow (mul binary64 rho (whole v)))
 
@@ -52,7 +52,7 @@ filled v a = cond (isVolume v) (byAnswer a v) (Weighed.Refused 2)
 -- ---- the line
 
 module _ (L : Limits) where
-  -- "then the door", of the reading's kind
+  -- the door is that of the reading's kind
   unfoldable pub byReading : Temperature → ℕ → Reading → Weighed
   byReading k v Reading.Blank = Weighed.Refused 1
   byReading k v (Reading.Pressure p) = ifKelvin k (λ t. filled v (pressureDoor of1996 L t p))

@@ -1,5 +1,5 @@
-// What comes of a line and of a sheet. "Order in a line: 1, 2, then the door"; "Milligrams of a line: ρ times volume, one
-// product, the whole number at or below it"; "Order for a sheet: 14, 10, 11, 12, 13" (document 01).
+// RULES 3.2, 3.4 and 6.5: what comes of a line, refused by 1, by 2 or by its door, in this order, or its milligrams;
+// and of a sheet, sent back by 14, 10, 11, 12 or 13, in this order, or the total.
 ghost use mathlib.Core.Path.{_≡_};
 ghost use mathlib.Core.List.{[]};
 ghost use Prim.Native.Nat.{_≤_};
@@ -110,7 +110,7 @@ pub fn weigh(limits: Limits, l: Line) -> Weighed
     by_reading(limits, temperature, v, reading)
 }
 
-// Each line's milligrams or refusal: "i counts the cylinder lines from 1".
+// Each line's milligrams or refusal; i counts the lines from 1.
 fn weigh_all(limits: Limits, s: Sheet) -> Marks
     requires { ⌜ s .count ≤ 32 ⌝ }
     ensures { λ r. ⌜ r ≡ marksFor (marked limits (take (s .count) (s .lines))) ⌝ }

@@ -1,4 +1,4 @@
--- Text as bytes, and bytes written to the front of a lent output. Definitions only.
+-- RULES 7.3: text as bytes, and bytes written to the front of a lent output. Definitions only.
 use Prim.Native.Nat.{ℕ}
 use Prim.Native.Char.{code}
 use Prim.Native.String as string
@@ -11,7 +11,7 @@ abbrev pub ascii : string.String → List ℕ
 ascii string.[] = []
 ascii (string._∷_ c rest) = code c ∷ ascii rest
 
--- bs laid over the front of o: "bytes after the report's length are unchanged"
+-- bs laid over the front of o: every byte behind them stays as it was
 unfoldable pub overlaid : List ℕ → List ℕ → List ℕ
 overlaid o bs = bs ++ drop (length bs) o
 

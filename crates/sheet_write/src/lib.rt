@@ -1,5 +1,5 @@
-// Each function writes to the front of out and answers how many bytes it wrote; the bytes after them stay. The bytes fit:
-// a caller knows their number first.
+// RULES 7.3: each function writes to the front of out and answers how many bytes it wrote; the bytes after them stay.
+// The bytes fit: a caller knows their number first.
 ghost use mathlib.Core.Path.{_≡_};
 ghost use Prim.Native.Nat.{_≤_};
 ghost use lib.ListN.{length};

@@ -1,4 +1,4 @@
--- What a caller in another language gets: a number back, and figures or bytes in what it lent. Definitions only.
+-- RULES 12: what a caller in another language gets, a number back, and figures or bytes in what it lent. Definitions only.
 use Prim.Native.Nat.{ℕ}
 use mathlib.Core.Path.{_≡_}
 use mathlib.Core.Bool.{cond}

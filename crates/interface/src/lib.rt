@@ -1,5 +1,5 @@
-// For programs in other languages: the two doors and the report (include/makhroeng.h). Nothing is kept between calls,
-// so any number of threads may call at once. A slice is a pointer and a length.
+// RULES 12: for programs in other languages, the two doors and the report (include/makhroeng.h). Nothing is kept
+// between calls, so any number of threads may call at once. A slice is a pointer and a length.
 ghost use mathlib.Core.Path.{_≡_};
 ghost use Prim.Native.Nat.{_≤_};
 ghost use lib.ListN.{length};

@@ -1,4 +1,4 @@
--- RULES 4.9, and 004, section 2.1: the reduced density and the inverse reduced temperature, on which the equation stands. Definitions only.
+-- RULES 4.9 (004, section 2.1): the reduced density and the inverse reduced temperature, on which the equation stands. Definitions only.
 use lib.Ieee.{Float}
 use Rattle.num_formulas.specs.Formula.{Formula, num, _⊘_}
 use Rattle.eos_constants.specs.Constant.{spanWagner}

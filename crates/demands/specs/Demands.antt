@@ -165,6 +165,6 @@ module _ (E : Equation) (L : Limits) where
   abbrev pub SameEight : Type 0
   SameEight = (t p : Float) (x y : State) → pressureDoor E L t p ≡ answer.State x → densityDoor E L t (x .rho) ≡ answer.State y → eight y ≡ eight x
 
--- whatever meets a public function's promise (`Post`, its own `ensures`) has it
+-- whatever meets a public function's promise (`Post`, its own `ensures`) has it: called with a it answers r, and s is what a holds afterwards
 abbrev pub Whatever : {A S : Type 0} → (A → Answer → S → Type 0) → (A → Answer → Type 0) → Type 0
 Whatever {A} {S} Post Q = (a : A) (r : Answer) (s : S) → Post a r s → Q a r

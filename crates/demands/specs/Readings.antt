@@ -23,6 +23,7 @@ pub data Read : Type 0 where
   check : Check → Read
   line : Weighed → Read
 
+-- a reading that is proved: what is worked, and what it has to be
 pub record Starred : Type 0 where
   pub worked : Read
   pub reads : Read

@@ -75,7 +75,8 @@ module _ (L : Limits) where
         → Delivered t old new (Written.Bytes (length bs))
     too-long : {bs : List ℕ} → Reported t bs → length old < length bs → new ≡ old → Delivered t old new (Written.Refused 15)
 
--- whatever meets the promise of a function from limits, a text and a lent output (`Post`, its own `ensures`) delivers
+-- whatever meets the promise of a function from limits, a text and a lent output (`Post`, its own `ensures`) delivers. a is what it is called with,
+-- (limits, (text, (output, ..))), x the same afterwards, and `now` what a reference holds
 abbrev pub Delivers : {S T U W : Type 0} → (Limits × (RefT (List ℕ) × (RefT (List ℕ) × S)) → Written → T × (U × (RefT (List ℕ) × W)) → Type 0) → Type 0
 Delivers {S} {T} {U} {W} Post =
     (a : Limits × (RefT (List ℕ) × (RefT (List ℕ) × S))) (r : Written) (x : T × (U × (RefT (List ℕ) × W))) → Post a r x

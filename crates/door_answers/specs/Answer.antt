@@ -17,7 +17,7 @@ abbrev pub answerWith : Stated → Answer
 answerWith Unknown = answer.Refused 7
 answerWith (Known x) = answer.State x
 
--- the refusal's number, to be handed on
+-- the refusal's number, to be handed on; of a state 0, which is no refusal and is not handed on
 abbrev pub refusalNumber : Answer → ℕ
 refusalNumber (answer.Refused n) = n
 refusalNumber (answer.State x) = 0

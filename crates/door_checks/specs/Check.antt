@@ -16,11 +16,11 @@ ranged temperature value t x =
     (cond (outside value x) (No 5)
     Passed))
 
--- 6 where both lie in the ranges of the critical box
+-- RULES 2.3: 6 where both lie in the ranges of the critical box
 unfoldable pub boxed : Range → Range → Float → Float → Check
 boxed temperature value t x = cond (not (outside temperature t) && not (outside value x)) (No 6) Passed
 
--- the refusal's number, to be handed on
+-- the refusal's number, to be handed on; of a check that was passed 0, which is no refusal and is not handed on
 abbrev pub numberOf : Check → ℕ
 numberOf (No n) = n
 numberOf Passed = 0

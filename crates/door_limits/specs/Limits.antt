@@ -9,6 +9,7 @@ use Rattle.door_limits.specs.declared.Ends.{Ends}
 abbrev pub range : Float → Float → Range
 range from to = record { from = from; to = to }
 
+-- the limits that the program and C hand in
 unfoldable pub document01 : Limits
 document01 = record {
   -- RULES 2.2, in K, Pa and kg/m³
@@ -25,7 +26,7 @@ document01 = record {
   };
 }
 
--- RULES 5.1: from where to where is searched, of vapour up to 1.01 times and of liquid from 0.99 times the saturated density, whatever a client's limits are
+-- RULES 5.1: from where to where is searched, of vapour up to 1.01 times and of liquid from 0.99 times the saturated density, whatever the limits are
 unfoldable pub searchEnds : Ends
 searchEnds = record { from = decimal 5 2; to = whole 1400; vapour = decimal 101 2; liquid = decimal 99 2 }
 

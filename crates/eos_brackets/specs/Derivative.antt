@@ -1,4 +1,5 @@
--- The five derivatives that Table 3 needs, each with its factor, a number for each, and how a row's figures are added up. Definitions only.
+-- RULES 4.8 (docs/ARRANGEMENT.md, sections 2 and 7): the five derivatives that Table 3 needs, each with its factor, a number for each, and how a row's
+-- figures are added up. Definitions only.
 use mathlib.Core.Bool.{Bool, true, cond}
 use lib.Ieee.{Float, binary64, add, mul}
 use Rattle.eos_brackets.specs.declared.Five.{Five}

@@ -1,10 +1,10 @@
--- RULES 4.7: the exponents of roots that 004 prints in another way than as the fraction that is worked. Definitions only.
+-- RULES 4.7: four exponents of roots that 004 prints in another way than as the fraction that is worked. Definitions only.
 use Prim.Native.Nat.{ℕ}
 use Rattle.num_roots.specs.declared.root.Exponent.{Exponent}
 use Rattle.eos_constants.specs.declared.Printed.{Printed}
 use Rattle.eos_constants.specs.declared.Printed.the-variants.{Of0_34, Of10_6, Of0_875, Of0_925}
 
--- as worked: m/k
+-- as worked: m/k. 10/6 stands for 1/(2β) too
 abbrev pub workedAs : Printed → Exponent
 workedAs Of0_34 = record { m = 17; k = 50 }
 workedAs Of10_6 = record { m = 5; k = 3 }

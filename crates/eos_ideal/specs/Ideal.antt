@@ -58,6 +58,6 @@ phi-ττ τ = foldl (λ s i. s ⊖ row-ττ τ i) (head-ττ table27 τ) rows
 unfoldable pub idealPart : Float → Ideal
 idealPart τ = record { first = work (num τ ⊗ phi-τ τ); second = work (num τ ⊗ num τ ⊗ phi-ττ τ) }
 
--- the two sums as code works them, in plain f64
+-- ---- what code inside asks for: the two sums in plain f64
 abbrev pub sums : Formula → Formula → Sums
 sums first second = record { first = value first; second = value second }

@@ -1,5 +1,5 @@
--- What hangs on the temperature alone, in plain f64: the powers of τ (RULES 4.7), and parts of exponents. Where τ or its quarter root fails, so does every sum
--- (eos_residual, Failures). Definitions only.
+-- What hangs on the temperature alone, in plain f64: the powers of τ (RULES 4.7), and parts of exponents (docs/ARRANGEMENT.md, sections 2, 5 and 6).
+-- Where τ or its quarter root fails, so does every sum (eos_residual, proofs/Failures.antt). Definitions only.
 use Prim.Native.Nat.{ℕ, _-_, _/_, _%_}
 use mathlib.Core.Bool.{cond}
 use mathlib.Core.List.{List, _++_, map}

@@ -53,7 +53,7 @@ parts row n tau =
 abbrev pub psi : NonAnalytic → Around → Float → Formula
 psi row n z = e^ (minus (num (row .kc) ⊗ n .X ⊕ num z))
 
--- ---- what is worked once for a state, in plain f64
+-- ---- what code inside asks for: what is worked once for a state, in plain f64
 abbrev pub near : Around → Near
 near n = record { e = value (n .e); x = value (n .X); r = value (n .r); v = value (n .v) }
 
@@ -66,7 +66,7 @@ critical iso delta =
     let of : NonAnalytic → Edge = λ row. edge (parts row n (iso .tau)) in
     record { near = near n; first = of row40; second = of row41; third = of row42 }
 
--- ---- what code inside asks for: the same as it holds them, by their numbers, and what rows 40 and 41 share
+-- ---- the same as it holds them, by their numbers, and what rows 40 and 41 share
 abbrev pub heldNear : Near → Around
 heldNear n = record { e = num (n .e); X = num (n .x); r = num (n .r); v = num (n .v) }
 

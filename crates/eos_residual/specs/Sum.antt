@@ -1,4 +1,4 @@
--- RULES 4.8: the sums of the residual part, from the first row on in the table's order. Definitions only.
+-- RULES 4.8 (docs/ARRANGEMENT.md, section 7): the sums of the residual part, from the first row on in the table's order. Definitions only.
 use Prim.Native.Nat.{ℕ, _-_}
 use mathlib.Core.Path.{_≡_}
 use mathlib.Core.Bool.{Bool}
@@ -28,6 +28,7 @@ unfoldable pub onto : Worked → List Worked → Worked
 onto w [] = w
 onto w (f ∷ fs) = onto (w +ᵂ f) fs
 
+-- of no rows there is none, and none is asked for
 unfoldable pub total : List Worked → Worked
 total [] = Failed
 total (f ∷ fs) = onto f fs

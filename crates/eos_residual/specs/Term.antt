@@ -75,7 +75,7 @@ gaussianBracket delta tau r =
     let s = t ⊖ 2β ⊗ τ ⊗ (τ ⊖ num (r .gamma)) in
     columns b (b ⊗ b ⊖ d ⊖ 2α ⊗ δ ^^ 2) s (s ⊗ s ⊖ t ⊖ 2β ⊗ τ ^^ 2) (b ⊗ s)
 
--- ---- what is worked once for a state, in plain f64
+-- ---- what code inside asks for: what is worked once for a state (RULES 4.3), in plain f64
 unfoldable pub decays : Float → List Float
 decays delta = map (λ (c : ℕ). value (decay delta c)) (1 ∷ 2 ∷ 3 ∷ 4 ∷ 5 ∷ 6 ∷ [])
 

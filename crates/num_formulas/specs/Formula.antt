@@ -29,7 +29,7 @@ one = num (whole 1)
 abbrev pub two : Formula
 two = num (whole 2)
 
--- |x|: x, or −x where x is below 0
+-- |x| (RULES 4.7; docs/ARRANGEMENT.md, section 6): x, or −x where x is below 0
 unfoldable pub absolute : Float → Float
 absolute x = cond (Ieee.lt x (whole 0)) (Ieee.neg x) x
 

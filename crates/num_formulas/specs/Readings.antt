@@ -10,6 +10,7 @@ use Rattle.num_working.specs.declared.Worked.{Worked}
 use Rattle.num_working.specs.declared.Worked.the-variants.{Number}
 use Rattle.num_roots.specs.declared.root.Exponent.{Exponent}
 
+-- a reading that is proved: what is worked, and what it has to be
 pub record Starred : Type 0 where
   pub worked : Worked
   pub reads : Worked

@@ -58,7 +58,7 @@ halve f t lo hi =
     let rest = ends (side t (f lo)) (side t (f hi)) (narrow f t 63 lo hi) in
     cond (leb hi lo) Nowhere rest
 
--- ---- what it means
+-- ---- what it means, as demand 3 of RULES 10.1 says it of the pressure
 
 -- the figure at k is a finite number that is not above the target; that is above it
 pub record NotAbove (f : Figure) (t : Float) (k : ℕ) : Type 0 where

@@ -33,7 +33,7 @@ rootOf Broke = Failed
 unfoldable pub searched : ℕ → ℕ → Float → Worked
 searched m k x = orElse (checked x ^ᵂ m) Failed (λ t. rootOf (rootBits k t))
 
--- an m/k that is not below 2 is refused, and an x that is below 0 or not finite; of 0, of either sign, the root is 0; any other is searched for
+-- an m/k that is not below 2, or with k = 0, is refused, and an x that is below 0 or not finite; of 0, of either sign, the root is 0; any other is searched for
 unfoldable pub root : Exponent → Float → Worked
 root e x =
     let rest = searched (e .m) (e .k) x in

@@ -5,7 +5,7 @@ use lib.Ieee as Ieee
 use lib.Ieee.{Float, nan, inf, fin, binary64}
 use lib.IntN.{pos}
 
--- the f64 nearest n / d
+-- the f64 nearest n / d, a tie to the even one; `false`: with no minus sign
 unfoldable pub fraction : ℕ → ℕ → Float
 fraction n d = Ieee.round binary64 false n d
 
@@ -17,7 +17,7 @@ decimal digits places = fraction digits (10 ^ places)
 unfoldable pub whole : ℕ → Float
 whole n = Ieee.ofInt binary64 (pos n)
 
--- finite, and with no minus sign
+-- finite, and with no minus sign: what the doors' theorems take of a saturated density
 abbrev pub nonneg : Float → Bool
 nonneg nan = false
 nonneg (inf s) = false

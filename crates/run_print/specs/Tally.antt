@@ -1,4 +1,4 @@
--- A count goes up by one, or stays at the largest u64; the others are as they were. Definitions only.
+-- No rule, since nothing rests on a count of comparisons: it goes up by one, or stays at the largest u64; the others are as they were. Definitions only.
 use Prim.Native.Nat.{ℕ, _+_, min}
 use mathlib.Core.Bool.{Bool, true, false}
 use mathlib.Core.List.{List}

@@ -1,4 +1,4 @@
--- What the program's functions promise. No contract can say which bytes are read from a file or written to one; these say that what lies between is the
+-- RULES 13: what the program's functions promise. No contract can say which bytes are read from a file or written to one; these say that what lies between is the
 -- report. Definitions only.
 use Prim.Native.Nat.{ℕ, _≤_, _<_}
 use mathlib.Core.Path.{_≡_}

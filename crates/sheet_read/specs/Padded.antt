@@ -1,4 +1,4 @@
--- A list in an array of fixed size. Definitions only.
+-- RULES 11: a list in an array of fixed size. Definitions only.
 use Prim.Native.Nat.{ℕ, zero, suc}
 use mathlib.Core.List.{List, [], _∷_}
 

@@ -1,4 +1,4 @@
--- RULES 7.1 and 7.2: a sheet's report. Definitions only.
+-- RULES 3.4, 7.1 and 7.2: a sheet's report. Definitions only.
 use Prim.Native.Nat.{ℕ}
 use mathlib.Core.Bool.{true}
 use mathlib.Core.List.{List, _++_, map}

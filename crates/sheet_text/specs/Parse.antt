@@ -1,5 +1,5 @@
--- Reading the front of a text. A parser answers what stands at the front, with the rest of the text, or `none` where the front is not in its form.
--- Definitions only.
+-- A tool for RULES 6, and no rule: reading the front of a text. A parser answers what stands at the front, with the rest of the text, or `none` where the
+-- front is not in its form. Definitions only.
 use Prim.Native.Nat.{ℕ}
 use mathlib.Core.Bool.{cond}
 use mathlib.Core.List.{List, [], _∷_}

@@ -1,4 +1,4 @@
--- What the code's answers say of a text: each is what a parser p reads in the text s from a place on, and says at which place of s the rest begins.
+-- No rule: what the code's answers say of a text. Each is what a parser p reads in the text s from a place on, and says at which place of s the rest begins.
 -- Definitions only.
 use Prim.Native.Nat.{ℕ, _≤_, _<_}
 use mathlib.Core.Path.{_≡_}

@@ -16,7 +16,7 @@ use Rattle.sheet_outcome.specs.declared.Ending.{Ending}
 use Rattle.sheet_outcome.specs.declared.Outcome.{Outcome}
 use Rattle.sheet_weigh.specs.Weighing.{weighed}
 
--- marks in the code's array of 32
+-- marks in the code's array of 32; past the count stands a filler, whose 0 is no refusal
 unfoldable pub marksFor : List Mark → Marks
 marksFor ms = record { marks = padded (record { weighed = Weighed.Refused 0 }) 32 ms; count = length ms }
 
@@ -38,6 +38,6 @@ module _ (L : Limits) where
       let s = r .sheet in
       finished (admitted (r .ok) (s .count) (s .need)) (marked (take (s .count) (s .lines)))
 
--- what adding asks for: each line's milligrams are below 2⁵³
+-- ---- what code inside asks for, to add: each line's milligrams are below 2⁵³
 abbrev pub Light : List Mark → Type 0
 Light ms = (i mg : ℕ) (d : Mark) → i < length ms → getD ms i d .weighed ≡ Weighed.Mass mg → mg < 2 ^ 53

@@ -33,7 +33,7 @@ ifKelvin (Temperature.Kelvin t) f = f t
 abbrev pub isVolume : ℕ → Bool
 isVolume v = leb 1 v && leb v 1_000_000
 
--- RULES 6.5: the whole number at or below a product; 7 where that is below 0, or 2⁵³ and more
+-- RULES 6.5: the whole number at or below a product; 7 where the product is below 0, or 2⁵³ and more, or not a number
 abbrev pub mass : Below → Weighed
 mass (Below.At mg) = Weighed.Mass mg
 mass Below.Out = Weighed.Refused 7

@@ -117,7 +117,7 @@ module _ (E : Equation) (L : Limits) (lawful : Lawful E) where
         subst (λ (y : Float). T (le (ofBits binary64 (a .bits + 1)) y)) (ofBits-toBits binary64 (a .to) (h .second .fits)) high,
       )
 
-  -- ---- where the density door answers for what the pressure door gave, the eight numbers are the same bits
+  -- ---- where both doors answer for one temperature and density, none of the eight numbers differs by a bit
   pub doors-agree : SameEight E L
   doors-agree t p x y e f =
       let a = pressure-answers E L lawful t p x e in

@@ -161,7 +161,7 @@ module _ (E : Equation) (L : Limits) where
   abbrev pub DensityAnswers : Type 0
   DensityAnswers = (t rho : Float) (x : State) → densityDoor E L t rho ≡ answer.State x → AnsweredD E L t rho x
 
-  -- RULES 5.3: where the density door answers for a temperature and a density that the pressure door gave, the eight numbers are the same bits
+  -- RULES 5.3: where the density door answers for what the pressure door gave, none of the eight numbers differs by a bit
   abbrev pub SameEight : Type 0
   SameEight = (t p : Float) (x y : State) → pressureDoor E L t p ≡ answer.State x → densityDoor E L t (x .rho) ≡ answer.State y → eight y ≡ eight x
 

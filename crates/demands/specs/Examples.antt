@@ -1,4 +1,4 @@
--- Sheets and their reports, byte for byte: the example of RULES 7.4, the sheets of RULES 8.2, and two more, of 12 and of blanks. Definitions only.
+-- Sheets and their reports, byte for byte: the first example of RULES 7.4, the sheets of RULES 8.2, and two more, of 12 and of blanks. Definitions only.
 use Prim.Native.Nat.{ℕ, zero, suc}
 use Prim.Native.String.{String}
 use mathlib.Core.List.{List, [], _∷_, _++_}

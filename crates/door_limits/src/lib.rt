@@ -1,4 +1,4 @@
-// RULES 2.2, 2.3 and 5.1: what may be asked of a door, the critical box, and the ends of a search. Ends are inside.
+// RULES 2.2, 2.3 and 5.1: what may be asked of a door, the critical box, and the ends of a search.
 ghost use mathlib.Core.Path.{_≡_};
 ghost use Rattle.door_limits.specs.Limits.{outside, document01, searchEnds};
 

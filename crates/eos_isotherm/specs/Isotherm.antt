@@ -16,10 +16,10 @@ use Rattle.eos_rows.specs.declared.Gaussian.{Gaussian}
 use Rattle.eos_rows.specs.declared.NonAnalytic.{NonAnalytic}
 use Rattle.eos_isotherm.specs.declared.Isotherm.{Isotherm}
 
--- the quarter root of τ, by two square roots
 abbrev pub half : Exponent
 half = record { m = 1; k = 2 }
 
+-- the quarter root of τ, by two square roots
 unfoldable pub quarterOf : Float → Formula
 quarterOf t = root half (root half (Reduced.tau t))
 

@@ -66,7 +66,7 @@ critical iso delta =
     let of : NonAnalytic → Edge = λ row. edge (parts row n (iso .tau)) in
     record { near = near n; first = of row40; second = of row41; third = of row42 }
 
--- ---- the same as it holds them, by their numbers, and what rows 40 and 41 share
+-- ---- what code inside asks for: the same by the numbers that it holds, and what rows 40 and 41 share
 abbrev pub heldNear : Near → Around
 heldNear n = record { e = num (n .e); X = num (n .x); r = num (n .r); v = num (n .v) }
 

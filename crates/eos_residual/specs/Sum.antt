@@ -28,7 +28,7 @@ unfoldable pub onto : Worked → List Worked → Worked
 onto w [] = w
 onto w (f ∷ fs) = onto (w +ᵂ f) fs
 
--- of no rows there is none, and none is asked for
+-- a sum of no rows fails; none is ever asked for
 unfoldable pub total : List Worked → Worked
 total [] = Failed
 total (f ∷ fs) = onto f fs

@@ -28,7 +28,7 @@ pub enum Phase {
     Supercritical,
 }
 
-// T, p, ρ, u, h, cᵥ, cₚ and the sound speed, in K, Pa, kg/m³, J and m/s, and the phase.
+// T, p, ρ, u, h, cᵥ, cₚ and the sound speed, in the units of RULES 4.9, and the phase.
 pub struct State {
     pub t: f64,
     pub p: f64,

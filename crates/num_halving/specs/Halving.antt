@@ -32,7 +32,7 @@ ends high high c = Nowhere
 ends high broken c = Broke
 ends broken b c = Broke
 
--- at mid: the upper half is left where the figure is not above the target, the lower where it is; not finite is a failure
+-- at mid: the halving goes on in the upper half where the figure is not above the target, in the lower where it is; not finite is a failure
 abbrev pub half : Side → Crossing → Crossing → Crossing
 half low upper lower = upper
 half high upper lower = lower
@@ -88,7 +88,7 @@ pub record Found (f : Figure) (t : Float) (lo hi r : ℕ) : Type 0 where
   pub here : NotAbove f t r
   pub next : Above f t (r + 1)
 
--- no crossing: fewer than two numbers, or both ends are finite and the first is above the target or the second is not
+-- no crossing: fewer than two numbers; or finite at both ends, and above the target already at the lower or not above it even at the upper
 pub data NoCrossing (f : Figure) (t : Float) (lo hi : ℕ) : Type 0 where
   met : hi ≤ lo → NoCrossing f t lo hi
   first-above : Above f t lo → Worthy f hi → NoCrossing f t lo hi

@@ -1,4 +1,4 @@
--- A searchable root is the answer of the search for the place where the k-th whole power passes the m-th of x. Assumes nothing.
+-- A searchable root is what `rootBits` finds with xᵐ as its target. Assumes nothing.
 use mathlib.Core.Path.{_≡_, refl, sym, ap, _∙_}
 use mathlib.Core.Bool.{Bool, true, false, not, _&&_}
 use Prim.Native.Nat.{ℕ, _+_, _-_, _*_, _≤_, _<_}

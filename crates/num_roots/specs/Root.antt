@@ -19,7 +19,7 @@ use Rattle.num_roots.specs.declared.root.Exponent.{Exponent}
 unfoldable pub powerAt : ℕ → Figure
 powerAt k b = checked (Ieee.ofBits binary64 b) ^ᵂ k
 
--- halve from the bits of 0 to those of 2²⁰, with the k-th whole power as the figure and t as the target
+-- halve between the bits of 0 and the bits of 2²⁰, with the k-th whole power as the figure and t as the target
 unfoldable pub rootBits : ℕ → Float → Crossing
 rootBits k t = halve (powerAt k) t (Ieee.toBits binary64 (whole 0)) (Ieee.toBits binary64 (whole 1048576))
 

@@ -1,4 +1,4 @@
-// RULES 4.6: the root x^(m/k). The definition halves from the bits of 0 to those of 2²⁰. The k-th whole power rises
+// RULES 4.6: the root x^(m/k). The definition halves between the bits of 0 and of 2²⁰. The k-th whole power rises
 // with the bits, so it passes its target at one place only (proofs/Roots.antt). The code guesses that place, tells it
 // from the powers of the guess and its neighbours, and looks further out only where these don't show it.
 ghost use mathlib.Core.Path.{_≡_};

@@ -1,5 +1,5 @@
-// Sheets, each by a title and its report: the example of RULES 7.4, the sheets of RULES 8.2, the refusals that a sheet
-// or a line of one can give, and their order; damaged texts; outputs of several lengths. What it prints is worked
+// Sheets, each by a title and its report: the first example of RULES 7.4, the sheets of RULES 8.2, the refusals that
+// a sheet or a line of one can give, and their order; damaged texts; outputs of several lengths. What it prints is worked
 // elsewhere too (crosscheck/sheets.py).
 ghost use Prim.Native.Nat.{_≤_};
 ghost use lib.ListN.{length};

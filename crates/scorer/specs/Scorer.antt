@@ -1,5 +1,5 @@
--- RULES 13: what the program's functions promise. No contract can say which bytes are read from a file or written to one; these say that what lies between is the
--- report. Definitions only.
+-- RULES 13: what the program's functions promise. No contract can say which bytes are read from a file or written to one; these say that what lies between
+-- is the report. Definitions only.
 use Prim.Native.Nat.{ℕ, _≤_, _<_}
 use mathlib.Core.Path.{_≡_}
 use mathlib.Core.List.{List}

@@ -74,8 +74,8 @@ fn explain_by(lines: &[u8], report: &[u8]) {
     }
 }
 
-// What each refusal (RULES 3.1) says to a person, and what to do. No report has 3, since a sheet's numbers are finite,
-// and none has 15.
+// What each refusal (RULES 3.1) says to a person, and what to do, as README's table does. No report has 3, since a
+// sheet's numbers are finite, and none has 15.
 pub fn explain(report: &[u8]) {
     explain_by(
         b"1\n\

@@ -1,4 +1,4 @@
-// RULES 6.4: what a cylinder's line says, its figures in K, Pa and kg/m³. A blank has no figure to misread.
+// RULES 6.4: what a cylinder's line says, its figures in K, Pa and kg/m³. A blank holds no number.
 ghost use mathlib.Core.Path.{_≡_};
 ghost use lib.ListN.{drop};
 ghost use Rattle.sheet_text.specs.Field.{Small};

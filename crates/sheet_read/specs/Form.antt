@@ -55,6 +55,6 @@ withNeed need = Option·map (λ cs. record { need = need; cylinders = cs })
 unfoldable pub bank : ℕ → List ℕ → Option Bank
 bank k t = andThen (fieldAfter 78 10 t) (λ need rest. withNeed need (cylinders k rest))
 
--- a text of more than 65,536 bytes is not in the form
+-- 65,536 bytes are the most that a text in the form has
 unfoldable pub inForm : List ℕ → Option Bank
 inForm t = cond (leb (length t) 65536) (bank (length t) t) none

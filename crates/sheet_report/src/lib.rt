@@ -59,7 +59,7 @@ fn shown(m: Marks) -> usize
     if m.count < 32 { m.count } else { 32 }
 }
 
-// Each line goes into the part of out that starts where the former line ended.
+// Each line is handed what the one before it left of out.
 fn put_lines(out: &mut [u8], m: Marks) -> usize
     requires { ⌜ length (linesBytes 1 (marksOf m)) ≤ length (now out) ⌝ }
     ensures { λ r. ⌜ Wrote (now (out .entry)) (now (out .exit)) r (linesBytes 1 (marksOf m)) ⌝ }

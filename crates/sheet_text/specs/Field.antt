@@ -1,4 +1,4 @@
--- RULES 6.2: a field of a line, a whole number of 1 to 10 digits with no leading zero but for `0` itself, or a blank. Definitions only.
+-- RULES 6.2: a field of a line, a blank or a whole number of at most 10 digits, whose first is 0 in `0` alone. Definitions only.
 use Prim.Native.Nat.{ℕ, _+_, _-_, _*_, _<_}
 use mathlib.Core.Bool.{Bool, cond, _&&_}
 use mathlib.Core.List.{List, [], _∷_}

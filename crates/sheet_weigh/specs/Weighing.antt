@@ -1,4 +1,4 @@
--- RULES 3.2: a line's working, refused by 1, then by 2, then by what its door says. Definitions only.
+-- RULES 3.2: a line's working, refused by 1, then by 2, then by what its door says, then by 7 of the product. Definitions only.
 use Prim.Native.Nat.{ℕ}
 use mathlib.Core.Bool.{Bool, cond, _&&_}
 use lib.Dec.{leb}

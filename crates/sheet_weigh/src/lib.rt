@@ -1,4 +1,4 @@
-// RULES 3.2, 3.4 and 6.5: what comes of a line, refused by 1, by 2 or by its door, in this order, or its milligrams;
+// RULES 3.2, 3.4 and 6.5: what comes of a line, refused by 1, 2, its door or 7, in this order, or its milligrams;
 // and of a sheet, sent back by 14, 10, 11, 12 or 13, in this order, or the total.
 ghost use mathlib.Core.Path.{_≡_};
 ghost use mathlib.Core.List.{[]};

@@ -21,7 +21,7 @@ pub fn vapour_pressure(t: f64) -> Option<f64> {
     finite(CRITICAL_PRESSURE * exponential(tau * sum))
 }
 
-/// RULES 5: a saturated density that is not above 0 is 7.
+/// RULES 5: 7 where it is 0 or below.
 fn above_zero(rho: f64) -> Option<f64> {
     finite(rho).filter(|&rho| rho > 0.0)
 }

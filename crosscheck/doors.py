@@ -49,15 +49,23 @@ def worked(f, *args):
     return x.x if isinstance(x, figures.Num) else x
 
 
-def checks(t, x, low, high, box_low, box_high):
+def in_range(t, x, low, high):
     if not (math.isfinite(t) and math.isfinite(x)):
         raise Refusal(3)
     if not 216.592 <= t <= 523.0:
         raise Refusal(4)
     if not low <= x <= high:
         raise Refusal(5)
-    if 303.1282 <= t <= 305.1282 and box_low <= x <= box_high:
+
+
+def out_of_box(t, x, low, high):
+    if 303.1282 <= t <= 305.1282 and low <= x <= high:
         raise Refusal(6)
+
+
+def not_solid(t, p):
+    if p > worked(figures.melting_pressure, t):
+        raise Refusal(19)
 
 
 def state(phase, t, rho):
@@ -77,7 +85,9 @@ def pressure_figure(t):
 
 
 def by_pressure(t, p):
-    checks(t, p, 10000.0, 30000000.0, 7000000.0, 8000000.0)
+    in_range(t, p, 10000.0, 30000000.0)
+    not_solid(t, p)
+    out_of_box(t, p, 7000000.0, 8000000.0)
     phase, low, high = "supercritical", 0.05, 1400.0
     if t < 304.1282:
         s = worked(figures.vapour_pressure, t)
@@ -98,15 +108,18 @@ def by_pressure(t, p):
 
 
 def by_density(t, rho):
-    checks(t, rho, 0.1, 1300.0, 350.7, 584.5)
+    in_range(t, rho, 0.1, 1300.0)
+    out_of_box(t, rho, 350.7, 584.5)
     phase = "supercritical"
     if t < 304.1282:
         vapour, liquid = worked(figures.vapour_density, t), worked(figures.liquid_density, t)
         if vapour < rho < liquid:
             raise Refusal(8)
         phase = "liquid" if vapour < rho else "vapour"
-    if not 10000.0 <= worked(equation.pressure, t, rho) <= 30000000.0:
+    p = worked(equation.pressure, t, rho)
+    if not 10000.0 <= p <= 30000000.0:
         raise Refusal(5)
+    not_solid(t, p)
     return state(phase, t, rho)
 
 

@@ -1,5 +1,5 @@
-"""Saturation and the ideal part worked a second time, from 004, RULES 4.7 and docs/ARRANGEMENT.md, sections 8 and 10: the first part of what the program
-`run_figures` must print. The rest, and all of it together, is equation.py's.
+"""Saturation, melting and the ideal part worked a second time, from 004, RULES 4.7 and docs/ARRANGEMENT.md, sections 8, 10 and 11: the first part of what the
+program `run_figures` must print. The rest, and all of it together, is equation.py's.
 
 Each operation is one Python float operation, which is the same f64 operation. Each number is tested as it is worked, where the code tests at the end.
 """
@@ -10,6 +10,7 @@ sys.dont_write_bytecode = True
 import numerics
 
 TEMPERATURE, PRESSURE, DENSITY = 304.1282, 7377300.0, 467.6
+EQ_3_10 = [216.592, 517950.0, 1955.5390, 2055.4593]
 EQ_3_13 = [-7.0602087, 1.9391218, -1.6463597, -3.2995634]
 EQ_3_14 = [1.9245108, -0.62385555, -0.32731127, 0.39245142]
 EQ_3_15 = [-1.7074879, -0.82274670, -4.6008549, -10.111178, -29.742252]
@@ -93,6 +94,12 @@ def vapour_density(t):
     return above_zero(Num(DENSITY) * e_to(total))
 
 
+def melting_pressure(t):
+    tt, pt, a1, a2 = map(Num, EQ_3_10)
+    y = Num(t) / tt - Num(1.0)
+    return pt * (Num(1.0) + a1 * y + a2 * y**2)
+
+
 def first(x):
     tau = Num(x)
     total = Num(A2) + Num(A3) / tau
@@ -123,11 +130,13 @@ def main():
     inf, nan = float("inf"), float("nan")
     line = [216.592, 220.0, 233.15, 250.0, 273.15, 280.0, 295.5, 300.0, 303.5, 304.1, 304.12, 304.12819999999994, 304.1282, 250.29, 267.1, 217.64, 298.53, 271.99]
     off = [305.0, 50.0, 20.0, 3.1, 2.9, 1.0, 0.4, 1e-300, 0.0, -0.0, -5.0, -1000.0, 1e300, inf, -inf, nan]
+    melting = [216.592, 216.59199999999998, 216.59200000000004, 216.5920025, 216.598387, 217.0, 217.5460227897887, 217.54602278978874, 222.7145, 222.7146, 250.0, 304.1282, 523.0,
+               327.673, 1100.0, 216.4812, 100.0, 0.0, -0.0, -300.0, 5e-324, 1e140, 1e151, 1e152, 1e300, -1e300, 1.7976931348623157e308, inf, -inf, nan]
     taus = [0.58, 0.8, 1.0, 1.2, 1.4, 1.4041]
     off_taus = [200.0, 230.0, 1e160, 1e200, 1e300, 3e-17, 1e-17, 1e-154, 1e-160, 1e-200, 0.0, -0.0, -1.0, -13.0, -20.0, -25.7, -25.85, -30.0, inf, -inf, nan]
     saturation = [("vapour pressure", vapour_pressure), ("liquid density", liquid_density), ("vapour density", vapour_density)]
     ideal = [("I1", first), ("I2", second)]
-    for xs, figures in [(line + off, saturation), (taus + off_taus, ideal)]:
+    for xs, figures in [(line + off, saturation), (melting, [("melting pressure", melting_pressure)]), (taus + off_taus, ideal)]:
         for x in xs:
             for name, f in figures:
                 print(f"{name} at {numerics.show(x)} is {numerics.tell(worked(f, x))}")

@@ -1,17 +1,22 @@
--- The checks on the inputs, by what they find. Assumes nothing.
+-- The checks on the inputs and that of the melting line, by what they find. Assumes nothing.
 use Prim.Native.Nat.{ℕ}
 use mathlib.Core.Path.{_≡_, refl}
-use mathlib.Core.Bool.{_&&_, not}
+use mathlib.Core.Bool.{true, _&&_, not}
 use borrow.Author.Tests.{not-true, not-false}
-use lib.Ieee.{Float}
+use lib.Ieee.{Float, lt}
 use lib.Ieee.Scale.{finite}
-use Rattle.num_working.proofs.Cases.{by-test}
+use Rattle.num_working.specs.declared.Worked.the-variants.{Number, Failed}
+use Rattle.num_working.proofs.Cases.{by-test, by-working}
+use Rattle.equation.specs.Equation.{Equation}
 use Rattle.door_limits.specs.Limits.{outside}
 use Rattle.door_limits.specs.declared.Range.{Range}
-use Rattle.door_checks.specs.Check.{ranged}
+use Rattle.door_checks.specs.Check.{ranged, solid}
 use Rattle.door_checks.specs.declared.Check.{Check}
 use Rattle.door_checks.specs.declared.Check.the-variants.{Passed, No}
-use Rattle.demands.specs.Demands.{OutOfRange, no-number, no-temperature, no-value, InRange}
+use Rattle.door_answers.specs.Answer.{passed}
+use Rattle.door_answers.specs.declared.Answer.{Answer}
+use Rattle.door_answers.specs.declared.Answer.the-variants as answer
+use Rattle.demands.specs.Demands.{OutOfRange, no-number, no-temperature, no-value, InRange, Fluid}
 
 module _ (temperature value : Range) (t x : Float) where
   pub data Finds (c : Check) : Type 0 where
@@ -35,3 +40,17 @@ module _ (temperature value : Range) (t x : Float) where
   pub passes-back : InRange temperature value t x → ranged temperature value t x ≡ Passed
   unfolding ranged
   passes-back p = rw (p .numbers, p .temperature, p .value) refl
+
+module _ (E : Equation) (t p : Float) where
+  -- what holds of 7, of 19 and of the answer a where p is fluid, holds of what comes of the check
+  pub melts : (P : Answer → Type 0) (a : Answer) → (E .meltingPressure t ≡ Failed → P (answer.Refused 7))
+      → ((m : Float) → E .meltingPressure t ≡ Number m → lt m p ≡ true → P (answer.Refused 19)) → (Fluid E t p → P a)
+      → P (passed (solid (E .meltingPressure t) p) a)
+  unfolding solid
+  melts P a f s h =
+      by-working (λ (c : Check). P (passed c a)) (E .meltingPressure t) _ _ f
+      (λ m e. by-test (λ (c : Check). P (passed c a)) (lt m p) _ _ (s m e) (λ q. h (record { melting = m; worked = e; not-above = q })))
+
+  pub thawed-back : Fluid E t p → solid (E .meltingPressure t) p ≡ Passed
+  unfolding solid
+  thawed-back f = rw (f .worked, f .not-above) refl

@@ -23,11 +23,13 @@ use Rattle.door_pressure.proofs.from_pressure.Reads as from-pressure
 use Rattle.door_pressure.proofs.Searches.{bits-below}
 use Rattle.door_density.specs.DensityDoor.{densityDoor}
 use Rattle.door_density.proofs.from_density.Reads as from-density
+use Rattle.demands.specs.Demands as demands
 use Rattle.demands.specs.Demands.{Whatever, Exactly, OutOfRange, no-number, no-temperature, no-value, PastP, Ranged}
-use Rattle.demands.specs.Demands.{RefusesP, out-of-range, in-box, line-fails, on-line, vapour-fails}
+use Rattle.demands.specs.Demands.{RefusesP, out-of-range, melting-fails, in-box, line-fails, on-line, vapour-fails}
 use Rattle.demands.specs.Demands.{liquid-fails, no-crossing, probe-fails, state-fails, Answered, RefusesD, out-of-ranges}
 use Rattle.demands.specs.Demands.{in-the-box, no-vapour, no-liquid, between, no-pressure}
-use Rattle.demands.specs.Demands.{pressure-outside, no-state, AnsweredD, Settled, given, not-given, SameEight, LiesInRange}
+use Rattle.demands.specs.Demands.{pressure-outside, no-melting, solid-there, no-state, AnsweredD}
+use Rattle.demands.specs.Demands.{Numbered, to-9, is-19, Settled, given, not-given, SameEight, LiesInRange}
 use Rattle.demands.proofs.PressureDoors.{ends, pressure-refusals, pressure-answers, no-crossing-exactly}
 use Rattle.demands.proofs.DensityDoors.{density-refusals, density-answers}
 
@@ -43,35 +45,39 @@ from-density-refuses a r s h n =
     (λ e. w .0 (sym h ∙ e), λ q. h ∙ w .1 q)
 
 -- so no other number is given
-of-checks : {temperature value : Range} {t x : Float} {n : ℕ} → OutOfRange temperature value t x n → (3 ≤ n) × (n ≤ 9)
-of-checks (no-number e) = (omega arith, omega arith)
-of-checks (no-temperature e f) = (omega arith, omega arith)
-of-checks (no-value e f g) = (omega arith, omega arith)
+of-checks : {temperature value : Range} {t x : Float} {n : ℕ} → OutOfRange temperature value t x n → Numbered 3 n
+of-checks (no-number e) = to-9 (omega arith) (omega arith)
+of-checks (no-temperature e f) = to-9 (omega arith) (omega arith)
+of-checks (no-value e f g) = to-9 (omega arith) (omega arith)
 
-of-pressure : {E : Equation} {L : Limits} {t p : Float} {n : ℕ} → RefusesP E L t p n → (3 ≤ n) × (n ≤ 9)
+of-pressure : {E : Equation} {L : Limits} {t p : Float} {n : ℕ} → RefusesP E L t p n → Numbered 3 n
 of-pressure (out-of-range b) = of-checks b
-of-pressure (in-box r e) = (omega arith, omega arith)
-of-pressure (line-fails q c e) = (omega arith, omega arith)
-of-pressure (on-line q c e f) = (omega arith, omega arith)
-of-pressure (vapour-fails q b e) = (omega arith, omega arith)
-of-pressure (liquid-fails q b e) = (omega arith, omega arith)
-of-pressure (no-crossing q r e) = (omega arith, omega arith)
-of-pressure (probe-fails q r e f) = (omega arith, omega arith)
-of-pressure (state-fails q r e f) = (omega arith, omega arith)
+of-pressure (melting-fails r e) = to-9 (omega arith) (omega arith)
+of-pressure (demands.solid r e h) = is-19
+of-pressure (in-box r f e) = to-9 (omega arith) (omega arith)
+of-pressure (line-fails q c e) = to-9 (omega arith) (omega arith)
+of-pressure (on-line q c e f) = to-9 (omega arith) (omega arith)
+of-pressure (vapour-fails q b e) = to-9 (omega arith) (omega arith)
+of-pressure (liquid-fails q b e) = to-9 (omega arith) (omega arith)
+of-pressure (no-crossing q r e) = to-9 (omega arith) (omega arith)
+of-pressure (probe-fails q r e f) = to-9 (omega arith) (omega arith)
+of-pressure (state-fails q r e f) = to-9 (omega arith) (omega arith)
 
-of-density : {E : Equation} {L : Limits} {t rho : Float} {n : ℕ} → RefusesD E L t rho n → (3 ≤ n) × (n ≤ 9)
+of-density : {E : Equation} {L : Limits} {t rho : Float} {n : ℕ} → RefusesD E L t rho n → Numbered 3 n
 of-density (out-of-ranges b) = of-checks b
-of-density (in-the-box r e) = (omega arith, omega arith)
-of-density (no-vapour q c e) = (omega arith, omega arith)
-of-density (no-liquid q c e f) = (omega arith, omega arith)
-of-density (between q c e f g h) = (omega arith, omega arith)
-of-density (no-pressure q r e) = (omega arith, omega arith)
-of-density (pressure-outside q r e f) = (omega arith, omega arith)
-of-density (no-state q r e f g) = (omega arith, omega arith)
+of-density (in-the-box r e) = to-9 (omega arith) (omega arith)
+of-density (no-vapour q c e) = to-9 (omega arith) (omega arith)
+of-density (no-liquid q c e f) = to-9 (omega arith) (omega arith)
+of-density (between q c e f g h) = to-9 (omega arith) (omega arith)
+of-density (no-pressure q r e) = to-9 (omega arith) (omega arith)
+of-density (pressure-outside q r e f) = to-9 (omega arith) (omega arith)
+of-density (no-melting q r e f m) = to-9 (omega arith) (omega arith)
+of-density (solid-there q r e f m h) = is-19
+of-density (no-state q r e f m g) = to-9 (omega arith) (omega arith)
 
-settled : (r : Answer) → ((n : ℕ) → r ≡ answer.Refused n → (3 ≤ n) × (n ≤ 9)) → Settled r
+settled : (r : Answer) → ((n : ℕ) → r ≡ answer.Refused n → Numbered 3 n) → Settled r
 settled (answer.State x) h = given x refl
-settled (answer.Refused n) h = not-given n refl (h n refl .0) (h n refl .1)
+settled (answer.Refused n) h = not-given refl (h n refl)
 
 pub pressure-settles : (L : Limits) (t p : Float) → Settled (pressureDoor of1996 L t p)
 pressure-settles L t p = settled _ (λ n e. of-pressure (pressure-refusals of1996 L lawful t p n .0 e))

@@ -14,17 +14,18 @@ use Rattle.eos_state.specs.declared.Stated.the-variants.{Known, Unknown}
 use Rattle.equation.specs.Equation.{Equation, Lawful}
 use Rattle.door_limits.specs.Limits.{outside}
 use Rattle.door_limits.specs.declared.Limits.{Limits}
-use Rattle.door_checks.specs.Check.{boxed}
+use Rattle.door_checks.specs.Check.{solid, boxed}
 use Rattle.door_checks.specs.declared.Check.{Check}
 use Rattle.door_checks.specs.declared.Check.the-variants.{Passed, No}
 use Rattle.door_answers.specs.Answer.{passed, answerWith}
 use Rattle.door_answers.specs.declared.Answer.{Answer}
 use Rattle.door_answers.specs.declared.Answer.the-variants as answer
 use Rattle.door_density.specs.DensityDoor.{inPhase, beneath, entered, unboxed, densityDoor}
-use Rattle.demands.specs.Demands.{InRangeD, inBoxD, PastD, Phased, above-critical, as-vapour, as-liquid}
+use Rattle.demands.specs.Demands.{Fluid, InRangeD, inBoxD, PastD, Phased, above-critical, as-vapour, as-liquid}
 use Rattle.demands.specs.Demands.{RefusesD, out-of-ranges, in-the-box, no-vapour, no-liquid}
-use Rattle.demands.specs.Demands.{between, no-pressure, pressure-outside, no-state, AnsweredD, DensityRefusals, DensityAnswers}
-use Rattle.demands.proofs.Checks.{stops, passes, finds, stops-back, passes-back}
+use Rattle.demands.specs.Demands.{between, no-pressure, pressure-outside, no-melting, solid-there, no-state, AnsweredD}
+use Rattle.demands.specs.Demands.{DensityRefusals, DensityAnswers}
+use Rattle.demands.proofs.Checks.{stops, passes, finds, stops-back, passes-back, melts, thawed-back}
 
 module _ (E : Equation) (L : Limits) (lawful : Lawful E) (t rho : Float) where
   -- ---- an answer of the door, explained
@@ -33,10 +34,10 @@ module _ (E : Equation) (L : Limits) (lawful : Lawful E) (t rho : Float) where
     answers : (x : State) → a ≡ answer.State x → AnsweredD E L t rho x → Explains a
 
   module _ (past : PastD E L t rho) where
-    of-state : (phase : Phase) → Phased E L t rho phase → (p : Float) → E .pressure t rho ≡ Number p → outside (L .asked .pressure) p ≡ false
+    of-state : (phase : Phase) → Phased E L t rho phase → (p : Float) → E .pressure t rho ≡ Number p → outside (L .asked .pressure) p ≡ false → Fluid E t p
         → (s : Stated) → E .state t phase rho ≡ s → Explains (answerWith s)
-    of-state phase phased p e o Unknown q = refuses 7 refl (no-state past phased e o q)
-    of-state phase phased p e o (Known y) q =
+    of-state phase phased p e o fluid Unknown q = refuses 7 refl (no-state past phased e o fluid q)
+    of-state phase phased p e o fluid (Known y) q =
         let k = sym (lawful .phase t phase rho y q) in
         let f = lawful .pressure t phase rho y q in
         let same : p ≡ y .p = cc in
@@ -48,6 +49,7 @@ module _ (E : Equation) (L : Limits) (lawful : Lawful E) (t rho : Float) where
           density = lawful .density t phase rho y q;
           pressure = lawful .pressure t phase rho y q;
           within = subst (λ (z : Float). outside (L .asked .pressure) z ≡ false) same o;
+          fluid = subst (Fluid E t) same fluid;
           stated = subst (λ (h : Phase). E .state t h rho ≡ Known y) k q;
         })
 
@@ -56,7 +58,8 @@ module _ (E : Equation) (L : Limits) (lawful : Lawful E) (t rho : Float) where
     of-phase phase phased =
         by-working Explains (E .pressure t rho) _ _ (λ e. refuses 7 refl (no-pressure past phased e))
         (λ p e. by-test Explains (outside (L .asked .pressure) p) _ _ (λ o. refuses 5 refl (pressure-outside past phased e o))
-        (λ o. of-state phase phased p e o (E .state t phase rho) refl))
+        (λ o. melts E t p Explains (answerWith (E .state t phase rho)) (λ m. refuses 7 refl (no-melting past phased e o m))
+        (λ m h. refuses 19 refl (solid-there past phased e o m h)) (λ fluid. of-state phase phased p e o fluid (E .state t phase rho) refl)))
 
     sides : le (E .critical) t ≡ false → (v l : Float) → E .vapourDensity t ≡ Number v → E .liquidDensity t ≡ Number l
         → (a b : Bool) → lt v rho ≡ a → lt rho l ≡ b
@@ -101,7 +104,7 @@ module _ (E : Equation) (L : Limits) (lawful : Lawful E) (t rho : Float) where
   has-phase past (as-liquid cold e f g h) = enters past ∙ rw (cold, e, f, g, h) refl
 
   pub refuses-back : {n : ℕ} → RefusesD E L t rho n → densityDoor E L t rho ≡ answer.Refused n
-  unfolding densityDoor unboxed boxed entered beneath inPhase
+  unfolding densityDoor unboxed boxed entered beneath inPhase solid
   refuses-back (out-of-ranges b) = ap (λ (c : Check). passed c (unboxed E L t rho)) (stops-back (L .asked .temperature) (L .asked .density) t rho b)
   refuses-back (in-the-box r e) = rw (passes-back (L .asked .temperature) (L .asked .density) t rho r, e) refl
   refuses-back (no-vapour past cold e) = enters past ∙ rw (cold, e) refl
@@ -109,7 +112,9 @@ module _ (E : Equation) (L : Limits) (lawful : Lawful E) (t rho : Float) where
   refuses-back (between past cold e f g h) = enters past ∙ rw (cold, e, f, g, h) refl
   refuses-back (no-pressure past phased e) = has-phase past phased ∙ rw e refl
   refuses-back (pressure-outside past phased e o) = has-phase past phased ∙ rw (e, o) refl
-  refuses-back (no-state past phased e o q) = has-phase past phased ∙ rw (e, o, q) refl
+  refuses-back (no-melting past phased e o m) = has-phase past phased ∙ rw (e, o, m) refl
+  refuses-back (solid-there past phased e o m h) = has-phase past phased ∙ rw (e, o, m, h) refl
+  refuses-back (no-state past phased e o fluid q) = has-phase past phased ∙ rw (e, o, fluid .worked, fluid .not-above, q) refl
 
 -- ---- the demands
 module _ (E : Equation) (L : Limits) (lawful : Lawful E) where

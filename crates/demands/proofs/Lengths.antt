@@ -1,6 +1,6 @@
 -- How long a report is, whatever the text: at most 32 lines of 46 bytes and an ending of 40, since each number has 20 digits at most. Assumes nothing.
 use Prim.Native.Nat.{ℕ, _+_, _*_, _^_, _≤_, _<_}
-use mathlib.Core.Path.{_≡_}
+use mathlib.Core.Path.{_≡_, subst}
 use mathlib.Core.List.{List, [], _∷_, _++_, map}
 use native.Mathlib.Omega.{arith}
 use lib.ListN.{length, length-append, length-map}
@@ -24,7 +24,7 @@ use Rattle.sheet_outcome.specs.declared.Weighed.{Weighed}
 use Rattle.sheet_outcome.specs.declared.Ending.{Ending}
 use Rattle.sheet_report.proofs.Reports.{between-length, number-of, line-size}
 use Rattle.sheet_score.specs.Score.{report}
-use Rattle.demands.specs.Demands.{Settled, given, not-given}
+use Rattle.demands.specs.Demands.{Numbered, to-9, is-19, Settled, given, not-given}
 use Rattle.demands.specs.Lines as lines
 use Rattle.demands.specs.Lines.{Asked, by-pressure, by-density, RefusesLine, no-volume, by-door, no-product}
 use Rattle.demands.specs.Sheets as sheets
@@ -39,25 +39,33 @@ asked-settles : {L : Limits} {t : Float} {k : Kind} {f : Field} {a : Answer} →
 asked-settles {L} {t} (by-pressure n) = pressure-settles L t (whole n)
 asked-settles {L} {t} (by-density n) = density-settles L t (div binary64 (whole n) (whole 1000))
 
-door-number : {n : ℕ} → Settled (Answer.Refused n) → (1 ≤ n) × (n ≤ 9)
-door-number {n} (given x e) = let z : _≡_ {A = ℕ} 0 1 = cc in absurd (omega arith)
-door-number {n} (not-given m e h k) = let z : n ≡ m = cc in (omega arith, omega arith)
+from-1 : {n : ℕ} → Numbered 3 n → Numbered 1 n
+from-1 (to-9 h k) = to-9 (omega arith) k
+from-1 is-19 = is-19
 
--- a line is refused by a number from 1 to 9
-pub line-number : {L : Limits} {c : Cylinder} {n : ℕ} → RefusesLine L c n → (1 ≤ n) × (n ≤ 9)
-line-number (lines.blank d) = (omega arith, omega arith)
-line-number (no-volume f r) = (omega arith, omega arith)
+door-number : {n : ℕ} → Settled (Answer.Refused n) → Numbered 1 n
+door-number (given x e) = let z : _≡_ {A = ℕ} 0 1 = cc in absurd (omega arith)
+door-number {n} (not-given {m} e k) = let z : m ≡ n = cc in subst (Numbered 1) z (from-1 k)
+
+-- a line is refused by a number from 1 to 9, or by 19
+pub line-number : {L : Limits} {c : Cylinder} {n : ℕ} → RefusesLine L c n → Numbered 1 n
+line-number (lines.blank d) = to-9 (omega arith) (omega arith)
+line-number (no-volume f r) = to-9 (omega arith) (omega arith)
 line-number (by-door f r) = door-number (asked-settles (f .asked))
-line-number (no-product f r e) = (omega arith, omega arith)
+line-number (no-product f r e) = to-9 (omega arith) (omega arith)
 
 -- ---- the parts
 
 between-most : (front : List ℕ) (n : ℕ) (back : List ℕ) → n < 10 ^ 20 → length (front ++ decimal n ++ back) ≤ length front + 20 + length back
 between-most front n back h = let d = digits-most 19 n h in omega (arith, between-length front n back)
 
--- a line's number: its milligrams, or from 1 to 9
+numbered-most : {n : ℕ} → Numbered 1 n → n < 10 ^ 20
+numbered-most (to-9 h k) = omega arith
+numbered-most is-19 = omega arith
+
+-- a line's number: its milligrams, or its refusal's
 number-most : {L : Limits} {c : Cylinder} {w : Weighed} → Comes L c w → Under w → number-of w < 10 ^ 20
-number-most (refused r) u = omega (arith, line-number r .1)
+number-most (refused r) u = numbered-most (line-number r)
 number-most (weighs r) u = omega arith
 
 line-most : (L : Limits) (c : Cylinder) (i : ℕ) → i < 10 ^ 20 → length (lineBytes i (weighed L (lineOf c))) ≤ 46

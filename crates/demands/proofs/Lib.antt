@@ -3,6 +3,8 @@ pub mod Checks
 pub mod PressureDoors
 pub mod DensityDoors
 pub mod Demands
+pub mod Fluids
+pub mod Before
 pub mod Lines
 pub mod Sheets
 pub mod Lengths

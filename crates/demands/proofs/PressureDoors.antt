@@ -19,22 +19,22 @@ use Rattle.eos_state.specs.declared.Stated.the-variants.{Known, Unknown}
 use Rattle.equation.specs.Equation.{Equation, Lawful}
 use Rattle.door_limits.specs.Limits.{searchEnds}
 use Rattle.door_limits.specs.declared.Limits.{Limits}
-use Rattle.door_checks.specs.Check.{boxed}
+use Rattle.door_checks.specs.Check.{solid, boxed}
 use Rattle.door_checks.specs.declared.Check.{Check}
 use Rattle.door_checks.specs.declared.Check.the-variants.{Passed, No}
 use Rattle.door_answers.specs.Answer.{passed, answerWith}
 use Rattle.door_answers.specs.declared.Answer.{Answer}
 use Rattle.door_answers.specs.declared.Answer.the-variants as answer
 use Rattle.door_pressure.specs.Search.{figure, found, searched}
-use Rattle.door_pressure.specs.PressureDoor.{scaled, vapour, liquid, beneath, entered, unboxed, pressureDoor}
+use Rattle.door_pressure.specs.PressureDoor.{scaled, vapour, liquid, beneath, entered, unboxed, thawed, pressureDoor}
 use Rattle.door_pressure.proofs.Doors.{Reached, searchable, scaled-reached}
 use Rattle.door_pressure.proofs.Searches.{bits-below}
 use Rattle.demands.specs.Demands as demands
-use Rattle.demands.specs.Demands.{InRangeP, inBoxP, PastP, Beside, lower, higher, Ranged}
-use Rattle.demands.specs.Demands.{supercritical, RefusesP, out-of-range, in-box, line-fails, on-line}
+use Rattle.demands.specs.Demands.{Fluid, InRangeP, inBoxP, PastP, Beside, lower, higher, Ranged}
+use Rattle.demands.specs.Demands.{supercritical, RefusesP, out-of-range, melting-fails, in-box, line-fails, on-line}
 use Rattle.demands.specs.Demands.{vapour-fails, liquid-fails, no-crossing, probe-fails, state-fails}
 use Rattle.demands.specs.Demands.{Answered, PressureRefusals, PressureAnswers, NoCrossingExactly}
-use Rattle.demands.proofs.Checks.{stops, passes, finds, stops-back, passes-back}
+use Rattle.demands.proofs.Checks.{stops, passes, finds, stops-back, passes-back, melts, thawed-back}
 
 -- ---- the ends of a range have no minus sign, and are numbers that an f64 holds
 pub record Ends (from to : Float) : Type 0 where
@@ -118,23 +118,29 @@ module _ (E : Equation) (L : Limits) (lawful : Lawful E) (t p : Float) where
     unfolding entered
     of-entered = by-test Explains (le (E .critical) t) _ _ (λ e. of-search Supercritical (searchEnds .from) (searchEnds .to) (supercritical e)) of-beneath
 
-  of-unboxed : InRangeP E L t p → Explains (unboxed E L t p)
+  of-unboxed : InRangeP E L t p → Fluid E t p → Explains (unboxed E L t p)
   unfolding unboxed boxed
-  of-unboxed r =
-      by-test (λ (c : Check). Explains (passed c (entered E t p))) (inBoxP E L t p) (No 6) Passed (λ e. refuses 6 refl (in-box r e))
-      (λ e. of-entered (record { ranged = r; unboxed = e }))
+  of-unboxed r f =
+      by-test (λ (c : Check). Explains (passed c (entered E t p))) (inBoxP E L t p) (No 6) Passed (λ e. refuses 6 refl (in-box r f e))
+      (λ e. of-entered (record { ranged = r; fluid = f; unboxed = e }))
+
+  of-thawed : InRangeP E L t p → Explains (thawed E L t p)
+  unfolding thawed
+  of-thawed r =
+      melts E t p Explains (unboxed E L t p) (λ e. refuses 7 refl (melting-fails r e)) (λ m e h. refuses 19 refl (demands.solid r e h)) (of-unboxed r)
 
   pub explained : Explains (pressureDoor E L t p)
   unfolding pressureDoor
   explained = elim (finds (L .asked .temperature) (L .asked .pressure) t p) [
-    | stops n e b ↦ refuses n (ap (λ (c : Check). passed c (unboxed E L t p)) e) (out-of-range b)
-    | passes e r ↦ subst (λ (c : Check). Explains (passed c (unboxed E L t p))) (sym e) (of-unboxed r)
+    | stops n e b ↦ refuses n (ap (λ (c : Check). passed c (thawed E L t p)) e) (out-of-range b)
+    | passes e r ↦ subst (λ (c : Check). Explains (passed c (thawed E L t p))) (sym e) (of-thawed r)
   ]
 
   -- ---- and back
   enters : PastP E L t p → pressureDoor E L t p ≡ entered E t p
-  unfolding pressureDoor unboxed boxed
-  enters past = rw (passes-back (L .asked .temperature) (L .asked .pressure) t p (past .ranged), past .unboxed) refl
+  unfolding pressureDoor thawed unboxed boxed
+  enters past =
+      rw (passes-back (L .asked .temperature) (L .asked .pressure) t p (past .ranged), thawed-back E t p (past .fluid), past .unboxed) refl
 
   goes-beneath : {phase : Phase} → PastP E L t p → Beside E L t p phase → pressureDoor E L t p ≡ beneath E t p
   unfolding entered
@@ -149,9 +155,11 @@ module _ (E : Equation) (L : Limits) (lawful : Lawful E) (t p : Float) where
   searches past (demands.liquid (higher cold e off q) w) = enters past ∙ rw (cold, e, off, q, w) refl
 
   pub refuses-back : {n : ℕ} → RefusesP E L t p n → pressureDoor E L t p ≡ answer.Refused n
-  unfolding pressureDoor unboxed boxed entered beneath vapour liquid searched
-  refuses-back (out-of-range b) = ap (λ (c : Check). passed c (unboxed E L t p)) (stops-back (L .asked .temperature) (L .asked .pressure) t p b)
-  refuses-back (in-box r e) = rw (passes-back (L .asked .temperature) (L .asked .pressure) t p r, e) refl
+  unfolding pressureDoor thawed solid unboxed boxed entered beneath vapour liquid searched
+  refuses-back (out-of-range b) = ap (λ (c : Check). passed c (thawed E L t p)) (stops-back (L .asked .temperature) (L .asked .pressure) t p b)
+  refuses-back (melting-fails r e) = rw (passes-back (L .asked .temperature) (L .asked .pressure) t p r, e) refl
+  refuses-back (demands.solid r e h) = rw (passes-back (L .asked .temperature) (L .asked .pressure) t p r, e, h) refl
+  refuses-back (in-box r f e) = rw (passes-back (L .asked .temperature) (L .asked .pressure) t p r, thawed-back E t p f, e) refl
   refuses-back (line-fails past cold e) = enters past ∙ rw (cold, e) refl
   refuses-back (on-line past cold e q) = enters past ∙ rw (cold, e, q) refl
   refuses-back (vapour-fails past (lower cold e off q) w) = enters past ∙ rw (cold, e, off, q, w) refl

@@ -7,8 +7,8 @@ use Rattle.num_working.specs.declared.Worked.{Worked}
 use Rattle.num_formulas.specs.Readings as numerics
 use Rattle.num_formulas.proofs.Readings as numerics-read
 use Rattle.door_limits.specs.Limits.{document01}
-use Rattle.door_checks.specs.Check.{ranged, boxed}
-use Rattle.door_pressure.specs.PressureDoor.{unboxed, pressureDoor}
+use Rattle.door_checks.specs.Check.{ranged, solid, boxed}
+use Rattle.door_pressure.specs.PressureDoor.{unboxed, thawed, pressureDoor}
 use Rattle.sheet_weigh.specs.Weighing.{filled, byReading, weighed}
 use Rattle.demands.specs.Readings.{Read, number, Starred, passes, of-checks, of-lines, readings}
 

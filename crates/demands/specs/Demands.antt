@@ -38,6 +38,12 @@ module _ (ts xs : Range) (t x : Float) where
   abbrev pub inBox : Bool
   inBox = not (outside ts t) && not (outside xs x)
 
+-- ---- RULES 5.4: not solid, which is at the melting pressure or below it
+pub record Fluid (E : Equation) (t p : Float) : Type 0 where
+  pub melting : Float
+  pub worked : E .meltingPressure t ≡ Number melting
+  pub not-above : lt melting p ≡ false
+
 module _ (E : Equation) (L : Limits) where
   -- ---- RULES 5.1: the pressure door
   module _ (t p : Float) where
@@ -49,6 +55,7 @@ module _ (E : Equation) (L : Limits) where
 
     pub record PastP : Type 0 where
       pub ranged : InRangeP
+      pub fluid : Fluid E t p
       pub unboxed : inBoxP ≡ false
 
     -- below the critical temperature: p lower than the vapour pressure there, or higher
@@ -65,7 +72,9 @@ module _ (E : Equation) (L : Limits) where
     -- when the door refuses, and by which number
     pub data RefusesP : ℕ → Type 0 where
       out-of-range : {n : ℕ} → OutOfRange (L .asked .temperature) (L .asked .pressure) t p n → RefusesP n
-      in-box : InRangeP → inBoxP ≡ true → RefusesP 6
+      melting-fails : InRangeP → E .meltingPressure t ≡ Failed → RefusesP 7
+      solid : {m : Float} → InRangeP → E .meltingPressure t ≡ Number m → lt m p ≡ true → RefusesP 19
+      in-box : InRangeP → Fluid E t p → inBoxP ≡ true → RefusesP 6
       line-fails : PastP → le (E .critical) t ≡ false → E .vapourPressure t ≡ Failed → RefusesP 7
       on-line : {s : Float} → PastP → le (E .critical) t ≡ false → E .vapourPressure t ≡ Number s → eq p s ≡ true → RefusesP 8
       vapour-fails : PastP → Beside Vapour → scaled (searchEnds .vapour) (E .vapourDensity t) ≡ Failed → RefusesP 7
@@ -117,7 +126,10 @@ module _ (E : Equation) (L : Limits) where
       between : {v l : Float} → PastD → le (E .critical) t ≡ false → E .vapourDensity t ≡ Number v → E .liquidDensity t ≡ Number l → lt v rho ≡ true → lt rho l ≡ true → RefusesD 8
       no-pressure : {phase : Phase} → PastD → Phased phase → E .pressure t rho ≡ Failed → RefusesD 7
       pressure-outside : {phase : Phase} {p : Float} → PastD → Phased phase → E .pressure t rho ≡ Number p → outside (L .asked .pressure) p ≡ true → RefusesD 5
-      no-state : {phase : Phase} {p : Float} → PastD → Phased phase → E .pressure t rho ≡ Number p → outside (L .asked .pressure) p ≡ false → E .state t phase rho ≡ Unknown → RefusesD 7
+      no-melting : {phase : Phase} {p : Float} → PastD → Phased phase → E .pressure t rho ≡ Number p → outside (L .asked .pressure) p ≡ false → E .meltingPressure t ≡ Failed → RefusesD 7
+      solid-there : {phase : Phase} {p m : Float} → PastD → Phased phase → E .pressure t rho ≡ Number p → outside (L .asked .pressure) p ≡ false
+          → E .meltingPressure t ≡ Number m → lt m p ≡ true → RefusesD 19
+      no-state : {phase : Phase} {p : Float} → PastD → Phased phase → E .pressure t rho ≡ Number p → outside (L .asked .pressure) p ≡ false → Fluid E t p → E .state t phase rho ≡ Unknown → RefusesD 7
 
     pub record AnsweredD (x : State) : Type 0 where
       pub past : PastD
@@ -126,6 +138,7 @@ module _ (E : Equation) (L : Limits) where
       pub density : x .rho ≡ rho
       pub pressure : E .pressure t rho ≡ Number (x .p)
       pub within : outside (L .asked .pressure) (x .p) ≡ false
+      pub fluid : Fluid E t (x .p)
       pub stated : E .state t (x .phase) rho ≡ Known x
 
 -- ---- the demands
@@ -133,10 +146,15 @@ module _ (E : Equation) (L : Limits) where
 abbrev pub Exactly : Type 0 → Type 0 → Type 0
 Exactly A B = (A → B) × (B → A)
 
--- demand 1: whatever numbers come in, there is an answer or one of a door's refusals, 3 to 9, and a refused state carries no figures
+-- RULES 3.1: the numbers of refusals from one on, a door's from 3 and a line's from 1, up to 9; and 19
+pub data Numbered (first : ℕ) : ℕ → Type 0 where
+  to-9 : {n : ℕ} → first ≤ n → n ≤ 9 → Numbered first n
+  is-19 : Numbered first 19
+
+-- demand 1: whatever numbers come in, there is an answer or one of a door's refusals, and a refused state carries no figures
 pub data Settled (a : Answer) : Type 0 where
   given : (x : State) → a ≡ answer.State x → Settled a
-  not-given : (n : ℕ) → a ≡ answer.Refused n → 3 ≤ n → n ≤ 9 → Settled a
+  not-given : {n : ℕ} → a ≡ answer.Refused n → Numbered 3 n → Settled a
 
 module _ (E : Equation) (L : Limits) where
   -- each refusal exactly under its condition
@@ -164,6 +182,10 @@ module _ (E : Equation) (L : Limits) where
   -- RULES 5.3: where the density door answers for what the pressure door gave, none of the eight numbers differs by a bit
   abbrev pub SameEight : Type 0
   SameEight = (t p : Float) (x y : State) → pressureDoor E L t p ≡ answer.State x → densityDoor E L t (x .rho) ≡ answer.State y → eight y ≡ eight x
+
+  -- and it never calls that solid
+  abbrev pub FluidBothWays : Type 0
+  FluidBothWays = (t p : Float) (x : State) → pressureDoor E L t p ≡ answer.State x → densityDoor E L t (x .rho) ≡ answer.Refused 19 → ⊥
 
 -- whatever meets a public function's promise (`Post`, its own `ensures`) has it: called with a it answers r, and s is what a holds afterwards
 abbrev pub Whatever : {A S : Type 0} → (A → Answer → S → Type 0) → (A → Answer → Type 0) → Type 0

@@ -1,4 +1,5 @@
 pub mod Demands
+pub mod Before
 pub mod Lines
 pub mod Sheets
 pub mod Readings

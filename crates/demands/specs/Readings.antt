@@ -55,6 +55,9 @@ of-lines =
     ∷ gives (written 3031282 7000000 40000) 6
     ∷ gives (written 2000000 5000000 0) 2
     ∷ gives (written 3000000 5000000 1000001) 2
+    ∷ gives (written 2165920 5000000 40000) 19
+    ∷ gives (written 2170000 5000000 40000) 19
+    ∷ gives (written 2165920 30000001 40000) 5
     ∷ []
 
 abbrev of-numeric : numerics.Starred → Starred

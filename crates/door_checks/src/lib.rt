@@ -1,10 +1,12 @@
-// RULES 3.1 and 3.3: the checks on what is asked of a door, in two pieces: 3, 4 and 5, and 6.
+// RULES 3.1 and 3.3: the checks on what is asked of a door, in two pieces: 3, 4 and 5, and 6; and RULES 5.4, the check
+// of the melting line on a pressure, asked or worked.
 ghost use mathlib.Core.Path.{_≡_};
 ghost use mathlib.Core.Bool.{_&&_};
 ghost use lib.Ieee.Scale.{finite};
-ghost use Rattle.door_checks.specs.Check.{boxed, numberOf, ranged};
+ghost use Rattle.door_checks.specs.Check.{boxed, numberOf, ranged, solid};
 use door_limits::Range;
 use door_limits::is_outside;
+use num_working::Worked;
 use num_working::is_finite;
 
 pub enum Check {
@@ -40,6 +42,19 @@ pub fn in_range(temperature: Range, value: Range, t: f64, x: f64) -> Check
     }
     if is_outside(value, x) {
         return Check::No(5);
+    }
+    Check::Passed
+}
+
+// 19, with the melting pressure; 7 where that failed.
+pub fn not_solid(melting: Worked, p: f64) -> Check
+    ensures { λ r. ⌜ r ≡ solid melting p ⌝ }
+{
+    let Worked::Number(m) = melting else {
+        return Check::No(7);
+    };
+    if m < p {
+        return Check::No(19);
     }
     Check::Passed
 }

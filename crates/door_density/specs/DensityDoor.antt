@@ -7,17 +7,18 @@ use Rattle.eos_state.specs.declared.Phase.the-variants.{Vapour, Liquid, Supercr
 use Rattle.equation.specs.Equation.{Equation}
 use Rattle.door_limits.specs.Limits.{outside}
 use Rattle.door_limits.specs.declared.Limits.{Limits}
-use Rattle.door_checks.specs.Check.{ranged, boxed}
+use Rattle.door_checks.specs.Check.{ranged, solid, boxed}
 use Rattle.door_answers.specs.Answer.{passed, answerWith}
 use Rattle.door_answers.specs.declared.Answer.{Answer}
 use Rattle.door_answers.specs.declared.Answer.the-variants as answer
 
 module _ (E : Equation) (L : Limits) where
-  -- the pressure is worked: 7 where that fails, 5 where it is out of its range; then the rest of the state
+  -- the pressure is worked: 7 where that fails, 5 where it is out of its range, 19 where it is above the melting pressure; then the rest of the state
   unfoldable pub inPhase : Phase → Float → Float → Answer
   inPhase phase t rho =
       orElse (E .pressure t rho) (answer.Refused 7) (λ p.
-      cond (outside (L .asked .pressure) p) (answer.Refused 5) (answerWith (E .state t phase rho)))
+      cond (outside (L .asked .pressure) p) (answer.Refused 5)
+      (passed (solid (E .meltingPressure t) p) (answerWith (E .state t phase rho))))
 
   -- below the critical temperature, with the saturated densities, the vapour's first: 8 strictly between them, vapour up to the vapour's, else liquid
   unfoldable pub beneath : Float → Float → Answer

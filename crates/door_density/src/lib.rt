@@ -7,6 +7,7 @@ use door_answers::Answer;
 use door_answers::answer_with;
 use door_checks::Check;
 use door_checks::in_range;
+use door_checks::not_solid;
 use door_checks::number_of;
 use door_checks::out_of_box;
 use door_limits::Limits;
@@ -15,6 +16,7 @@ use eos_state::Phase;
 use equation::critical_temperature;
 use equation::curve_at;
 use equation::liquid_density;
+use equation::melting_pressure;
 use equation::pressure_on;
 use equation::state_on;
 use equation::vapour_density;
@@ -30,6 +32,10 @@ fn in_phase(l: Limits, phase: Phase, t: f64, rho: f64) -> Answer
     if is_outside(l.asked.pressure, p) {
         return Answer::Refused(5);
     }
+    let c = not_solid(melting_pressure(t), p);
+    let Check::Passed = c else {
+        return Answer::Refused(number_of(c));
+    };
     answer_with(state_on(curve, phase, rho))
 }
 

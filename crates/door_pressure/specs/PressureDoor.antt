@@ -9,7 +9,7 @@ use Rattle.eos_state.specs.declared.Phase.the-variants.{Vapour, Liquid, Supercr
 use Rattle.equation.specs.Equation.{Equation}
 use Rattle.door_limits.specs.Limits.{searchEnds}
 use Rattle.door_limits.specs.declared.Limits.{Limits}
-use Rattle.door_checks.specs.Check.{ranged, boxed}
+use Rattle.door_checks.specs.Check.{ranged, solid, boxed}
 use Rattle.door_answers.specs.Answer.{passed}
 use Rattle.door_answers.specs.declared.Answer.{Answer}
 use Rattle.door_answers.specs.declared.Answer.the-variants as answer
@@ -45,10 +45,13 @@ module _ (E : Equation) where
       cond (le (E .critical) t) (searched (E .pressure t) (E .state t Supercritical) (searchEnds .from) (searchEnds .to) p)
       (beneath t p)
 
-  -- RULES 3.3: 3, 4, 5 and 6 on what is asked, and then the steps
+  -- RULES 3.3: 3, 4 and 5 on what is asked, 19, 6, and then the steps
   module _ (L : Limits) where
     unfoldable pub unboxed : Float → Float → Answer
     unboxed t p = passed (boxed (L .critical .temperature) (L .critical .pressure) t p) (entered t p)
 
+    unfoldable pub thawed : Float → Float → Answer
+    thawed t p = passed (solid (E .meltingPressure t) p) (unboxed t p)
+
     unfoldable pub pressureDoor : Float → Float → Answer
-    pressureDoor t p = passed (ranged (L .asked .temperature) (L .asked .pressure) t p) (unboxed t p)
+    pressureDoor t p = passed (ranged (L .asked .temperature) (L .asked .pressure) t p) (thawed t p)

@@ -4,11 +4,12 @@ mod search;
 
 ghost use mathlib.Core.Path.{_≡_};
 ghost use Rattle.equation.specs.Equation.{of1996};
-ghost use Rattle.door_pressure.specs.PressureDoor.{scaled, vapour, liquid, beneath, entered, unboxed, pressureDoor};
+ghost use Rattle.door_pressure.specs.PressureDoor.{scaled, vapour, liquid, beneath, entered, unboxed, thawed, pressureDoor};
 use crate::search::search_at;
 use door_answers::Answer;
 use door_checks::Check;
 use door_checks::in_range;
+use door_checks::not_solid;
 use door_checks::number_of;
 use door_checks::out_of_box;
 use door_limits::Limits;
@@ -16,6 +17,7 @@ use door_limits::search_ends;
 use eos_state::Phase;
 use equation::critical_temperature;
 use equation::liquid_density;
+use equation::melting_pressure;
 use equation::vapour_density;
 use equation::vapour_pressure;
 use num_working::Worked;
@@ -78,7 +80,7 @@ fn enter(t: f64, p: f64) -> Answer
     beneath(t, p)
 }
 
-// Past 3, 4 and 5.
+// Past 3, 4, 5 and 19.
 fn unbox(l: Limits, t: f64, p: f64) -> Answer
     ensures { λ r. ⌜ r ≡ unboxed of1996 l t p ⌝ }
 {
@@ -89,6 +91,17 @@ fn unbox(l: Limits, t: f64, p: f64) -> Answer
     enter(t, p)
 }
 
+// Past 3, 4 and 5.
+fn thaw(l: Limits, t: f64, p: f64) -> Answer
+    ensures { λ r. ⌜ r ≡ thawed of1996 l t p ⌝ }
+{
+    let c = not_solid(melting_pressure(t), p);
+    let Check::Passed = c else {
+        return Answer::Refused(number_of(c));
+    };
+    unbox(l, t, p)
+}
+
 pub fn from_pressure(l: Limits, t: f64, p: f64) -> Answer
     ensures { λ r. ⌜ r ≡ pressureDoor of1996 l t p ⌝ }
 {
@@ -96,5 +109,5 @@ pub fn from_pressure(l: Limits, t: f64, p: f64) -> Answer
     let Check::Passed = c else {
         return Answer::Refused(number_of(c));
     };
-    unbox(l, t, p)
+    thaw(l, t, p)
 }

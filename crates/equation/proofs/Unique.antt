@@ -7,6 +7,7 @@ use Rattle.equation.specs.declared.Curve.{Curve}
 use Rattle.equation.proofs.critical_temperature.Reads as critical-temperature
 use Rattle.equation.proofs.curve_at.Reads as curve-at
 use Rattle.equation.proofs.liquid_density.Reads as liquid-density
+use Rattle.equation.proofs.melting_pressure.Reads as melting-pressure
 use Rattle.equation.proofs.pressure_on.Reads as pressure-on
 use Rattle.equation.proofs.state_on.Reads as state-on
 use Rattle.equation.proofs.vapour_density.Reads as vapour-density
@@ -23,6 +24,9 @@ vapour-density-once a r s x y = by-equation
 
 pub liquid-density-once : OneAnswer Worked (liquid-density.Post tt)
 liquid-density-once a r s x y = by-equation
+
+pub melting-pressure-once : OneAnswer Worked (melting-pressure.Post tt)
+melting-pressure-once a r s x y = by-equation
 
 pub curve-at-once : OneAnswer Curve (curve-at.Post tt)
 curve-at-once a r s x y = by-equation

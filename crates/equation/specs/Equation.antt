@@ -8,6 +8,7 @@ use Rattle.num_working.specs.declared.Worked.the-variants.{Number}
 use Rattle.eos_constants.specs.Constant.{spanWagner}
 use Rattle.eos_saturation.specs.Saturation as saturation
 use Rattle.eos_densities.specs.Density as density
+use Rattle.eos_melting.specs.Melting as melting
 use Rattle.eos_isotherm.specs.Isotherm.{isotherm}
 use Rattle.eos_pressure.specs.Pressure as pressure
 use Rattle.eos_state.specs.State as state
@@ -24,6 +25,7 @@ pub record Equation : Type 0 where
   pub vapourPressure : Float → Worked
   pub vapourDensity : Float → Worked
   pub liquidDensity : Float → Worked
+  pub meltingPressure : Float → Worked
   -- at a temperature and a density
   pub pressure : Float → Float → Worked
   pub state : Float → Phase → Float → Stated
@@ -46,6 +48,7 @@ of1996 = record {
   vapourPressure = saturation.vapourPressure;
   vapourDensity = density.vapourDensity;
   liquidDensity = density.liquidDensity;
+  meltingPressure = melting.meltingPressure;
   pressure = λ t. pressureOn (curve t);
   state = λ t. stateOn (curve t);
 }

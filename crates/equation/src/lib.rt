@@ -37,6 +37,12 @@ pub fn liquid_density(t: f64) -> Worked
     eos_densities::liquid_density(t)
 }
 
+pub fn melting_pressure(t: f64) -> Worked
+    ensures { λ r. ⌜ r ≡ of1996 .meltingPressure t ⌝ }
+{
+    eos_melting::melting_pressure(t)
+}
+
 pub fn curve_at(t: f64) -> Curve
     ensures { λ r. ⌜ r ≡ curve t ⌝ }
 {

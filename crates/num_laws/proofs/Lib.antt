@@ -1,4 +1,5 @@
 pub mod Orders
+pub mod Comparisons
 pub mod Halves
 pub mod Units
 pub mod Parts

@@ -1,6 +1,7 @@
 //! RULES 3.3 and 5: the doors.
 
 use crate::equation::{isotherm, pressure, state, Isotherm, CRITICAL_TEMPERATURE};
+use crate::melting::melting_pressure;
 use crate::numbers::{halve, Halved};
 use crate::saturation::{liquid_density, vapour_density, vapour_pressure};
 
@@ -26,16 +27,32 @@ fn within(x: f64, [low, high]: [f64; 2]) -> bool {
     low <= x && x <= high
 }
 
-/// RULES 3.3: 3, 4, 5 and 6, on what was asked.
-fn check(t: f64, x: f64, range: [f64; 2], of_box: [f64; 2]) -> Result<(), u32> {
+/// RULES 3.3: 3, 4 and 5, on what was asked.
+fn in_range(t: f64, x: f64, range: [f64; 2]) -> Result<(), u32> {
     if !t.is_finite() || !x.is_finite() {
         Err(3)
     } else if !within(t, TEMPERATURES) {
         Err(4)
     } else if !within(x, range) {
         Err(5)
-    } else if within(t, BOX_TEMPERATURES) && within(x, of_box) {
+    } else {
+        Ok(())
+    }
+}
+
+/// And 6.
+fn out_of_box(t: f64, x: f64, of_box: [f64; 2]) -> Result<(), u32> {
+    if within(t, BOX_TEMPERATURES) && within(x, of_box) {
         Err(6)
+    } else {
+        Ok(())
+    }
+}
+
+/// RULES 5.4: 19, on the pressure asked or worked.
+fn not_solid(t: f64, p: f64) -> Result<(), u32> {
+    if p > melting_pressure(t).ok_or(7u32)? {
+        Err(19)
     } else {
         Ok(())
     }
@@ -46,7 +63,9 @@ fn settle(phase: Phase, on: &Isotherm, rho: f64) -> Answer {
 }
 
 pub fn from_pressure(t: f64, p: f64) -> Answer {
-    check(t, p, PRESSURES, BOX_PRESSURES)?;
+    in_range(t, p, PRESSURES)?;
+    not_solid(t, p)?;
+    out_of_box(t, p, BOX_PRESSURES)?;
     let (phase, low, high) = if t >= CRITICAL_TEMPERATURE {
         (Phase::Supercritical, 0.05, 1400.0)
     } else {
@@ -72,7 +91,8 @@ pub fn from_pressure(t: f64, p: f64) -> Answer {
 }
 
 pub fn from_density(t: f64, rho: f64) -> Answer {
-    check(t, rho, DENSITIES, BOX_DENSITIES)?;
+    in_range(t, rho, DENSITIES)?;
+    out_of_box(t, rho, BOX_DENSITIES)?;
     let phase = if t >= CRITICAL_TEMPERATURE {
         Phase::Supercritical
     } else {
@@ -95,6 +115,7 @@ pub fn from_density(t: f64, rho: f64) -> Answer {
     if !within(p, PRESSURES) {
         return Err(5);
     }
+    not_solid(t, p)?;
     settle(phase, &on, rho)
 }
 
@@ -106,9 +127,21 @@ mod tests {
     fn readings_of_document_01() {
         let from = |t: u32, p: u32| from_pressure(f64::from(t) / 10000.0, f64::from(p)).map(|_| ());
         assert_eq!([2165919, 5230001].map(|t| from(t, 5000000)), [Err(4), Err(4)]);
-        assert_eq!([2165920, 5230000].map(|t| from(t, 5000000)), [Ok(()), Ok(())]);
+        assert_eq!([2165920, 5230000].map(|t| from(t, 5000000)), [Err(19), Ok(())]);
         assert_eq!([9999, 10000, 30000000, 30000001].map(|p| from(3000000, p)), [Err(5), Ok(()), Ok(()), Err(5)]);
         assert_eq!([3031282, 3031281].map(|t| from(t, 7000000)), [Err(6), Ok(())]);
+    }
+
+    #[test]
+    fn readings_of_the_melting_line() {
+        let by_pressure = |t: u32, p: u32| from_pressure(f64::from(t) / 10000.0, f64::from(p)).map(|_| ());
+        let by_density = |t: u32, rho: u32| from_density(f64::from(t) / 10000.0, f64::from(rho) / 1000.0).map(|_| ());
+        assert_eq!([5000000, 2429700, 2429701].map(|p| by_pressure(2170000, p)), [Err(19), Ok(()), Err(19)]);
+        assert_eq!([1186152, 1180969, 1180970].map(|rho| by_density(2170000, rho)), [Err(19), Ok(()), Err(19)]);
+        assert_eq!([2175460, 2175461].map(|t| by_pressure(t, 5000000)), [Err(19), Ok(())]);
+        assert_eq!([2227145, 2227146].map(|t| by_pressure(t, 30000000)), [Err(19), Ok(())]);
+        assert_eq!([517950, 517951, 30000001].map(|p| by_pressure(2165920, p)), [Ok(()), Err(19), Err(5)]);
+        assert_eq!([13760, 13761].map(|rho| by_density(2165920, rho)), [Ok(()), Err(19)]);
     }
 
     #[test]

@@ -7,6 +7,7 @@
 
 mod doors;
 mod equation;
+mod melting;
 mod numbers;
 mod saturation;
 mod sheet;
@@ -70,6 +71,9 @@ fn compare(states: u64, texts: u64, seed: u64, threads: usize) -> ExitCode {
         seconds += took.as_secs_f64();
         for (index, told) in &tally.first {
             println!("case {index}: {told}");
+        }
+        for (change, times) in &tally.changes {
+            println!("{times:>9} times {change}");
         }
     }
     println!("seed {seed}, {seconds:.1} s, digest of what is right {digest:016x}");

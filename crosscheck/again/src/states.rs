@@ -3,17 +3,19 @@
 use crate::doors::{self, Answer, Phase, BOX_DENSITIES, BOX_PRESSURES, BOX_TEMPERATURES, DENSITIES, PRESSURES, TEMPERATURES};
 use crate::equation::{isotherm, pressure, CRITICAL_DENSITY, CRITICAL_TEMPERATURE};
 use crate::library;
+use crate::melting::melting_pressure;
 use crate::rng::Rng;
 use crate::saturation::{liquid_density, vapour_density, vapour_pressure};
 use crate::tally::{digest, run, Tally};
 use std::time::Duration;
 
-const KINDS: [&str; 12] = [
+const KINDS: [&str; 13] = [
     "spread evenly",
     "every float alike",
     "ends of the ranges, neighbours",
     "critical temperature, neighbours",
     "saturation line, neighbours",
+    "melting line, neighbours",
     "critical box, edges, neighbours",
     "about the critical point",
     "whole numbers of a sheet",
@@ -23,8 +25,8 @@ const KINDS: [&str; 12] = [
     "infinities, NaNs, zeros, ends",
 ];
 /// Out of 100.
-const SHARES: [u64; 12] = [24, 14, 10, 6, 12, 8, 6, 6, 4, 4, 4, 2];
-const ANSWERS: [u32; 11] = [256, 257, 258, 3, 4, 5, 6, 7, 8, 9, 15];
+const SHARES: [u64; 13] = [22, 14, 10, 6, 10, 4, 8, 6, 6, 4, 4, 4, 2];
+const ANSWERS: [u32; 12] = [256, 257, 258, 3, 4, 5, 6, 7, 8, 9, 15, 19];
 
 #[derive(Clone, Copy, PartialEq)]
 enum Door {
@@ -56,6 +58,21 @@ impl Door {
     }
 }
 
+/// A density of liquid, or at the floor now and then of vapour, at which the pressure passes p, or a float beside it.
+fn density_about(t: f64, p: f64, rng: &mut Rng) -> f64 {
+    let [mut low, mut high] = if t < 216.5921 && rng.one_in(2) { [13.0, 14.0] } else { [1170.0, 1230.0] };
+    let on = isotherm(t);
+    for _ in 0..60 {
+        let mid = 0.5 * (low + high);
+        if pressure(&on, mid) > p {
+            high = mid;
+        } else {
+            low = mid;
+        }
+    }
+    rng.near(low, 2)
+}
+
 /// A temperature and a pressure or density of the kind.
 fn case_of(rng: &mut Rng, door: Door, kind: usize) -> (f64, f64) {
     let (range, of_box) = door.ranges();
@@ -84,6 +101,24 @@ fn case_of(rng: &mut Rng, door: Door, kind: usize) -> (f64, f64) {
             (t, if rng.one_in(3) { saturated } else { rng.near(saturated, 4) })
         }
         5 => {
+            // from the floor to where the line leaves the range of pressures, and a little on
+            let t = match rng.below(4) {
+                0 => rng.near(TEMPERATURES[0], 2),
+                1 => rng.uniform([TEMPERATURES[0], 216.61]),
+                _ => rng.uniform([TEMPERATURES[0], 223.0]),
+            };
+            let line = melting_pressure(t).unwrap_or(PRESSURES[1]);
+            let p = match rng.below(3) {
+                0 => line,
+                1 => rng.near(line, 2),
+                _ => rng.uniform([0.9 * line, 1.1 * line]),
+            };
+            match door {
+                Door::Pressure => (t, p),
+                Door::Density => (t, density_about(t, p, rng)),
+            }
+        }
+        6 => {
             let edges = [BOX_TEMPERATURES[0], BOX_TEMPERATURES[1]];
             let t = match rng.below(3) {
                 0 => rng.uniform(BOX_TEMPERATURES),
@@ -104,7 +139,7 @@ fn case_of(rng: &mut Rng, door: Door, kind: usize) -> (f64, f64) {
             };
             (t, x)
         }
-        6 => {
+        7 => {
             let width = rng.pick(&[0.0001, 0.05, 1.5]);
             let t = rng.uniform([CRITICAL_TEMPERATURE - width, CRITICAL_TEMPERATURE + width]);
             let x = match door {
@@ -114,14 +149,14 @@ fn case_of(rng: &mut Rng, door: Door, kind: usize) -> (f64, f64) {
             };
             (t, x)
         }
-        7 => {
+        8 => {
             let t = rng.between(2165900, 5230020) as f64 / 10000.0;
             match door {
                 Door::Pressure => (t, rng.between(9990, 30000010) as f64),
                 Door::Density => (t, rng.between(99, 1300001) as f64 / 1000.0),
             }
         }
-        8 => match door {
+        9 => match door {
             Door::Pressure => {
                 let (t, rho) = (rng.uniform(TEMPERATURES), rng.any_float(DENSITIES));
                 let p = pressure(&isotherm(t), rho);
@@ -132,7 +167,7 @@ fn case_of(rng: &mut Rng, door: Door, kind: usize) -> (f64, f64) {
                 (t, doors::from_pressure(t, p).map_or(CRITICAL_DENSITY, |(_, eight)| eight[2]))
             }
         },
-        9 => {
+        10 => {
             let t = if rng.one_in(2) { rng.uniform([303.0, 320.0]) } else { rng.uniform(TEMPERATURES) };
             let rho = rng.near(CRITICAL_DENSITY, 3);
             match door {
@@ -140,7 +175,7 @@ fn case_of(rng: &mut Rng, door: Door, kind: usize) -> (f64, f64) {
                 Door::Density => (t, rho),
             }
         }
-        10 => {
+        11 => {
             let any = [rng.bits(), rng.bits()].map(f64::from_bits);
             match rng.below(3) {
                 0 => (any[0], any[1]),
@@ -222,8 +257,13 @@ fn case(seed: u64, index: u64, door: Door, tally: &mut Tally) {
     }
     let got_number = door.ask_library(t, x, &mut got[GUARD..GUARD + len]);
 
-    let column = ANSWERS.iter().position(|&answer| answer == expected_number).expect("an answer of document 01");
+    let column = ANSWERS.iter().position(|&answer| answer == expected_number).expect("an answer of RULES 3.1 or a phase");
     tally.counts[kind][column] += 1;
+    if got_number != expected_number {
+        tally.change(format!("{got_number} answered where {expected_number} is right"));
+    } else if got != expected {
+        tally.change(format!("{got_number} answered, which is right, with other figures"));
+    }
     let digest = digest([t.to_bits(), x.to_bits(), u64::from(expected_number)].into_iter().chain(expected));
     tally.note(index, digest, got_number == expected_number && got == expected, || {
         let name = if door == Door::Pressure { "makhroeng_from_pressure" } else { "makhroeng_from_density" };

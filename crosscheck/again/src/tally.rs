@@ -1,6 +1,7 @@
 //! Cases shared out to threads, and what came of them. A case is made from the seed and its index alone, so the outcome is the same
 //! whatever the number of threads.
 
+use std::collections::BTreeMap;
 use std::io::{stderr, IsTerminal, Write};
 use std::sync::atomic::{AtomicU64, Ordering::Relaxed};
 use std::time::{Duration, Instant};
@@ -16,11 +17,13 @@ pub struct Tally {
     /// a sum over the cases of what was expected, to compare two runs by
     pub digest: u64,
     pub first: Vec<(u64, String)>,
+    /// how often each kind of difference came up
+    pub changes: BTreeMap<String, u64>,
 }
 
 impl Tally {
     fn new(kinds: usize, columns: usize) -> Tally {
-        Tally { counts: vec![vec![0; columns]; kinds], compared: 0, differ: 0, digest: 0, first: Vec::new() }
+        Tally { counts: vec![vec![0; columns]; kinds], compared: 0, differ: 0, digest: 0, first: Vec::new(), changes: BTreeMap::new() }
     }
 
     pub fn note(&mut self, index: u64, digest: u64, same: bool, tell: impl Fn() -> String) {
@@ -34,6 +37,10 @@ impl Tally {
         }
     }
 
+    pub fn change(&mut self, kind: String) {
+        *self.changes.entry(kind).or_default() += 1;
+    }
+
     fn add(&mut self, other: Tally) {
         for (mine, theirs) in self.counts.iter_mut().flatten().zip(other.counts.iter().flatten()) {
             *mine += theirs;
@@ -44,6 +51,9 @@ impl Tally {
         self.first.extend(other.first);
         self.first.sort();
         self.first.truncate(SHOWN);
+        for (kind, times) in other.changes {
+            *self.changes.entry(kind).or_default() += times;
+        }
     }
 
     pub fn print(&self, title: &str, kinds: &[&str], columns: &[String]) {

@@ -23,7 +23,7 @@ const KINDS: [&str; 12] = [
 /// Out of 100.
 const SHARES: [u64; 12] = [14, 8, 8, 12, 12, 8, 8, 6, 1, 16, 4, 3];
 /// The ending that is asked for, whether or not it fits; then what did not fit; then lines, answered and by refusal.
-const COLUMNS: [&str; 20] = [
+const COLUMNS: [&str; 21] = [
     "COVERED",
     "SHORT",
     "SB 10",
@@ -43,6 +43,7 @@ const COLUMNS: [&str; 20] = [
     "R 7",
     "R 8",
     "R 9",
+    "R 19",
     "L other",
 ];
 
@@ -91,7 +92,7 @@ fn good_line(rng: &mut Rng) -> [String; 5] {
     let (temperature, kind, value) = match rng.below(10) {
         // at 30 MPa a vapour of 523 K has more than 380 kg/m³
         0..=2 => (rng.between(3051283, 5230000), "D", rng.between(600, 300000)),
-        // cold liquid, and cold vapour
+        // cold liquid, some of it solid, and cold vapour
         3 => (rng.between(2166000, 2200000), "D", rng.between(1180000, 1195000)),
         4 => (rng.between(2300000, 3031281), "D", rng.between(300, 20000)),
         5 => (rng.between(2165920, 5230000), "P", rng.between(1, 300) * 100000),
@@ -115,10 +116,10 @@ fn edge_line(rng: &mut Rng) -> [String; 5] {
         (edge + rng.below(3)).saturating_sub(1)
     };
     let pressure = rng.one_in(2);
-    let temperature = beside(rng, &[2165920, 5230000, 3031282, 3051282, 3041282, 3000000, 0]);
+    let temperature = beside(rng, &[2165920, 5230000, 3031282, 3051282, 3041282, 3000000, 2170000, 2175460, 2227145, 0]);
     let value = match pressure {
-        true => beside(rng, &[10000, 30000000, 7000000, 8000000, 7377300, 5000000]),
-        false => beside(rng, &[100, 1300000, 350700, 584500, 467600, 101000]),
+        true => beside(rng, &[10000, 30000000, 7000000, 8000000, 7377300, 5000000, 517950, 2429700]),
+        false => beside(rng, &[100, 1300000, 350700, 584500, 467600, 101000, 13760, 1180969]),
     };
     let volume = if rng.one_in(2) { beside(rng, &[1, 1000000]) } else { 40000 };
     [number(rng, 10).to_string(), temperature.to_string(), if pressure { "P" } else { "D" }.to_string(), value.to_string(), volume.to_string()]
@@ -247,6 +248,31 @@ fn text_of(rng: &mut Rng, kind: usize) -> Vec<u8> {
     }
 }
 
+/// A report's line without its numbers but those of refusals: `L M`, `L R 4`, `TOTAL SHORT`, `SENT BACK 13`.
+fn kind_of(line: &[u8]) -> String {
+    let parts: Vec<_> = String::from_utf8_lossy(line).split(' ').map(String::from).collect();
+    match parts.iter().map(String::as_str).collect::<Vec<_>>()[..] {
+        ["L", _, "M", _] => "L M".to_string(),
+        ["L", _, "R", number] => format!("L R {number}"),
+        ["TOTAL", _, verdict] => format!("TOTAL {verdict}"),
+        _ => parts.join(" "),
+    }
+}
+
+/// How the lines of two reports differ, each kind of difference once for each line; what was lent doesn't matter.
+fn changes(got: &[u8], right: &[u8]) -> Vec<String> {
+    let [got, right] = [got, right].map(|report| report.split(|&byte| byte == b'\n').collect::<Vec<_>>());
+    if got.len() != right.len() {
+        return vec!["a report of other lines".to_string()];
+    }
+    let pairs = got.iter().zip(&right).filter(|(got, right)| got != right);
+    let told: Vec<_> = pairs.map(|(got, right)| format!("`{}` written where `{}` is right", kind_of(got), kind_of(right))).collect();
+    if told.is_empty() {
+        return vec!["the right report, in other bytes of what was lent".to_string()];
+    }
+    told
+}
+
 /// Bytes that are not lent, before and after those that are.
 const GUARD: usize = 16;
 
@@ -295,7 +321,20 @@ fn case(seed: u64, index: u64, tally: &mut Tally) {
     count[8] += u64::from(report.len() == lent);
     if let Outcome::Weighed { lines, .. } = &outcome {
         for line in lines {
-            count[line.map_or_else(|number| 9 + number as usize, |_| 9).min(19)] += 1;
+            let column = match line {
+                Ok(_) => 9,
+                Err(number @ 1..=9) => 9 + *number as usize,
+                Err(19) => 19,
+                Err(_) => 20,
+            };
+            count[column] += 1;
+        }
+    }
+    if got_len != expected_len || got != expected {
+        let mut out = [0; 1512];
+        let len = library::report(&text[..text_len], &mut out) as usize;
+        for change in changes(&out[..len], &report) {
+            tally.change(change);
         }
     }
     let digest = digest([expected_len].into_iter().chain(text[..text_len].iter().chain(&expected).map(|&byte| u64::from(byte))));

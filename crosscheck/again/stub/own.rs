@@ -7,6 +7,8 @@
 mod doors;
 #[path = "../src/equation.rs"]
 mod equation;
+#[path = "../src/melting.rs"]
+mod melting;
 #[path = "../src/numbers.rs"]
 mod numbers;
 #[path = "../src/saturation.rs"]
@@ -30,12 +32,15 @@ fn answer(t: f64, x: f64, door: fn(f64, f64) -> doors::Answer, figures: &mut [f6
         }
         return if fault("refusal-before-15") { door(t, x).map_or_else(|number| number, |_| 15) } else { 15 };
     }
+    let by_pressure = door as usize == doors::from_pressure as *const () as usize;
+    let above_the_line = by_pressure && melting::melting_pressure(t).is_some_and(|line| x > line);
     match door(t, x) {
+        Ok(_) if fault("solid-at-the-melting-pressure") && by_pressure && melting::melting_pressure(t) == Some(x) => 19,
         Ok((phase, mut eight)) => {
             if fault("sound-speed-one-float-up-in-one-of-4096") && eight[7].to_bits() % 4096 == 7 {
                 eight[7] = f64::from_bits(eight[7].to_bits() + 1);
             }
-            if fault("upper-neighbour") && door as usize == doors::from_pressure as *const () as usize {
+            if fault("upper-neighbour") && by_pressure {
                 eight[2] = f64::from_bits(eight[2].to_bits() + 1);
             }
             if fault("ninth-number") && figures.len() > 8 {
@@ -56,10 +61,11 @@ fn answer(t: f64, x: f64, door: fn(f64, f64) -> doors::Answer, figures: &mut [f6
             if fault("writes-where-refused") {
                 figures[0] = t;
             }
-            if fault("saturation-line-as-vapour") && number == 8 {
-                256
-            } else {
-                number
+            match number {
+                5 if fault("19-before-5") && above_the_line => 19,
+                8 if fault("saturation-line-as-vapour") => 256,
+                19 if fault("solid-as-liquid-by-density") && !by_pressure => 257,
+                _ => number,
             }
         }
     }

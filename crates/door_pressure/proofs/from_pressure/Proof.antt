@@ -15,7 +15,7 @@ returns c =
 
 returns-2 : tie.Need-returns-2
 unfolding pressureDoor
-returns-2 c = c .unbox .ensures ∙ rw (sym (c .before .before .before .in-range .ensures) ∙ c .before .enum-told .given .1)
+returns-2 c = c .thaw .ensures ∙ rw (sym (c .before .before .before .in-range .ensures) ∙ c .before .enum-told .given .1)
 
 pub from-pressure-spec : {M : Type 1} → statement M
 from-pressure-spec =

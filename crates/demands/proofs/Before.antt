@@ -1,0 +1,88 @@
+-- With the melting line every answer is what it was, or 19, or 7 where there is no melting pressure: both doors take the same steps, and the check of the
+-- line is one of them. Assumes nothing.
+use mathlib.Core.Path.{_≡_, refl, sym, subst}
+use mathlib.Core.Bool.{Bool, true, false, cond, _&&_, not}
+use lib.Ieee.{Float, nan, inf, fin, lt, le}
+use Rattle.num_working.specs.Working.{orElse}
+use Rattle.num_working.specs.declared.Worked.{Worked}
+use Rattle.num_working.specs.declared.Worked.the-variants.{Number, Failed}
+use Rattle.eos_state.specs.declared.Phase.{Phase}
+use Rattle.eos_state.specs.declared.Phase.the-variants.{Vapour, Liquid, Supercritical}
+use Rattle.equation.specs.Equation.{Equation}
+use Rattle.door_limits.specs.Limits.{outside}
+use Rattle.door_limits.specs.declared.Limits.{Limits}
+use Rattle.door_checks.specs.Check as check
+use Rattle.door_checks.specs.Check.{ranged, boxed}
+use Rattle.door_checks.specs.declared.Check.{Check}
+use Rattle.door_checks.specs.declared.Check.the-variants.{Passed, No}
+use Rattle.door_answers.specs.Answer.{passed, answerWith}
+use Rattle.door_answers.specs.declared.Answer.{Answer}
+use Rattle.door_answers.specs.declared.Answer.the-variants as answer
+use Rattle.door_pressure.specs.PressureDoor as pressure
+use Rattle.door_density.specs.DensityDoor as density
+use Rattle.demands.specs.Before.{neverSolid, Kept, same, solid, no-melting, PressureDoorBefore, InPhaseBefore, PressureKept, DensityKept}
+use Rattle.demands.proofs.Checks.{melts}
+
+-- no pressure is above the infinity
+unreached : (p : Float) → check.solid (Number (inf false)) p ≡ Passed
+unfolding check.solid lt
+unreached nan = refl
+unreached (inf true) = refl
+unreached (inf false) = refl
+unreached (fin s m e) = refl
+
+-- ---- a step that both take keeps what is kept after it
+module _ {w : Worked} where
+  after-check : (c : Check) {a b : Answer} → Kept w a b → Kept w (passed c a) (passed c b)
+  after-check (No n) k = same refl
+  after-check Passed k = k
+
+  after-test : (t : Bool) {a b x y : Answer} → Kept w a x → Kept w b y → Kept w (cond t a b) (cond t x y)
+  after-test true h k = h
+  after-test false h k = k
+
+  after-working : (v : Worked) {z : Answer} {f g : Float → Answer} → ((x : Float) → Kept w (f x) (g x)) → Kept w (orElse v z f) (orElse v z g)
+  after-working Failed h = same refl
+  after-working (Number x) h = h x
+
+module _ (E : Equation) (L : Limits) where
+  -- the check of the line, and then what is the same
+  after-line : (t p : Float) (a : Answer) → Kept (E .meltingPressure t) (passed (check.solid (E .meltingPressure t) p) a) (passed (check.solid (Number (inf false)) p) a)
+  after-line t p a =
+      rw (unreached p) (melts E t p (λ (n : Answer). Kept (E .meltingPressure t) n a) a (λ e. no-melting e refl) (λ m e h. solid refl) (λ f. same refl))
+
+  -- ---- the pressure door
+  pub pressure-door-before : PressureDoorBefore E L
+  unfolding pressure.pressureDoor pressure.thawed pressure.unboxed pressure.entered pressure.beneath pressure.vapour pressure.liquid
+  pressure-door-before t p = rw (unreached p) refl
+
+  pub pressure-kept : PressureKept E L
+  unfolding pressure.pressureDoor pressure.thawed pressure.unboxed pressure.entered pressure.beneath pressure.vapour pressure.liquid
+  pressure-kept t p = after-check (ranged (L .asked .temperature) (L .asked .pressure) t p) (after-line t p (pressure.unboxed E L t p))
+
+  -- ---- the density door
+  by-pressure : (v : Worked) (q : Float → Bool) (a : Answer) → orElse v (answer.Refused 7) (λ p. cond (q p) (answer.Refused 5) (passed (check.solid (Number (inf false)) p) a))
+      ≡ orElse v (answer.Refused 7) (λ p. cond (q p) (answer.Refused 5) a)
+  by-pressure Failed q a = refl
+  by-pressure (Number p) q a = rw (unreached p) refl
+
+  pub in-phase-before : InPhaseBefore E L
+  unfolding density.inPhase
+  in-phase-before phase t rho = by-pressure (E .pressure t rho) (outside (L .asked .pressure)) (answerWith (E .state t phase rho))
+
+  phase-kept : (phase : Phase) (t rho : Float) → Kept (E .meltingPressure t) (density.inPhase E L phase t rho) (density.inPhase (neverSolid E) L phase t rho)
+  unfolding density.inPhase
+  phase-kept phase t rho =
+      after-working (E .pressure t rho) (λ p. after-test (outside (L .asked .pressure) p) (same refl) (after-line t p (answerWith (E .state t phase rho))))
+
+  beneath-kept : (t rho : Float) → Kept (E .meltingPressure t) (density.beneath E L t rho) (density.beneath (neverSolid E) L t rho)
+  unfolding density.beneath
+  beneath-kept t rho =
+      after-working (E .vapourDensity t) (λ v. after-working (E .liquidDensity t) (λ l.
+      after-test (lt v rho && lt rho l) (same refl) (after-test (not (lt v rho)) (phase-kept Vapour t rho) (phase-kept Liquid t rho))))
+
+  pub density-kept : DensityKept E L
+  unfolding density.densityDoor density.unboxed density.entered
+  density-kept t rho =
+      after-check (ranged (L .asked .temperature) (L .asked .density) t rho) (after-check (boxed (L .critical .temperature) (L .critical .density) t rho)
+      (after-test (le (E .critical) t) (phase-kept Supercritical t rho) (beneath-kept t rho)))

@@ -41,9 +41,9 @@ module _ {w : Worked} where
   after-test true h k = h
   after-test false h k = k
 
-  after-working : (v : Worked) {z : Answer} {f g : Float → Answer} → ((x : Float) → Kept w (f x) (g x)) → Kept w (orElse v z f) (orElse v z g)
-  after-working Failed h = same refl
-  after-working (Number x) h = h x
+  after-working : (v : Worked) (z : Answer) (f g : Float → Answer) → ((x : Float) → Kept w (f x) (g x)) → Kept w (orElse v z f) (orElse v z g)
+  after-working Failed z f g h = same refl
+  after-working (Number x) z f g h = h x
 
 module _ (E : Equation) (L : Limits) where
   -- the check of the line, and then what is the same
@@ -73,12 +73,12 @@ module _ (E : Equation) (L : Limits) where
   phase-kept : (phase : Phase) (t rho : Float) → Kept (E .meltingPressure t) (density.inPhase E L phase t rho) (density.inPhase (neverSolid E) L phase t rho)
   unfolding density.inPhase
   phase-kept phase t rho =
-      after-working (E .pressure t rho) (λ p. after-test (outside (L .asked .pressure) p) (same refl) (after-line t p (answerWith (E .state t phase rho))))
+      after-working (E .pressure t rho) _ _ _ (λ p. after-test (outside (L .asked .pressure) p) (same refl) (after-line t p (answerWith (E .state t phase rho))))
 
   beneath-kept : (t rho : Float) → Kept (E .meltingPressure t) (density.beneath E L t rho) (density.beneath (neverSolid E) L t rho)
   unfolding density.beneath
   beneath-kept t rho =
-      after-working (E .vapourDensity t) (λ v. after-working (E .liquidDensity t) (λ l.
+      after-working (E .vapourDensity t) _ _ _ (λ v. after-working (E .liquidDensity t) _ _ _ (λ l.
       after-test (lt v rho && lt rho l) (same refl) (after-test (not (lt v rho)) (phase-kept Vapour t rho) (phase-kept Liquid t rho))))
 
   pub density-kept : DensityKept E L

@@ -46,38 +46,38 @@ from-density-refuses a r s h n =
 
 -- so no other number is given
 of-checks : {temperature value : Range} {t x : Float} {n : ℕ} → OutOfRange temperature value t x n → Numbered 3 n
-of-checks (no-number e) = to-9 (omega arith) (omega arith)
-of-checks (no-temperature e f) = to-9 (omega arith) (omega arith)
-of-checks (no-value e f g) = to-9 (omega arith) (omega arith)
+of-checks (no-number e) = to-9 3 (omega arith) (omega arith)
+of-checks (no-temperature e f) = to-9 4 (omega arith) (omega arith)
+of-checks (no-value e f g) = to-9 5 (omega arith) (omega arith)
 
 of-pressure : {E : Equation} {L : Limits} {t p : Float} {n : ℕ} → RefusesP E L t p n → Numbered 3 n
 of-pressure (out-of-range b) = of-checks b
-of-pressure (melting-fails r e) = to-9 (omega arith) (omega arith)
+of-pressure (melting-fails r e) = to-9 7 (omega arith) (omega arith)
 of-pressure (demands.solid r e h) = is-19
-of-pressure (in-box r f e) = to-9 (omega arith) (omega arith)
-of-pressure (line-fails q c e) = to-9 (omega arith) (omega arith)
-of-pressure (on-line q c e f) = to-9 (omega arith) (omega arith)
-of-pressure (vapour-fails q b e) = to-9 (omega arith) (omega arith)
-of-pressure (liquid-fails q b e) = to-9 (omega arith) (omega arith)
-of-pressure (no-crossing q r e) = to-9 (omega arith) (omega arith)
-of-pressure (probe-fails q r e f) = to-9 (omega arith) (omega arith)
-of-pressure (state-fails q r e f) = to-9 (omega arith) (omega arith)
+of-pressure (in-box r f e) = to-9 6 (omega arith) (omega arith)
+of-pressure (line-fails q c e) = to-9 7 (omega arith) (omega arith)
+of-pressure (on-line q c e f) = to-9 8 (omega arith) (omega arith)
+of-pressure (vapour-fails q b e) = to-9 7 (omega arith) (omega arith)
+of-pressure (liquid-fails q b e) = to-9 7 (omega arith) (omega arith)
+of-pressure (no-crossing q r e) = to-9 9 (omega arith) (omega arith)
+of-pressure (probe-fails q r e f) = to-9 7 (omega arith) (omega arith)
+of-pressure (state-fails q r e f) = to-9 7 (omega arith) (omega arith)
 
 of-density : {E : Equation} {L : Limits} {t rho : Float} {n : ℕ} → RefusesD E L t rho n → Numbered 3 n
 of-density (out-of-ranges b) = of-checks b
-of-density (in-the-box r e) = to-9 (omega arith) (omega arith)
-of-density (no-vapour q c e) = to-9 (omega arith) (omega arith)
-of-density (no-liquid q c e f) = to-9 (omega arith) (omega arith)
-of-density (between q c e f g h) = to-9 (omega arith) (omega arith)
-of-density (no-pressure q r e) = to-9 (omega arith) (omega arith)
-of-density (pressure-outside q r e f) = to-9 (omega arith) (omega arith)
-of-density (no-melting q r e f m) = to-9 (omega arith) (omega arith)
+of-density (in-the-box r e) = to-9 6 (omega arith) (omega arith)
+of-density (no-vapour q c e) = to-9 7 (omega arith) (omega arith)
+of-density (no-liquid q c e f) = to-9 7 (omega arith) (omega arith)
+of-density (between q c e f g h) = to-9 8 (omega arith) (omega arith)
+of-density (no-pressure q r e) = to-9 7 (omega arith) (omega arith)
+of-density (pressure-outside q r e f) = to-9 5 (omega arith) (omega arith)
+of-density (no-melting q r e f m) = to-9 7 (omega arith) (omega arith)
 of-density (solid-there q r e f m h) = is-19
-of-density (no-state q r e f m g) = to-9 (omega arith) (omega arith)
+of-density (no-state q r e f m g) = to-9 7 (omega arith) (omega arith)
 
 settled : (r : Answer) → ((n : ℕ) → r ≡ answer.Refused n → Numbered 3 n) → Settled r
 settled (answer.State x) h = given x refl
-settled (answer.Refused n) h = not-given refl (h n refl)
+settled (answer.Refused n) h = not-given n refl (h n refl)
 
 pub pressure-settles : (L : Limits) (t p : Float) → Settled (pressureDoor of1996 L t p)
 pressure-settles L t p = settled _ (λ n e. of-pressure (pressure-refusals of1996 L lawful t p n .0 e))

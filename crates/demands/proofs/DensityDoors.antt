@@ -59,7 +59,7 @@ module _ (E : Equation) (L : Limits) (lawful : Lawful E) (t rho : Float) where
         by-working Explains (E .pressure t rho) _ _ (λ e. refuses 7 refl (no-pressure past phased e))
         (λ p e. by-test Explains (outside (L .asked .pressure) p) _ _ (λ o. refuses 5 refl (pressure-outside past phased e o))
         (λ o. melts E t p Explains (answerWith (E .state t phase rho)) (λ m. refuses 7 refl (no-melting past phased e o m))
-        (λ m h. refuses 19 refl (solid-there past phased e o m h)) (λ fluid. of-state phase phased p e o fluid (E .state t phase rho) refl)))
+        (λ m w h. refuses 19 refl (solid-there past phased e o w h)) (λ fluid. of-state phase phased p e o fluid (E .state t phase rho) refl)))
 
     sides : le (E .critical) t ≡ false → (v l : Float) → E .vapourDensity t ≡ Number v → E .liquidDensity t ≡ Number l
         → (a b : Bool) → lt v rho ≡ a → lt rho l ≡ b

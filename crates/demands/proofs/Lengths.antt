@@ -40,19 +40,19 @@ asked-settles {L} {t} (by-pressure n) = pressure-settles L t (whole n)
 asked-settles {L} {t} (by-density n) = density-settles L t (div binary64 (whole n) (whole 1000))
 
 from-1 : {n : ℕ} → Numbered 3 n → Numbered 1 n
-from-1 (to-9 h k) = to-9 (omega arith) k
+from-1 (to-9 n h k) = to-9 n (omega arith) k
 from-1 is-19 = is-19
 
 door-number : {n : ℕ} → Settled (Answer.Refused n) → Numbered 1 n
 door-number (given x e) = let z : _≡_ {A = ℕ} 0 1 = cc in absurd (omega arith)
-door-number {n} (not-given {m} e k) = let z : m ≡ n = cc in subst (Numbered 1) z (from-1 k)
+door-number {n} (not-given m e k) = let z : m ≡ n = cc in subst (Numbered 1) z (from-1 k)
 
 -- a line is refused by a number from 1 to 9, or by 19
 pub line-number : {L : Limits} {c : Cylinder} {n : ℕ} → RefusesLine L c n → Numbered 1 n
-line-number (lines.blank d) = to-9 (omega arith) (omega arith)
-line-number (no-volume f r) = to-9 (omega arith) (omega arith)
+line-number (lines.blank d) = to-9 1 (omega arith) (omega arith)
+line-number (no-volume f r) = to-9 2 (omega arith) (omega arith)
 line-number (by-door f r) = door-number (asked-settles (f .asked))
-line-number (no-product f r e) = to-9 (omega arith) (omega arith)
+line-number (no-product f r e) = to-9 7 (omega arith) (omega arith)
 
 -- ---- the parts
 
@@ -60,7 +60,7 @@ between-most : (front : List ℕ) (n : ℕ) (back : List ℕ) → n < 10 ^ 20 �
 between-most front n back h = let d = digits-most 19 n h in omega (arith, between-length front n back)
 
 numbered-most : {n : ℕ} → Numbered 1 n → n < 10 ^ 20
-numbered-most (to-9 h k) = omega arith
+numbered-most (to-9 n h k) = omega arith
 numbered-most is-19 = omega arith
 
 -- a line's number: its milligrams, or its refusal's

@@ -1,11 +1,16 @@
 -- Every reading of the table is what RULES 8.1 says. Assumes nothing.
 use mathlib.Core.Path.{_≡_, refl, ap, _∙_}
 use mathlib.Core.List.{List, _++_, map}
-use lib.Ieee.{ofInt, round, div, lt}
+use lib.Ieee.{ofInt, round, add, sub, mul, div, lt}
 use Rattle.num_working.specs.Number.{whole, decimal, fraction}
+use Rattle.num_working.specs.Working.{_+ᵂ_, _-ᵂ_, _*ᵂ_, _/ᵂ_}
 use Rattle.num_working.specs.declared.Worked.{Worked}
+use Rattle.num_powers.specs.Power.{power, _^ᵂ_}
+use Rattle.num_formulas.specs.Formula.{work}
 use Rattle.num_formulas.specs.Readings as numerics
 use Rattle.num_formulas.proofs.Readings as numerics-read
+use Rattle.eos_melting.specs.Melting.{melting, meltingPressure}
+use Rattle.equation.specs.Equation.{of1996}
 use Rattle.door_limits.specs.Limits.{document01}
 use Rattle.door_checks.specs.Check.{ranged, solid, boxed}
 use Rattle.door_pressure.specs.PressureDoor.{unboxed, thawed, pressureDoor}
@@ -23,7 +28,8 @@ unfolding of-checks passes document01 ranged boxed whole decimal fraction ofInt 
 checks-read = refl
 
 lines-read : worked of-lines ≡ reads of-lines
-unfolding of-lines weighed byReading filled pressureDoor unboxed document01 ranged boxed whole decimal fraction ofInt round div lt
+unfolding of-lines weighed byReading filled pressureDoor thawed unboxed document01 ranged solid boxed of1996 meltingPressure melting work power _^ᵂ_
+    _+ᵂ_ _-ᵂ_ _*ᵂ_ _/ᵂ_ whole decimal fraction ofInt round add sub mul div lt
 lines-read = refl
 
 pub all-read : worked readings ≡ reads readings

@@ -1,7 +1,7 @@
 -- RULES 5.4: what the melting line leaves as it was. The doors of an equation with no solid are those that stood before there was a refusal 19.
 -- Definitions only.
 use mathlib.Core.Path.{_≡_}
-use mathlib.Core.Bool.{cond}
+use mathlib.Core.Bool.{false, cond}
 use lib.Ieee.{Float, inf}
 use Rattle.num_working.specs.Working.{orElse}
 use Rattle.num_working.specs.declared.Worked.{Worked}

@@ -148,13 +148,13 @@ Exactly A B = (A → B) × (B → A)
 
 -- RULES 3.1: the numbers of refusals from one on, a door's from 3 and a line's from 1, up to 9; and 19
 pub data Numbered (first : ℕ) : ℕ → Type 0 where
-  to-9 : {n : ℕ} → first ≤ n → n ≤ 9 → Numbered first n
+  to-9 : (n : ℕ) → first ≤ n → n ≤ 9 → Numbered first n
   is-19 : Numbered first 19
 
 -- demand 1: whatever numbers come in, there is an answer or one of a door's refusals, and a refused state carries no figures
 pub data Settled (a : Answer) : Type 0 where
   given : (x : State) → a ≡ answer.State x → Settled a
-  not-given : {n : ℕ} → a ≡ answer.Refused n → Numbered 3 n → Settled a
+  not-given : (n : ℕ) → a ≡ answer.Refused n → Numbered 3 n → Settled a
 
 module _ (E : Equation) (L : Limits) where
   -- each refusal exactly under its condition

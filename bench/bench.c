@@ -62,17 +62,17 @@ static size_t sheet(int n) {
 }
 
 static void compare(const char *name, door *lib, door *twin, double low, double high) {
-    long differ = 0, given[10] = {0}, answered = 0;
+    long differ = 0, given[32] = {0}, answered = 0;
     for (int i = 0; i < COMPARED; i++) {
         double t = 216 + 308 * uniform(), x = low + (high - low) * uniform() * (i % 2 ? 1 : uniform());
         if (i % 8 == 0) t = 302 + 4 * uniform();
         double f[8] = {0}, g[8] = {0};
         uint32_t a = lib(t, x, f), b = twin(t, x, g);
         if (a != b || memcmp(f, g, sizeof f)) { if (differ++ < 5) printf("differs at %.17g %.17g: %u %u\n", t, x, a, b); }
-        if (a < 10) given[a]++; else answered++;
+        if (a < 32) given[a]++; else answered++;
     }
     printf("%s: %d compared with C, %ld differ; %ld answered", name, COMPARED, differ, answered);
-    for (int i = 0; i < 10; i++) if (given[i]) printf(", %ld refused by %d", given[i], i);
+    for (int i = 0; i < 32; i++) if (given[i]) printf(", %ld refused by %d", given[i], i);
     printf("\n");
     if (differ) exit(1);
 }

@@ -362,14 +362,29 @@ static double vapour_density(double t) {
         + -10.111178 * (power(x, 2) * root(x, 1, 3)) + -29.742252 * (power(x, 4) * root(x, 2, 3)));
 }
 
+/* ---- ARRANGEMENT.md, section 11: melting */
+
+static double melting_pressure(double t) {
+    double y = t / 216.592 - 1.0;
+    return 517950.0 * (1.0 + 1955.5390 * y + 2055.4593 * power(y, 2));
+}
+
 /* ---- RULES 3.3 and 5: the doors, with what the library's functions for C return where eight figures are lent */
 
-static uint32_t checks(double t, double x, double low, double high, double box_low, double box_high) {
+static uint32_t in_range(double t, double x, double low, double high) {
     if (!finite_(t) || !finite_(x)) return 3;
     if (t < 216.592 || 523.0 < t) return 4;
-    if (x < low || high < x) return 5;
-    if (!(t < 303.1282 || 305.1282 < t) && !(x < box_low || box_high < x)) return 6;
-    return 0;
+    return x < low || high < x ? 5 : 0;
+}
+
+static uint32_t not_solid(double t, double p) {
+    double m = melting_pressure(t);
+    if (!finite_(m)) return 7;
+    return m < p ? 19 : 0;
+}
+
+static uint32_t out_of_box(double t, double x, double low, double high) {
+    return !(t < 303.1282 || 305.1282 < t) && !(x < low || high < x) ? 6 : 0;
 }
 
 long NAME(worked);   /* how many pressures the searches worked */
@@ -417,7 +432,9 @@ static uint32_t search(double t, const isotherm *iso, double p, double from, dou
 #endif
 
 uint32_t NAME(from_pressure)(double t, double p, double figures[8]) {
-    uint32_t no = checks(t, p, 10000.0, 30000000.0, 7000000.0, 8000000.0), phase = 258;
+    uint32_t no = in_range(t, p, 10000.0, 30000000.0), phase = 258;
+    if (!no) no = not_solid(t, p);
+    if (!no) no = out_of_box(t, p, 7000000.0, 8000000.0);
     if (no) return no;
     double from = 0.05, to = 1400.0, rho;
     if (t < TC) {
@@ -436,7 +453,8 @@ uint32_t NAME(from_pressure)(double t, double p, double figures[8]) {
 }
 
 uint32_t NAME(from_density)(double t, double rho, double figures[8]) {
-    uint32_t no = checks(t, rho, 0.1, 1300.0, 350.7, 584.5), phase = 258;
+    uint32_t no = in_range(t, rho, 0.1, 1300.0), phase = 258;
+    if (!no) no = out_of_box(t, rho, 350.7, 584.5);
     if (no) return no;
     if (t < TC) {
         double v = vapour_density(t), l = liquid_density(t);
@@ -449,5 +467,7 @@ uint32_t NAME(from_density)(double t, double rho, double figures[8]) {
     double p = pressure_on(t, &iso, rho);
     if (!finite_(p)) return 7;
     if (p < 10000.0 || 30000000.0 < p) return 5;
+    no = not_solid(t, p);
+    if (no) return no;
     return state_on(t, &iso, rho, figures) ? phase : 7;
 }

@@ -27,6 +27,7 @@ static const char *colour(uint32_t answer) {
     case MAKHROENG_TEMPERATURE_OUT: return "#d9d9d9";
     case MAKHROENG_VALUE_OUT: return "#efefef";
     case MAKHROENG_CRITICAL_BOX: return "#d9534f";
+    case MAKHROENG_SOLID: return "#9aa7b8";
     default: return "#000000";
     }
 }
@@ -35,14 +36,23 @@ static void text(double x, double y, const char *anchor, const char *words) {
     printf("<text x=\"%.1f\" y=\"%.1f\" text-anchor=\"%s\">%s</text>\n", x, y, anchor, words);
 }
 
-/* Where vapour ends and liquid begins at a temperature: between two floats, the door's own 8 or nothing. */
-static double line_at(double t) {
+/* The last pressure at a temperature that is still below a line, by the door's own answers. */
+static double line_at(double t, int below(uint32_t answer)) {
     double low = 1e4, high = 3e7;
     for (int i = 0; i < 60; i++) {
         double mid = 0.5 * (low + high);
-        if (ask(t, mid) == MAKHROENG_VAPOUR) low = mid; else high = mid;
+        if (below(ask(t, mid))) low = mid; else high = mid;
     }
     return low;
+}
+static int is_vapour(uint32_t answer) { return answer == MAKHROENG_VAPOUR; }
+static int is_fluid(uint32_t answer) { return answer != MAKHROENG_SOLID; }
+
+/* A line from one temperature to another. */
+static void draw(double from, double to, double step, int below(uint32_t answer)) {
+    printf("<polyline fill=\"none\" stroke=\"black\" stroke-width=\"1.5\" points=\"");
+    for (double t = from; t < to; t += step) printf("%.1f,%.1f ", x_of(t), y_of(line_at(t, below)));
+    printf("\"/>\n");
 }
 
 int main(void) {
@@ -58,9 +68,8 @@ int main(void) {
                    CELL * (column - start) + 0.3, CELL + 0.3, colour(answer));
         }
     }
-    printf("<polyline fill=\"none\" stroke=\"black\" stroke-width=\"1.5\" points=\"");
-    for (double t = 216.592; t < 303.1282; t += 0.5) printf("%.1f,%.1f ", x_of(t), y_of(line_at(t)));
-    printf("\"/>\n");
+    draw(216.592, 303.1282, 0.5, is_vapour);
+    draw(216.592, 222.8, 0.1, is_fluid);
     for (int t = 220; t <= 520; t += 50) {
         char words[16];
         snprintf(words, sizeof words, "%d K", t);
@@ -73,11 +82,12 @@ int main(void) {
     text(x_of(420), y_of(2e6), "middle", "supercritical");
     text(x_of(314), y_of(7.2e6), "start", "critical box: 6");
     text(x_of(262), y_of(1.1e6), "start", "saturation line: 8");
+    text(x_of(225), y_of(2.2e7), "start", "left of the melting line: 19");
     text(x_of(210.5), y_of(8e5), "middle", "4");
     text(x_of(529), y_of(8e5), "middle", "4");
     text(x_of(370), y_of(7e3) + 4, "middle", "5");
     text(x_of(370), y_of(3.8e7) + 4, "middle", "5");
-    text(70, foot + 40, "start", "Numbers are refusals: 4 temperature, 5 pressure out of range, 6 and 8 as marked.");
+    text(70, foot + 40, "start", "Numbers are refusals: 4 temperature, 5 pressure out of range, 19 solid, 6 and 8 as marked.");
     printf("</svg>\n");
     return 0;
 }

@@ -25,7 +25,8 @@ enum {
     MAKHROENG_FAILED = 7,          /* a working failed (RULES 4.2), or a saturated density is not above 0 (RULES 5) */
     MAKHROENG_SATURATION = 8,      /* on the saturation line, or strictly between the saturated densities */
     MAKHROENG_NO_CROSSING = 9,     /* the search finds no crossing in its range of densities */
-    MAKHROENG_TOO_SHORT = 15       /* fewer than eight figures are lent */
+    MAKHROENG_TOO_SHORT = 15,      /* fewer than eight figures are lent */
+    MAKHROENG_SOLID = 19           /* the pressure, asked or worked, is above the melting pressure: dry ice (RULES 5.4) */
 };
 
 /* The places of the eight numbers in `figures`. */
@@ -41,8 +42,8 @@ enum {
 };
 
 /* The state at a temperature in K and a pressure in Pa, whatever two doubles these are, infinities and NaN included.
- * Returns the phase, with the eight numbers in figures[0] to figures[7]; or the refusal's number, 3 to 9, with every
- * figure as it was. Where len is below 8: 15, whatever the door would say, with every figure as it was.
+ * Returns the phase, with the eight numbers in figures[0] to figures[7]; or the refusal's number, 3 to 9 or 19, with
+ * every figure as it was. Where len is below 8: 15, whatever the door would say, with every figure as it was.
  * Figures after the eighth are never touched. `figures` points to len doubles. */
 uint32_t makhroeng_from_pressure(double temperature, double pressure, double *figures, size_t len);
 

@@ -1,15 +1,20 @@
--- With the melting line every answer is what it was, or 19, or 7 where there is no melting pressure: both doors take the same steps, and the check of the
--- line is one of them. Assumes nothing.
-use mathlib.Core.Path.{_≡_, refl, sym, subst}
-use mathlib.Core.Bool.{Bool, true, false, cond, _&&_, not}
+-- With the melting line every answer is what it was, or 19, or 7 where there is no melting pressure, which within the limits of RULES 2.2 there is: both
+-- doors take the same steps, and the check of the line is one of them. Assumes nothing.
+use mathlib.Core.Path.{_≡_, refl}
+use mathlib.Core.Bool.{Bool, true, false, cond, _&&_, not, true≢false}
 use lib.Ieee.{Float, nan, inf, fin, lt, le}
+use lib.Ieee.Scale.{finite}
+use Rattle.num_working.specs.Number.{decimal, whole}
 use Rattle.num_working.specs.Working.{orElse}
 use Rattle.num_working.specs.declared.Worked.{Worked}
 use Rattle.num_working.specs.declared.Worked.the-variants.{Number, Failed}
+use Rattle.num_working.proofs.Cases.{never}
+use Rattle.eos_melting.proofs.Meltings.{Melts, never-fails}
 use Rattle.eos_state.specs.declared.Phase.{Phase}
 use Rattle.eos_state.specs.declared.Phase.the-variants.{Vapour, Liquid, Supercritical}
-use Rattle.equation.specs.Equation.{Equation}
-use Rattle.door_limits.specs.Limits.{outside}
+use Rattle.equation.specs.Equation.{Equation, of1996}
+use Rattle.door_limits.specs.Limits.{document01, outside}
+use Rattle.door_limits.specs.declared.Range.{Range}
 use Rattle.door_limits.specs.declared.Limits.{Limits}
 use Rattle.door_checks.specs.Check as check
 use Rattle.door_checks.specs.Check.{ranged, boxed}
@@ -19,9 +24,13 @@ use Rattle.door_answers.specs.Answer.{passed, answerWith}
 use Rattle.door_answers.specs.declared.Answer.{Answer}
 use Rattle.door_answers.specs.declared.Answer.the-variants as answer
 use Rattle.door_pressure.specs.PressureDoor as pressure
+use Rattle.door_pressure.proofs.from_pressure.Reads as from-pressure
 use Rattle.door_density.specs.DensityDoor as density
-use Rattle.demands.specs.Before.{neverSolid, Kept, same, solid, no-melting, PressureDoorBefore, InPhaseBefore, PressureKept, DensityKept}
-use Rattle.demands.proofs.Checks.{melts}
+use Rattle.door_density.proofs.from_density.Reads as from-density
+use Rattle.demands.specs.Demands.{Whatever, InRange}
+use Rattle.demands.specs.Before.{neverSolid, Kept, same, solid, no-melting, AsBefore, unchanged, now-solid}
+use Rattle.demands.specs.Before.{PressureDoorBefore, InPhaseBefore, PressureKept, DensityKept, PressureAsBefore, DensityAsBefore}
+use Rattle.demands.proofs.Checks.{stops, passes, finds, melts, first}
 
 -- no pressure is above the infinity
 unreached : (p : Float) → check.solid (Number (inf false)) p ≡ Passed
@@ -56,9 +65,13 @@ module _ (E : Equation) (L : Limits) where
   unfolding pressure.pressureDoor pressure.thawed pressure.unboxed pressure.entered pressure.beneath pressure.vapour pressure.liquid
   pressure-door-before t p = rw (unreached p) refl
 
+  thawed-kept : (t p : Float) → Kept (E .meltingPressure t) (pressure.thawed E L t p) (pressure.thawed (neverSolid E) L t p)
+  unfolding pressure.thawed pressure.unboxed pressure.entered pressure.beneath pressure.vapour pressure.liquid
+  thawed-kept t p = after-line t p (pressure.unboxed E L t p)
+
   pub pressure-kept : PressureKept E L
-  unfolding pressure.pressureDoor pressure.thawed pressure.unboxed pressure.entered pressure.beneath pressure.vapour pressure.liquid
-  pressure-kept t p = after-check (ranged (L .asked .temperature) (L .asked .pressure) t p) (after-line t p (pressure.unboxed E L t p))
+  unfolding pressure.pressureDoor
+  pressure-kept t p = after-check (ranged (L .asked .temperature) (L .asked .pressure) t p) (thawed-kept t p)
 
   -- ---- the density door
   by-pressure : (v : Worked) (q : Float → Bool) (a : Answer) → orElse v (answer.Refused 7) (λ p. cond (q p) (answer.Refused 5) (passed (check.solid (Number (inf false)) p) a))
@@ -81,8 +94,53 @@ module _ (E : Equation) (L : Limits) where
       after-working (E .vapourDensity t) _ _ _ (λ v. after-working (E .liquidDensity t) _ _ _ (λ l.
       after-test (lt v rho && lt rho l) (same refl) (after-test (not (lt v rho)) (phase-kept Vapour t rho) (phase-kept Liquid t rho))))
 
+  unboxed-kept : (t rho : Float) → Kept (E .meltingPressure t) (density.unboxed E L t rho) (density.unboxed (neverSolid E) L t rho)
+  unfolding density.unboxed density.entered
+  unboxed-kept t rho =
+      after-check (boxed (L .critical .temperature) (L .critical .density) t rho)
+      (after-test (le (E .critical) t) (phase-kept Supercritical t rho) (beneath-kept t rho))
+
   pub density-kept : DensityKept E L
-  unfolding density.densityDoor density.unboxed density.entered
-  density-kept t rho =
-      after-check (ranged (L .asked .temperature) (L .asked .density) t rho) (after-check (boxed (L .critical .temperature) (L .critical .density) t rho)
-      (after-test (le (E .critical) t) (phase-kept Supercritical t rho) (beneath-kept t rho)))
+  unfolding density.densityDoor
+  density-kept t rho = after-check (ranged (L .asked .temperature) (L .asked .density) t rho) (unboxed-kept t rho)
+
+-- ---- 1996, within the limits: past the checks the melting pressure doesn't fail
+
+both-false : (a b : Bool) → cond a true b ≡ false → (a ≡ false) × (b ≡ false)
+both-false true b e = absurd (true≢false e)
+both-false false b e = (refl, e)
+
+in-limits : (xs : Range) (t x : Float) → InRange (document01 .asked .temperature) xs t x → Melts t
+unfolding document01
+in-limits xs t x r =
+    let s = both-false (lt t (decimal 216592 3)) (lt (whole 523) t) (r .temperature) in
+    never-fails t (s .0) (s .1) (first (finite t) (finite x) (r .numbers))
+
+melted : {t : Float} {a b : Answer} → Melts t → Kept (of1996 .meltingPressure t) a b → AsBefore a b
+unfolding of1996
+melted m (same e) = unchanged e
+melted m (solid e) = now-solid e
+melted m (no-melting f e) = let w = m .worked in never (cc)
+
+past-checks : (xs : Range) (t x : Float) {a b : Answer} → Kept (of1996 .meltingPressure t) a b
+    → AsBefore (passed (ranged (document01 .asked .temperature) xs t x) a) (passed (ranged (document01 .asked .temperature) xs t x) b)
+past-checks xs t x k = elim (finds (document01 .asked .temperature) xs t x) [
+  | stops n e _ ↦ rw e (unchanged refl)
+  | passes e r ↦ rw e (melted (in-limits xs t x r) k)
+]
+
+pub pressure-as-before : PressureAsBefore
+unfolding pressure.pressureDoor
+pressure-as-before t p = past-checks (document01 .asked .pressure) t p (thawed-kept of1996 document01 t p)
+
+pub density-as-before : DensityAsBefore
+unfolding density.densityDoor
+density-as-before t rho = past-checks (document01 .asked .density) t rho (unboxed-kept of1996 document01 t rho)
+
+pub from-pressure-as-before : Whatever (from-pressure.Post tt) (λ a r.
+    a .0 ≡ document01 → AsBefore r (pressure.pressureDoor (neverSolid of1996) document01 (a .1 .0) (a .1 .1 .0)))
+from-pressure-as-before a r s h l = rw (h, l) (pressure-as-before (a .1 .0) (a .1 .1 .0))
+
+pub from-density-as-before : Whatever (from-density.Post tt) (λ a r.
+    a .0 ≡ document01 → AsBefore r (density.densityDoor (neverSolid of1996) document01 (a .1 .0) (a .1 .1 .0)))
+from-density-as-before a r s h l = rw (h, l) (density-as-before (a .1 .0) (a .1 .1 .0))

@@ -1,7 +1,7 @@
 -- The checks on the inputs and that of the melting line, by what they find. Assumes nothing.
 use Prim.Native.Nat.{ℕ}
-use mathlib.Core.Path.{_≡_, refl}
-use mathlib.Core.Bool.{true, _&&_, not}
+use mathlib.Core.Path.{_≡_, refl, sym}
+use mathlib.Core.Bool.{Bool, true, false, _&&_, not, true≢false}
 use borrow.Author.Tests.{not-true, not-false}
 use lib.Ieee.{Float, lt}
 use lib.Ieee.Scale.{finite}
@@ -18,6 +18,16 @@ use Rattle.door_answers.specs.declared.Answer.{Answer}
 use Rattle.door_answers.specs.declared.Answer.the-variants as answer
 use Rattle.demands.specs.Demands.{OutOfRange, no-number, no-temperature, no-value, InRange, Fluid}
 
+-- ---- both are numbers
+pub first : (a b : Bool) → (a && b) ≡ true → a ≡ true
+first true b h = refl
+first false b h = h
+
+pub second : (a b : Bool) → (a && b) ≡ true → b ≡ true
+second true b h = h
+second false b h = absurd (true≢false (sym h))
+
+-- ---- 3, 4 and 5
 module _ (temperature value : Range) (t x : Float) where
   pub data Finds (c : Check) : Type 0 where
     stops : (n : ℕ) → c ≡ No n → OutOfRange temperature value t x n → Finds c
@@ -41,6 +51,7 @@ module _ (temperature value : Range) (t x : Float) where
   unfolding ranged
   passes-back p = rw (p .numbers, p .temperature, p .value) refl
 
+-- ---- 19
 module _ (E : Equation) (t p : Float) where
   -- what holds of 7, of 19 and of the answer a where p is fluid, holds of what comes of the check
   pub melts : (P : Answer → Type 0) (a : Answer) → (E .meltingPressure t ≡ Failed → P (answer.Refused 7))

@@ -2,7 +2,7 @@
 -- above the melting pressure. Over any lawful equation and any limits, and of the public functions. Assumes nothing.
 use Prim.Native.Nat.{ℕ}
 use mathlib.Core.Path.{_≡_, refl, sym, ap, _∙_}
-use mathlib.Core.Bool.{Bool, true, false, _&&_, true≢false}
+use mathlib.Core.Bool.{true, true≢false}
 use native.Mathlib.Omega.{arith}
 use lib.Ieee.{Float, binary64, lt, ofBits}
 use lib.Ieee.Scale.{finite}
@@ -19,6 +19,7 @@ use Rattle.door_density.proofs.from_density.Reads as from-density
 use Rattle.demands.specs.Demands.{Whatever, OutOfRange, no-number, no-temperature, no-value, Answered, FluidBothWays}
 use Rattle.demands.specs.Demands.{RefusesD, out-of-ranges, in-the-box, no-vapour, no-liquid, between, no-pressure}
 use Rattle.demands.specs.Demands.{pressure-outside, no-melting, solid-there, no-state}
+use Rattle.demands.proofs.Checks.{second}
 use Rattle.demands.proofs.PressureDoors.{pressure-answers}
 use Rattle.demands.proofs.DensityDoors.{density-refusals}
 
@@ -46,10 +47,6 @@ of-19 (pressure-outside past phased e o) q = absurd (omega arith)
 of-19 (no-melting past phased e o m) q = absurd (omega arith)
 of-19 (solid-there {phase} {p} {m} past phased e o w h) q = record { pressure = p; melting = m; there = e; line = w; above = h }
 of-19 (no-state past phased e o f s) q = absurd (omega arith)
-
-second : (a b : Bool) → (a && b) ≡ true → b ≡ true
-second true b h = h
-second false b h = absurd (true≢false (sym h))
 
 module _ (E : Equation) (L : Limits) (lawful : Lawful E) where
   at-the-density : (t p : Float) (x : State) (a : Answered E L t p x) → SolidThere E t (x .rho) → ⊥

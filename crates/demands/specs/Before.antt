@@ -7,8 +7,8 @@ use Rattle.num_working.specs.Working.{orElse}
 use Rattle.num_working.specs.declared.Worked.{Worked}
 use Rattle.num_working.specs.declared.Worked.the-variants.{Number, Failed}
 use Rattle.eos_state.specs.declared.Phase.{Phase}
-use Rattle.equation.specs.Equation.{Equation}
-use Rattle.door_limits.specs.Limits.{outside}
+use Rattle.equation.specs.Equation.{Equation, of1996}
+use Rattle.door_limits.specs.Limits.{document01, outside}
 use Rattle.door_limits.specs.declared.Limits.{Limits}
 use Rattle.door_checks.specs.Check.{ranged}
 use Rattle.door_answers.specs.Answer.{passed, answerWith}
@@ -35,6 +35,11 @@ pub data Kept (w : Worked) (now before : Answer) : Type 0 where
   solid : now ≡ answer.Refused 19 → Kept w now before
   no-melting : w ≡ Failed → now ≡ answer.Refused 7 → Kept w now before
 
+-- and where the melting pressure is always worked: the same, or solid
+pub data AsBefore (now before : Answer) : Type 0 where
+  unchanged : now ≡ before → AsBefore now before
+  now-solid : now ≡ answer.Refused 19 → AsBefore now before
+
 module _ (E : Equation) (L : Limits) where
   -- of such an equation these two definitions are, word for word, what they were; the doors' other steps are as they were
   abbrev pub PressureDoorBefore : Type 0
@@ -50,3 +55,10 @@ module _ (E : Equation) (L : Limits) where
 
   abbrev pub DensityKept : Type 0
   DensityKept = (t rho : Float) → Kept (E .meltingPressure t) (densityDoor E L t rho) (densityDoor (neverSolid E) L t rho)
+
+-- so it is of 1996 with the limits of RULES 2.2 and 2.3
+abbrev pub PressureAsBefore : Type 0
+PressureAsBefore = (t p : Float) → AsBefore (pressureDoor of1996 document01 t p) (pressureDoor (neverSolid of1996) document01 t p)
+
+abbrev pub DensityAsBefore : Type 0
+DensityAsBefore = (t rho : Float) → AsBefore (densityDoor of1996 document01 t rho) (densityDoor (neverSolid of1996) document01 t rho)

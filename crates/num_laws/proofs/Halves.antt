@@ -18,7 +18,8 @@ use lib.Ieee.Back.{round-whole}
 use lib.Ieee.Order.{kept, drop, round-mono}
 use lib.Ieee.Scale.{round-same, grid, overflow, grid-scale, normal-of-fraction, round-under, round-val}
 use lib.Ieee.Positive.{num, den, positive, den-pos, positive-finite, value→cross, positive-of-value, le→cross, through, between, mul-at}
-use Rattle.num_working.specs.Number.{decimal, fraction, whole}
+use Rattle.num_working.specs.Number.{decimal, fraction, whole, nonneg}
+use Rattle.num_laws.proofs.Orders.{positive-nonneg}
 
 -- ---- an order, by numbers that the two equal
 pub le-by : {a b c d : ℕ} → a ≡ b → b ≤ c → c ≡ d → a ≤ d
@@ -89,8 +90,8 @@ scaled-back f a q t z Q n p v =
     ∙ round-same f false (g * 2 ^ t * 1) (l * 2 ^ t) g l (mul-pos (pow-pos (low f)) (pow-pos t)) (pow-pos (low f)) (cancel g (2 ^ t) l)
     ∙ rounded-again f a q (lt-of-le-of-lt (le-mul-of-pos-right g (pow-pos t)) (subst (λ (w : ℕ). w < overflow f) scaled under))
 
--- ---- the quotient of two values above zero, by any fractions that they equal
-pub div-is : (f : Format) (x y : Float) → T (positive x) → T (positive y) → div f x y ≡ round f false (num x * den y) (num y * den x)
+-- ---- a quotient as a fraction that is rounded; and by a small whole number
+pub div-is : (f : Format) (x y : Float) → T (nonneg x) → T (positive y) → div f x y ≡ round f false (num x * den y) (num y * den x)
 unfolding div
 div-is f nan y p q = absurd p
 div-is f (inf s) y p q = absurd p
@@ -110,7 +111,7 @@ quotient y n p N h =
     let w = whole n in
     let v = whole-value n h in
     let x : num w ≡ n * den w = sym (mul-one (num w)) ∙ value→cross w n 1 v in
-    div-is binary64 y w p (positive-of-value w n 1 v N)
+    div-is binary64 y w (positive-nonneg y p) (positive-of-value w n 1 v N)
     ∙ round-same binary64 false (num y * den w) (num w * den y) (num y) (n * den y)
     (mul-pos (subst (λ (z : ℕ). 0 < z) (sym x) (mul-pos N (den-pos w))) (den-pos y)) (mul-pos N (den-pos y))
     (rw x (simp (mul-assoc, mul-comm, mul-left-comm)))

@@ -3,3 +3,4 @@ pub mod Comparisons
 pub mod Halves
 pub mod Units
 pub mod Parts
+pub mod Sums

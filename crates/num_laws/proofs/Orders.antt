@@ -13,7 +13,7 @@ use lib.Ieee.{Float, nan, inf, fin, Format, binary64, prec, emax, low, up, down,
 use lib.Ieee.Fits.{round-is}
 use lib.Ieee.Exact.{HasValue, odd-sign}
 use lib.Ieee.Order.{le-of-values, round-mono}
-use lib.Ieee.Positive.{num, den, den-pos, through}
+use lib.Ieee.Positive.{num, den, positive, den-pos, through}
 use lib.Ieee.Scale.{finite}
 use Rattle.num_working.specs.Number.{whole, nonneg}
 use Rattle.num_powers.specs.Power.{power}
@@ -25,12 +25,18 @@ unsigned nan = false
 unsigned (inf s) = not s
 unsigned (fin s m e) = not s
 
+pub positive-nonneg : (x : Float) → T (positive x) → T (nonneg x)
+positive-nonneg nan p = p
+positive-nonneg (inf s) p = p
+positive-nonneg (fin true m e) p = p
+positive-nonneg (fin false m e) p = tt
+
 pub unsigned-finite : (x : Float) → T (unsigned x) → T (finite x) → T (nonneg x)
 unsigned-finite nan p f = absurd p
 unsigned-finite (inf s) p f = absurd f
 unsigned-finite (fin s m e) p f = p
 
-own : (x : Float) → T (nonneg x) → HasValue x false (num x) (den x)
+pub own : (x : Float) → T (nonneg x) → HasValue x false (num x) (den x)
 own nan p = absurd p
 own (inf s) p = absurd p
 own (fin true m e) p = absurd p
@@ -122,7 +128,7 @@ finite-left (inf s) (fin t n d) h = go (eqb n 0) (not (Bool·beq s t)) h
     go false c k = k
 finite-left (fin s m e) y h = tt
 
-le-self : (x : Float) → T (nonneg x) → T (le x x)
+pub le-self : (x : Float) → T (nonneg x) → T (le x x)
 le-self x p = le-of-values x x (num x) (den x) (num x) (den x) (den-pos x) (den-pos x) (own x p) (own x p) (le-of-eq refl)
 
 -- ---- whole powers
@@ -206,13 +212,13 @@ bits-mono b c l h =
           (mul-le-mul-right (2 ^ 1074) v);
     }
 
+pub nonneg-finite : (x : Float) → T (nonneg x) → T (finite x)
+nonneg-finite nan p = p
+nonneg-finite (inf s) p = p
+nonneg-finite (fin s m e) p = tt
+
 pub bits-finite : (b : ℕ) → b < infinity → T (finite (ofBits binary64 b))
-bits-finite b h = go (ofBits binary64 b) (bits-mono b b (le-of-eq refl) h .first)
-  where
-    go : (x : Float) → T (nonneg x) → T (finite x)
-    go nan p = p
-    go (inf s) p = p
-    go (fin s m e) p = tt
+bits-finite b h = nonneg-finite (ofBits binary64 b) (bits-mono b b (le-of-eq refl) h .first)
 
 -- ---- a number against an order
 lt-cross : (t x : Float) → T (nonneg t) → T (nonneg x) → lt t x ≡ true → num t * den x < num x * den t
@@ -225,7 +231,7 @@ lt-cross (fin false m e) (inf s) p q h = absurd q
 lt-cross (fin false m e) (fin true n d) p q h = absurd q
 lt-cross (fin false m e) (fin false n d) p q h = ltb-true _ _ h
 
-not-lt-cross : (t x : Float) → T (nonneg t) → T (nonneg x) → lt t x ≡ false → num x * den t ≤ num t * den x
+pub not-lt-cross : (t x : Float) → T (nonneg t) → T (nonneg x) → lt t x ≡ false → num x * den t ≤ num t * den x
 unfolding lt
 not-lt-cross nan x p q h = absurd p
 not-lt-cross (inf s) x p q h = absurd p

@@ -25,6 +25,7 @@ use lib.Ieee.Scale.{round-same}
 use lib.Ieee.Positive.{num, den, positive, den-pos, own-value, value→cross, value-pos, first-pos}
 use Rattle.num_working.specs.Number.{decimal, whole}
 use Rattle.num_laws.specs.Quotient.{normal, divisor, justBelow, justAbove}
+use Rattle.num_laws.proofs.Orders.{positive-nonneg}
 use Rattle.num_laws.proofs.Halves as Halves
 use Rattle.num_laws.proofs.Halves.{le-by, lt-by, pow-split, div-is}
 use Rattle.num_laws.proofs.Units.{Digits, Product, pow-lt-back, size-gt, last-digit, minus-times, bits-are, of-bits, counted}
@@ -420,7 +421,7 @@ quotient-of y k Y p q one v =
     let l = 2 ^ low binary64 in
     let n = num k in
     let N : 0 < n = value-pos k n (den k) q (den-pos k) (own-value k q) in
-    div-is binary64 y k p q
+    div-is binary64 y k (positive-nonneg y p) q
     ∙ round-same binary64 false (num y * den k) (n * den y) Y (n * l) (mul-pos N (den-pos y)) (mul-pos N (pow-pos (low binary64)))
     (ap (λ (z : ℕ). num y * z * (n * l)) one
     ∙ ap (λ (z : ℕ). z * (n * l)) (mul-one (num y))

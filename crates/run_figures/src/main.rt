@@ -1,10 +1,11 @@
-// The saturation figures at temperatures, I₁ and I₂ of the ideal part at values of τ, and pressures and states; their
-// bits were worked elsewhere (crosscheck/equation.py). One figure a line.
+// The saturation figures and the melting pressure at temperatures, I₁ and I₂ of the ideal part at values of τ, and
+// pressures and states; their bits were worked elsewhere (crosscheck/equation.py). One figure a line.
 use eos_brackets::Five;
 use eos_densities::liquid_density;
 use eos_densities::vapour_density;
 use eos_ideal::ideal_part;
 use eos_isotherm::at_temperature;
+use eos_melting::melting_pressure;
 use eos_non_analytic::figures::add_figures;
 use eos_non_analytic::parts::at_critical;
 use eos_residual::term::at_density;
@@ -77,14 +78,25 @@ fn ideal_gas(tau: f64) {
     figure(b"I2 at ", tau, second);
 }
 
-fn each(ideal: bool, xs: &[f64]) {
+// What is worked at each number of a list.
+enum Of {
+    Saturation,
+    Melting,
+    Ideal,
+}
+
+fn figures_of(of: Of, x: f64) {
+    match of {
+        Of::Saturation => saturated(x),
+        Of::Melting => figure(b"melting pressure at ", x, melting_pressure(x)),
+        Of::Ideal => ideal_gas(x),
+    }
+}
+
+fn each(of: Of, xs: &[f64]) {
     let mut i = 0;
     while i < xs.len() {
-        if ideal {
-            ideal_gas(xs[i]);
-        } else {
-            saturated(xs[i]);
-        }
+        figures_of(of, xs[i]);
         i += 1;
     }
 }
@@ -92,7 +104,7 @@ fn each(ideal: bool, xs: &[f64]) {
 // From the triple point to the critical one, and where a pressure is 0, a density is not above 0, or a working fails.
 fn saturations() {
     each(
-        false,
+        Of::Saturation,
         &[
             216.592,
             220.0,
@@ -132,11 +144,51 @@ fn saturations() {
     );
 }
 
+// From the triple point to the last temperature that may be asked, on both sides of 5 and of 30 MPa, beyond, where the
+// pressure is below 0, and where the working fails.
+fn meltings() {
+    each(
+        Of::Melting,
+        &[
+            216.592,
+            216.59199999999998,
+            216.59200000000004,
+            216.5920025,
+            216.598387,
+            217.0,
+            217.5460227897887,
+            217.54602278978874,
+            222.7145,
+            222.7146,
+            250.0,
+            304.1282,
+            523.0,
+            327.673,
+            1100.0,
+            216.4812,
+            100.0,
+            0.0,
+            -0.0,
+            -300.0,
+            5e-324,
+            1e140,
+            1e151,
+            1e152,
+            1e300,
+            -1e300,
+            1.7976931348623157e308,
+            1.0 / 0.0,
+            -1.0 / 0.0,
+            0.0 / 0.0,
+        ],
+    );
+}
+
 // From 524 K down to the triple point, and where an exponential is 0 or refused, a divisor is 0 or not finite, or one
 // of the two fails alone.
 fn ideal_gases() {
     each(
-        true,
+        Of::Ideal,
         &[
             0.58,
             0.8,
@@ -274,6 +326,7 @@ fn no_states() {
 
 fn main() {
     saturations();
+    meltings();
     ideal_gases();
     states();
     no_states();

@@ -25,9 +25,9 @@ use run_print::tally::Tally;
 use run_print::tally::counted;
 
 // The columns. Pressures are printed in MPa, u and h in kJ/kg, the heat capacities in kJ/(kg K).
-const P: usize = 0;
+pub const P: usize = 0;
 
-const T: usize = 1;
+pub const T: usize = 1;
 
 const RHO: usize = 2;
 
@@ -41,11 +41,11 @@ const CP: usize = 7;
 
 const W: usize = 8;
 
-const FLAG: usize = 9;
+pub const FLAG: usize = 9;
 
 const KILO: f64 = 1000.0;
 
-const MEGA: f64 = 1000000.0;
+pub const MEGA: f64 = 1000000.0;
 
 // No number, which no comparison finds right, where the cell is damaged.
 fn number(text: &[u8], line: usize, column: usize, scale: f64) -> f64 {

@@ -1,7 +1,8 @@
-// 004's tables of states against the library: the isobars (RULES 8.3), and saturation. The tables, data/isobars.csv and
-// data/saturation.csv, are as read from the scan (docs/READING.md). A line for each failure, the counts, and last how
-// many failures there are.
+// 004's tables of states against the library: the isobars (RULES 8.3), their rows on the melting line (RULES 8.4), and
+// saturation. The tables, data/isobars.csv and data/saturation.csv, are as read from the scan (docs/READING.md). A line
+// for each failure, the counts, and last how many failures there are.
 mod isobar;
+mod melting;
 mod saturated;
 
 ghost use mathlib.Core.Path.{_≡_};
@@ -13,20 +14,27 @@ use run_print::tally::FAILURES;
 use run_print::tally::Tally;
 use run_print::tally::none;
 
-fn row(text: &[u8], line: usize, tally: Tally, saturation: bool) -> Tally {
-    if saturation {
-        saturated::row(text, line, tally)
-    } else {
-        isobar::row(text, line, tally)
+// What a table's rows are compared with.
+enum With {
+    Door,
+    MeltingLine,
+    Saturation,
+}
+
+fn row(text: &[u8], line: usize, tally: Tally, with: With) -> Tally {
+    match with {
+        With::Door => isobar::row(text, line, tally),
+        With::MeltingLine => melting::row(text, line, tally),
+        With::Saturation => saturated::row(text, line, tally),
     }
 }
 
 // The first line names the columns.
-fn lines(text: &[u8], saturation: bool) -> Tally {
+fn lines(text: &[u8], with: With) -> Tally {
     let mut tally = none();
     let mut line = line_after(text, 0);
     while line < text.len() {
-        let more = row(text, line, tally, saturation);
+        let more = row(text, line, tally, with);
         tally = more;
         line = line_after(text, line);
     }
@@ -34,9 +42,9 @@ fn lines(text: &[u8], saturation: bool) -> Tally {
 }
 
 // A table that is wrong in this many places: the comparison must be able to fail.
-fn wrong(what: &[u8], text: &[u8], saturation: bool, failures: u64, places: &[u8]) {
+fn wrong(what: &[u8], text: &[u8], with: With, failures: u64, places: &[u8]) {
     say(what);
-    let tally = lines(text, saturation);
+    let tally = lines(text, with);
     say(places);
     if tally[FAILURES] == failures {
         say(b" found: yes\n");
@@ -50,7 +58,7 @@ fn wrong_row() {
     wrong(
         b"a wrong row:\n",
         b"isobar_MPa,T_K,rho,u,h,s,cv,cp,w\n5.00,300,128.43,-99.772,-60.830,-0.88811,0.85258,1.8025,223.25\n",
-        false,
+        With::Door,
         2,
         b"a wrong row is",
     );
@@ -62,9 +70,20 @@ fn wrong_cells() {
     wrong(
         b"a row with five wrong cells:\n",
         b"isobar_MPa,T_K,rho,u,h,s,cv,cp,w\n5.00,300,128.40,-99.775,-60.833,-0.88811,0.85261,1.8028,223.28\n",
-        false,
+        With::Door,
         5,
         b"five wrong cells are",
+    );
+}
+
+// The row on the melting line at 5 MPa, 217.546 K, moved by a unit of the temperature to either side.
+fn wrong_melting() {
+    wrong(
+        b"a wrong row on the melting line, to either side:\n",
+        b"isobar_MPa,T_K,rho,u,h,s,cv,cp,w,flag\n5.00,217.547,,,,,,,,on melting line\n5.00,217.545,,,,,,,,on melting line\n5.00,217.546,,,,,,,,on melting line\n",
+        With::MeltingLine,
+        2,
+        b"two wrong melting temperatures are",
     );
 }
 
@@ -74,7 +93,7 @@ fn wrong_saturation() {
     wrong(
         b"a wrong row of saturation, of each phase:\n",
         b"T_K,p_MPa,phase,rho\n300,6.7148,liquid,679.84\n300,6.7148,vapour,269.08\n",
-        true,
+        With::Saturation,
         3,
         b"a wrong pressure and two wrong densities are",
     );
@@ -87,7 +106,7 @@ fn space() -> [u8; 131072]
     [0; 131072]
 }
 
-fn compare(file: &[u8], saturation: bool, table: &[u8], words: &[u8]) {
+fn compare(file: &[u8], with: With, table: &[u8], words: &[u8]) {
     let mut space = space();
     let fd = os::open_read(file);
     if fd < 0 {
@@ -96,22 +115,31 @@ fn compare(file: &[u8], saturation: bool, table: &[u8], words: &[u8]) {
     }
     let n = io::read_full(fd, &mut space);
     libc::close(fd);
-    tell_counts(table, lines(&space[..n], saturation), words);
+    tell_counts(table, lines(&space[..n], with), words);
 }
 
 fn compare_isobars() {
     compare(
         b"isobars.csv",
-        false,
+        With::Door,
         b"isobars",
         b" rows\n in range\n of them on the saturation line\n on the melting line\n in the critical box\n compared\n cells compared\n cells left out, damaged in the scan\n\n compared in h - u = p/rho\n left out of it, a cell damaged in the scan\n failures\n",
+    );
+}
+
+fn compare_meltings() {
+    compare(
+        b"isobars.csv",
+        With::MeltingLine,
+        b"melting",
+        b" rows of the isobars\n\n\n of them on the melting line\n\n\n compared with the melting pressure\n cells left out, damaged in the scan\n\n\n\n failures\n",
     );
 }
 
 fn compare_saturations() {
     compare(
         b"saturation.csv",
-        true,
+        With::Saturation,
         b"saturation",
         b" rows\n\n\n\n\n compared\n comparisons, the critical density's with both equations\n cells left out, damaged in the scan\n\n\n\n failures\n",
     );
@@ -120,7 +148,9 @@ fn compare_saturations() {
 fn main() {
     wrong_row();
     wrong_cells();
+    wrong_melting();
     wrong_saturation();
     compare_isobars();
+    compare_meltings();
     compare_saturations();
 }

@@ -1,6 +1,6 @@
 // The doors: the three rows of RULES 8.3, the temperatures and pressures of RULES 8.1, the ends of each range and the
-// floats beside them, both sides of the saturation line, the edges of the critical box, and what is no number. Bits
-// worked elsewhere (crosscheck/doors.py).
+// floats beside them, both sides of the saturation line, the edges of the critical box, both sides of the melting line
+// (RULES 8.4), and what is no number. Bits worked elsewhere (crosscheck/doors.py).
 use door_answers::Answer;
 use door_density::from_density;
 use door_limits::document_01;
@@ -195,6 +195,40 @@ fn pressures() {
         7100000.0,
         303.1,
         7300000.0,
+        217.0,
+        5000000.0,
+        217.0,
+        2429700.0,
+        217.0,
+        2429701.0,
+        217.0,
+        2429700.0645423313,
+        217.0,
+        2429700.0645423317,
+        217.546,
+        5000000.0,
+        217.5461,
+        5000000.0,
+        217.5460227897887,
+        5000000.0,
+        217.54602278978874,
+        5000000.0,
+        222.7145,
+        30000000.0,
+        222.7146,
+        30000000.0,
+        216.592,
+        517950.0,
+        216.592,
+        517950.00000000006,
+        216.592,
+        517951.0,
+        216.592,
+        30000001.0,
+        216.592003,
+        517964.0,
+        216.592003,
+        517965.0,
     ];
     each(false, &list);
 }
@@ -295,6 +329,24 @@ fn densities() {
         300.0,
         303.1,
         560.0,
+        217.0,
+        1186.152,
+        217.0,
+        1180.969,
+        217.0,
+        1180.97,
+        216.592,
+        13.76,
+        216.592,
+        13.761,
+        216.592,
+        1178.6,
+        216.592,
+        1178.5,
+        216.5983,
+        1178.5025589536633,
+        216.5984,
+        1178.5022008008582,
     ];
     each(true, &list);
 }
@@ -323,4 +375,5 @@ pub fn run() {
     by_both(250.0, 5000000.0);
     by_both(300.0, 5000000.0);
     by_both(400.0, 5000000.0);
+    by_both(217.0, 2429700.0645423313);
 }

@@ -126,14 +126,14 @@ fn banks() {
     let bank = &space[..n];
     built(
         b"= 32 good lines, the need their total",
-        b"N 1401620032\n",
+        b"N 1354720333\n",
         bank,
         1,
         b"",
     );
     built(
         b"= 32 good lines, the need 1 mg more",
-        b"N 1401620033\n",
+        b"N 1354720334\n",
         bank,
         1,
         b"",

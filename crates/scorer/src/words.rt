@@ -103,7 +103,9 @@ pub fn explain(report: &[u8]) {
             13\n\
             13: some line was refused, so there is no verdict. See to that line.\n\
             14\n\
-            14: the text is not in the form. scorer --help shows it; every line must end in LF alone.\n",
+            14: the text is not in the form. scorer --help shows it; every line must end in LF alone.\n\
+            19\n\
+            19: solid: dry ice and no agent that flows. Check the thermometer and the gauge, or warm the cylinder above -50 Celsius (223.2 K) and read again.\n",
         report,
     );
 }

@@ -6,10 +6,10 @@ use Rattle.run_figures.proofs.each.Statement.{statement}
 use Rattle.run_figures.proofs.each.Tie as tie
 
 abbrev Inv-loop : tie.InvT-loop
-Inv-loop ideal xs i₀ i = i ≤ length xs
+Inv-loop of xs i₀ i = i ≤ length xs
 
 abbrev μ-loop : tie.MeasureT-loop
-μ-loop ideal xs i₀ i = length xs - i
+μ-loop of xs i₀ i = length xs - i
 
 pub each-spec : {M : Type 1} → statement M
 each-spec =
@@ -18,9 +18,6 @@ each-spec =
     Inv-loop
     μ-loop
     (λ c. search needs)
-    (λ c. search needs)
-    (λ c. search needs)
-    (λ c κs. search needs)
     (λ c. search needs)
     (λ c. search needs)
     (λ c κs. search needs)

@@ -7,10 +7,10 @@ use Rattle.run_isobars.proofs.lines.Statement.{statement}
 use Rattle.run_isobars.proofs.lines.Tie as tie
 
 abbrev Inv-loop : tie.InvT-loop
-Inv-loop text saturation tally₀ line₀ tally line = line ≤ length text
+Inv-loop text with' tally₀ line₀ tally line = line ≤ length text
 
 abbrev μ-loop : tie.MeasureT-loop
-μ-loop text saturation tally₀ line₀ tally line = length text - line
+μ-loop text with' tally₀ line₀ tally line = length text - line
 
 loop-less : tie.Need-loop-less Inv-loop μ-loop
 loop-less c = omega (arith, c .line-after2 .ensures .0 (omega arith))

@@ -82,7 +82,7 @@ int main(void) {
     text(x_of(420), y_of(2e6), "middle", "supercritical");
     text(x_of(314), y_of(7.2e6), "start", "critical box: 6");
     text(x_of(262), y_of(1.1e6), "start", "saturation line: 8");
-    text(x_of(225), y_of(2.2e7), "start", "left of the melting line: 19");
+    text(x_of(225), y_of(2.2e7), "start", "melting line, solid: 19");
     text(x_of(210.5), y_of(8e5), "middle", "4");
     text(x_of(529), y_of(8e5), "middle", "4");
     text(x_of(370), y_of(7e3) + 4, "middle", "5");

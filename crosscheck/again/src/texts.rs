@@ -92,12 +92,13 @@ fn good_line(rng: &mut Rng) -> [String; 5] {
     let (temperature, kind, value) = match rng.below(10) {
         // at 30 MPa a vapour of 523 K has more than 380 kg/m³
         0..=2 => (rng.between(3051283, 5230000), "D", rng.between(600, 300000)),
-        // cold liquid, some of it solid, and cold vapour
-        3 => (rng.between(2166000, 2200000), "D", rng.between(1180000, 1195000)),
+        // cold liquid, and cold vapour
+        3 => (rng.between(2200000, 2227000), "D", rng.between(1168000, 1195000)),
         4 => (rng.between(2300000, 3031281), "D", rng.between(300, 20000)),
-        5 => (rng.between(2165920, 5230000), "P", rng.between(1, 300) * 100000),
-        6 => (rng.between(2165920, 3031281), "P", rng.between(10000, 8000000)),
-        _ => (rng.between(2165920, 5230000), "P", rng.between(10000, 30000000)),
+        // at 8 MPa it is fluid from 218.18 K on, at 30 MPa from 222.7146 K on
+        5 => (rng.between(2227146, 5230000), "P", rng.between(1, 300) * 100000),
+        6 => (rng.between(2181800, 3031281), "P", rng.between(10000, 8000000)),
+        _ => (rng.between(2227146, 5230000), "P", rng.between(10000, 30000000)),
     };
     [number(rng, 4).to_string(), temperature.to_string(), kind.to_string(), value.to_string(), volume.to_string()]
 }

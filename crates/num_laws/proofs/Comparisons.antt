@@ -19,6 +19,9 @@ module _ (a p b q c r : ℕ) (P : 0 < p) (Q : 0 < q) (R : 0 < r) where
   no-product : (x y : ℕ) → x ≤ 0 → x * y ≡ 0
   no-product x y h = let z : x ≡ 0 = omega arith in rw z (zero-mul y)
 
+  nothing : a ≤ 0 → c ≤ 0 → below true (c * p) false (a * r) ≡ false
+  nothing h k = let x = no-product c p k in let y = no-product a r h in le-ltb 0 (c * p + a * r) (omega arith)
+
   of-signs : (s t u : Bool) → below t (b * p) s (a * q) ≡ false → below u (c * q) t (b * r) ≡ false → below u (c * p) s (a * r) ≡ false
   of-signs false false false h k = le-ltb (c * p) (a * r) (through a b c p q r Q (ltb-false (b * p) (a * q) h) (ltb-false (c * q) (b * r) k))
   of-signs true true true h k = le-ltb (a * r) (c * p) (through c b a r q p Q (ltb-false (b * r) (c * q) k) (ltb-false (a * q) (b * p) h))
@@ -26,7 +29,7 @@ module _ (a p b q c r : ℕ) (P : 0 < p) (Q : 0 < q) (R : 0 < r) where
   of-signs true true false h k = refl
   of-signs true false true h k =
       let z = ltb-false 0 (c * q + b * r) k in
-      let y = no-product c p (none c q Q (omega arith)) in
+      let x = no-product c p (none c q Q (omega arith)) in
       le-ltb (a * r) (c * p) (omega arith)
   of-signs false true false h k =
       let z = ltb-false 0 (b * p + a * q) h in
@@ -34,18 +37,12 @@ module _ (a p b q c r : ℕ) (P : 0 < p) (Q : 0 < q) (R : 0 < r) where
       le-ltb (c * p) (a * r) (omega arith)
   of-signs false false true h k =
       let z = ltb-false 0 (c * q + b * r) k in
-      let x = no-product c p (none c q Q (omega arith)) in
       let w = no-product b p (none b r R (omega arith)) in
-      let v = ltb-false (b * p) (a * q) h in
-      let y = no-product a r (none a q Q (omega arith)) in
-      le-ltb 0 (c * p + a * r) (omega arith)
+      nothing (none a q Q (omega (arith, ltb-false (b * p) (a * q) h))) (none c q Q (omega arith))
   of-signs false true true h k =
       let z = ltb-false 0 (b * p + a * q) h in
-      let y = no-product a r (none a q Q (omega arith)) in
       let w = no-product b r (none b p P (omega arith)) in
-      let v = ltb-false (b * r) (c * q) k in
-      let x = no-product c p (none c q Q (omega arith)) in
-      le-ltb 0 (c * p + a * r) (omega arith)
+      nothing (none a q Q (omega arith)) (none c q Q (omega (arith, ltb-false (b * r) (c * q) k)))
 
 -- a is not above b, and b is not above c; where b is no number nothing follows
 pub not-above-through : (a b c : Float) → finite b ≡ true → lt b a ≡ false → lt c b ≡ false → lt c a ≡ false

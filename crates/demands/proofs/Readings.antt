@@ -24,7 +24,8 @@ abbrev reads : List Starred → List Read
 reads rs = map (λ (r : Starred). r .reads) rs
 
 checks-read : worked of-checks ≡ reads of-checks
-unfolding of-checks passes document01 ranged boxed whole decimal fraction ofInt round div lt
+unfolding of-checks passes document01 ranged solid boxed of1996 meltingPressure melting work power _^ᵂ_ _+ᵂ_ _-ᵂ_ _*ᵂ_ _/ᵂ_
+    whole decimal fraction ofInt round add sub mul div lt
 checks-read = refl
 
 lines-read : worked of-lines ≡ reads of-lines

@@ -144,12 +144,17 @@ fn saturations() {
     );
 }
 
-// From the triple point to the last temperature that may be asked, on both sides of 5 and of 30 MPa, beyond, where the
-// pressure is below 0, and where the working fails.
+// Where another order of operations would show, from the triple point to the last temperature that may be asked, on both
+// sides of 5 and of 30 MPa, beyond, where the pressure is below 0, and where the working fails.
 fn meltings() {
     each(
         Of::Melting,
         &[
+            216.6478,
+            216.9646,
+            218.2975,
+            218.3518,
+            330.0,
             216.592,
             216.59199999999998,
             216.59200000000004,

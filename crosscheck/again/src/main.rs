@@ -72,9 +72,9 @@ fn compare(states: u64, texts: u64, seed: u64, threads: usize) -> ExitCode {
         for (index, told) in &tally.first {
             println!("case {index}: {told}");
         }
-        for (change, times) in &tally.changes {
-            println!("{times:>9} times {change}");
-        }
+    }
+    for (change, times) in all.iter().flat_map(|(tally, _)| &tally.changes) {
+        println!("{times:>9} times {change}");
     }
     println!("seed {seed}, {seconds:.1} s, digest of what is right {digest:016x}");
     println!("{} compared, {} differ", sums[0], sums[1]);

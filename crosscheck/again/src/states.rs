@@ -257,16 +257,16 @@ fn case(seed: u64, index: u64, door: Door, tally: &mut Tally) {
     }
     let got_number = door.ask_library(t, x, &mut got[GUARD..GUARD + len]);
 
+    let name = if door == Door::Pressure { "makhroeng_from_pressure" } else { "makhroeng_from_density" };
     let column = ANSWERS.iter().position(|&answer| answer == expected_number).expect("an answer of RULES 3.1 or a phase");
     tally.counts[kind][column] += 1;
     if got_number != expected_number {
-        tally.change(format!("{got_number} answered where {expected_number} is right"));
+        tally.change(format!("{name}: {got_number} answered where {expected_number} is right"));
     } else if got != expected {
-        tally.change(format!("{got_number} answered, which is right, with other figures"));
+        tally.change(format!("{name}: {got_number} answered, which is right, with other figures"));
     }
     let digest = digest([t.to_bits(), x.to_bits(), u64::from(expected_number)].into_iter().chain(expected));
     tally.note(index, digest, got_number == expected_number && got == expected, || {
-        let name = if door == Door::Pressure { "makhroeng_from_pressure" } else { "makhroeng_from_density" };
         let mut told =
             format!("{name}({:#018x}, {:#018x}, figures, {len}), which are {t:?} and {x:?} ({}):\n", t.to_bits(), x.to_bits(), KINDS[kind]);
         told += &format!("    {expected_number} expected, {got_number} answered\n");

@@ -335,7 +335,7 @@ fn case(seed: u64, index: u64, tally: &mut Tally) {
         let mut out = [0; 1512];
         let len = library::report(&text[..text_len], &mut out) as usize;
         for change in changes(&out[..len], &report) {
-            tally.change(change);
+            tally.change(format!("makhroeng_report: {change}"));
         }
     }
     let digest = digest([expected_len].into_iter().chain(text[..text_len].iter().chain(&expected).map(|&byte| u64::from(byte))));

@@ -41,12 +41,12 @@ passes t p =
 unfoldable pub of-checks : List Starred
 of-checks =
     passes 2165920 517950
-    ++ (passes 5230000 5000000
-    ++ (passes 3000000 10000
-    ++ (passes 3031281 7000000
-    ++ (passes 2170000 2429700
-    ++ (passes 2175461 5000000
-    ++ passes 2227146 30000000)))))
+    ++ passes 5230000 5000000
+    ++ passes 3000000 10000
+    ++ passes 3031281 7000000
+    ++ passes 2170000 2429700
+    ++ passes 2175461 5000000
+    ++ passes 2227146 30000000
 
 -- a reading that is refused: a cylinder's line with a pressure, as it is written, is refused by this number
 abbrev pub written : ℕ → ℕ → ℕ → Cylinder

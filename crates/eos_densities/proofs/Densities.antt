@@ -11,7 +11,8 @@ use Rattle.num_working.specs.declared.Worked.{Worked}
 use Rattle.num_working.specs.declared.Worked.the-variants.{Number, Failed}
 use Rattle.num_working.proofs.Cases.{by-test}
 use Rattle.num_formulas.specs.Formula.{Formula, num, _⊗_, e^, work}
-use Rattle.num_formulas.proofs.Formulas.{sound, work-sound}
+use Rattle.num_working.proofs.Sound.{sound}
+use Rattle.num_formulas.proofs.Formulas.{work-sound}
 use Rattle.eos_constants.specs.Constant.{spanWagner}
 use Rattle.eos_saturation.specs.Saturation.{theta}
 use Rattle.eos_densities.specs.Density.{liquidSum, vapourSum, aboveZero, densityOf, liquidDensity, vapourDensity}

@@ -50,8 +50,11 @@ parts row n tau =
     record { θ = θ; Δ = Δ; P₀ = P₀; P₁ = P₀ ⊘ Δ; low = raised (row .half) (n .e) (n .X ^^ 2) }
 
 -- Ψ = e^(−(C·X + z)), with z for D·(τ−1)²
+abbrev pub psiArgument : NonAnalytic → Formula → Formula → Formula
+psiArgument row X z = minus (num (row .kc) ⊗ X ⊕ z)
+
 abbrev pub psi : NonAnalytic → Around → Float → Formula
-psi row n z = e^ (minus (num (row .kc) ⊗ n .X ⊕ num z))
+psi row n z = e^ (psiArgument row (n .X) (num z))
 
 -- ---- what code inside asks for: what is worked once for a state, in plain f64
 abbrev pub near : Around → Near

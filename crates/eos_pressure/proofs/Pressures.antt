@@ -10,7 +10,8 @@ use Rattle.num_working.specs.declared.Worked.{Worked}
 use Rattle.num_working.specs.declared.Worked.the-variants.{Number, Failed}
 use Rattle.num_working.proofs.Cases.{by-working}
 use Rattle.num_formulas.specs.Formula.{work}
-use Rattle.num_formulas.proofs.Formulas.{sound, work-sound}
+use Rattle.num_working.proofs.Sound.{sound}
+use Rattle.num_formulas.proofs.Formulas.{work-sound}
 use Rattle.eos_constants.specs.Reduced.{delta}
 use Rattle.eos_brackets.specs.Derivative.{Delta}
 use Rattle.eos_isotherm.specs.Isotherm.{quarterOf, isotherm}

@@ -14,7 +14,7 @@ use Rattle.eos_brackets.specs.Derivative.{Derivative}
 use Rattle.eos_rows.specs.Row.{polynomials}
 use Rattle.eos_isotherm.specs.Isotherm.{quarterOf, tauPower, tauPowers, quarters, isotherm}
 use Rattle.eos_isotherm.specs.declared.Isotherm.{Isotherm}
-use Rattle.eos_residual.specs.Term.{polynomialTerm}
+use Rattle.eos_terms.specs.Term.{polynomialTerm}
 use Rattle.eos_residual.specs.Sum.{onto, total, polynomialFigures, figures, residual}
 
 times-failed : (v : Worked) → v *ᵂ Failed ≡ Failed

@@ -22,8 +22,8 @@ use Rattle.eos_isotherm.specs.declared.Isotherm.{Isotherm}
 use Rattle.eos_brackets.specs.Derivative.{Derivative, of, five}
 use Rattle.eos_brackets.specs.declared.Five.{Five}
 use Rattle.eos_brackets.proofs.Derivatives.{of-five}
-use Rattle.eos_residual.specs.Term.{numbered, polynomialTerm, polynomialBracket, exponentialTerm, exponentialBracket, gaussianTerm, gaussianBracket}
-use Rattle.eos_residual.specs.Term.{decay, decays, bell, bells}
+use Rattle.eos_terms.specs.Term.{numbered, polynomialTerm, polynomialBracket, exponentialTerm, exponentialBracket, gaussianTerm, gaussianBracket}
+use Rattle.eos_terms.specs.Term.{decay, decays, bell, bells}
 use Rattle.eos_residual.specs.Sum.{polynomialFigure, polynomialFigures, exponentialFigure, exponentialFigures, gaussianFigure, gaussianFigures}
 use Rattle.eos_residual.proofs.Sums.{At, length-numbered, getD-numbered}
 

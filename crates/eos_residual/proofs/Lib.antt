@@ -1,4 +1,3 @@
-pub mod Points
 pub mod ThreeRows
 pub mod Sums
 pub mod Figures

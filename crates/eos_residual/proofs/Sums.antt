@@ -14,7 +14,7 @@ use Rattle.num_working.specs.Working.{checked, _+ᵂ_}
 use Rattle.num_working.specs.declared.Worked.{Worked}
 use Rattle.num_working.specs.declared.Worked.the-variants.{Failed}
 use Rattle.num_working.proofs.Workings.{checked-add}
-use Rattle.eos_residual.specs.Term.{numbered}
+use Rattle.eos_terms.specs.Term.{numbered}
 use Rattle.eos_brackets.specs.Derivative.{Derivative, of, times, grown, asked}
 use Rattle.eos_brackets.specs.declared.Five.{Five}
 use Rattle.eos_brackets.proofs.Derivatives.{of-five, of-grown}

@@ -13,10 +13,10 @@ use Rattle.eos_non_analytic.specs.Parts.{critical}
 use Rattle.eos_non_analytic.specs.declared.parts.Critical.{Critical}
 use Rattle.eos_non_analytic.specs.Figures.{nonAnalyticFigure, nonAnalyticFigures}
 use Rattle.eos_non_analytic.proofs.Rows.{Added, AllAdded, each-added, figure-added}
-use Rattle.eos_residual.specs.declared.term.Point.{Point}
-use Rattle.eos_residual.specs.Term.{point}
+use Rattle.eos_terms.specs.declared.term.Point.{Point}
+use Rattle.eos_terms.specs.Term.{point}
 use Rattle.eos_residual.specs.Sum.{onto}
-use Rattle.eos_residual.proofs.Points.{first-psi, other-psi}
+use Rattle.eos_terms.proofs.Points.{first-psi, other-psi}
 
 in-turn : (iso : Isotherm) (delta : Float) (k : Derivative) (w x y z : Worked)
     → x ≡ w +ᵂ nonAnalyticFigure iso delta k row40

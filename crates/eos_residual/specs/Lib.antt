@@ -1,2 +1,1 @@
-pub mod Term
 pub mod Sum

@@ -11,7 +11,8 @@ use Rattle.num_working.specs.declared.Worked.{Worked}
 use Rattle.num_working.specs.declared.Worked.the-variants.{Failed}
 use Rattle.num_formulas.specs.Formula.{num, _⊗_, _^^_, work}
 use Rattle.eos_rows.specs.Row.{polynomials, exponentials, gaussians}
-use Rattle.eos_residual.specs.Term.{numbered, polynomialTerm, polynomialBracket, exponentialTerm, exponentialBracket, gaussianTerm, gaussianBracket}
+use Rattle.eos_terms.specs.Term.{numbered, polynomialTerm, polynomialBracket, exponentialTerm, exponentialBracket, gaussianTerm, gaussianBracket}
+use Rattle.eos_terms.specs.Fallen.{fallenTerms}
 use Rattle.eos_non_analytic.specs.Figures.{nonAnalyticFigures}
 use Rattle.eos_rows.specs.declared.Polynomial.{Polynomial}
 use Rattle.eos_rows.specs.declared.Exponential.{Exponential}
@@ -20,6 +21,7 @@ use Rattle.eos_isotherm.specs.Isotherm.{bellAt}
 use Rattle.eos_isotherm.specs.declared.Isotherm.{Isotherm}
 use Rattle.eos_residual.specs.declared.sum.Sums.{Sums}
 use Rattle.eos_residual.specs.declared.sum.Sums.the-variants.{Summed, Broken}
+use Rattle.eos_residual.specs.declared.sum.Residual.{Residual}
 use Rattle.eos_brackets.specs.Derivative.{Derivative, Delta, DeltaDelta, Tau, TauTau, DeltaTau, of, asked}
 use Rattle.eos_brackets.specs.declared.Five.{Five}
 
@@ -78,3 +80,7 @@ allFive sum =
 
 unfoldable pub fiveSums : Isotherm → Float → Sums
 fiveSums iso delta = allFive (residual iso delta)
+
+-- with how many terms fell away
+unfoldable pub residualPart : Isotherm → Float → Residual
+residualPart iso delta = record { sums = fiveSums iso delta; fallen = fallenTerms iso delta }

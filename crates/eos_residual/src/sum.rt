@@ -9,10 +9,8 @@ ghost use Rattle.num_formulas.specs.Formula.{num, value};
 ghost use Rattle.eos_brackets.specs.Derivative.{Delta, of, five};
 ghost use Rattle.eos_non_analytic.specs.Parts.{critical};
 ghost use Rattle.eos_non_analytic.specs.Figures.{nonAnalyticFigures};
-ghost use Rattle.eos_residual.specs.Term.{point, polynomialBracket, exponentialBracket, gaussianBracket};
-ghost use Rattle.eos_residual.specs.Sum.{onto, total, Meet, polynomialFigures, exponentialFigures, gaussianFigures, residual, allFive, fiveSums};
-use crate::term::Point;
-use crate::term::at_density;
+ghost use Rattle.eos_terms.specs.Term.{point, polynomialBracket, exponentialBracket, gaussianBracket};
+ghost use Rattle.eos_residual.specs.Sum.{onto, total, Meet, polynomialFigures, exponentialFigures, gaussianFigures, residual, allFive, residualPart};
 use eos_brackets::Five;
 use eos_brackets::grow;
 use eos_brackets::times;
@@ -28,6 +26,9 @@ use eos_rows::exponential_row;
 use eos_rows::gaussian_row;
 use eos_rows::non_analytic_row;
 use eos_rows::polynomial_row;
+use eos_terms::term::Point;
+use eos_terms::term::at_density;
+use eos_terms::term::told_at_density;
 use num_working::Worked;
 use num_working::checked;
 use num_working::is_finite;
@@ -35,6 +36,12 @@ use num_working::is_finite;
 pub enum Sums {
     Summed(Five),
     Broken,
+}
+
+// The five sums, and how many terms fell away.
+pub struct Residual {
+    pub sums: Sums,
+    pub fallen: u32,
 }
 
 fn polynomial_brackets(r: Polynomial) -> Five
@@ -191,22 +198,22 @@ fn non_analytic_sums(all: bool, start: Five, iso: Isotherm, p: Point, c: Critica
 }
 
 // All 42, in plain f64. Rows 40 to 42 wait longest for their roots, so these are begun before the sums.
-fn sums_at(all: bool, iso: Isotherm, delta: f64) -> Five
-    ensures { λ v. ⌜ Meet all v (λ k. residual iso delta k) ⌝ }
+fn sums_at(all: bool, iso: Isotherm, p: Point) -> Five
+    requires { ⌜ p ≡ point iso (p .delta) ⌝ }
+    ensures { λ v. ⌜ Meet all v (λ k. residual iso (p .delta) k) ⌝ }
 {
-    let p = at_density(iso, delta);
-    let c = at_critical(iso, delta);
+    let c = at_critical(iso, p.delta);
     let s7 = polynomial_sums(all, iso, p);
     let s34 = exponential_sums(all, s7, iso, p);
     let s39 = gaussian_sums(all, s34, iso, p);
     non_analytic_sums(all, s39, iso, p, c)
 }
 
-// δφ_δ, which a pressure needs.
+// δφ_δ, which a pressure needs. What the exponentials say is dropped.
 pub fn slope_at(iso: Isotherm, delta: f64) -> Worked
     ensures { λ v. ⌜ v ≡ residual iso delta Delta ⌝ }
 {
-    checked(sums_at(false, iso, delta).d)
+    checked(sums_at(false, iso, at_density(iso, delta)).d)
 }
 
 fn also_finite(x: f64, others: bool) -> bool
@@ -236,8 +243,13 @@ fn all_five(s: Five) -> Sums
     }
 }
 
-pub fn five_sums(iso: Isotherm, delta: f64) -> Sums
-    ensures { λ v. ⌜ v ≡ fiveSums iso delta ⌝ }
+// All that a state needs. What the exponentials say is passed on.
+pub fn residual_part(iso: Isotherm, delta: f64) -> Residual
+    ensures { λ v. ⌜ v ≡ residualPart iso delta ⌝ }
 {
-    all_five(sums_at(true, iso, delta))
+    let t = told_at_density(iso, delta);
+    Residual {
+        sums: all_five(sums_at(true, iso, t.point)),
+        fallen: t.fallen,
+    }
 }

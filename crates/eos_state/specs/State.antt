@@ -1,5 +1,6 @@
 -- RULES 4.9: the state at a temperature and a density, each field by its own formula (docs/ARRANGEMENT.md, section 9; 004, Table 3), or a failure.
 -- Definitions only.
+use Prim.Native.Nat.{ℕ}
 use lib.Ieee.{Float}
 use mathlib.Core.List.{List, [], _∷_}
 use Rattle.num_working.specs.Working.{orElse}
@@ -10,6 +11,7 @@ use Rattle.eos_constants.specs.Reduced.{delta}
 use Rattle.eos_isotherm.specs.Isotherm.{half}
 use Rattle.eos_isotherm.specs.declared.Isotherm.{Isotherm}
 use Rattle.eos_brackets.specs.declared.Five.{Five}
+use Rattle.eos_terms.specs.Fallen.{fallenTerms}
 use Rattle.eos_residual.specs.Sum.{fiveSums}
 use Rattle.eos_residual.specs.declared.sum.Sums.{Sums}
 use Rattle.eos_residual.specs.declared.sum.Sums.the-variants.{Summed, Broken}
@@ -58,20 +60,20 @@ sound t sums i2 = root half (thermal t ⊗ (k sums ⊖ g sums ⊗ g sums ⊘ z s
 
 -- ---- the state
 
--- p, u, h, cᵥ, cₚ and w with T, ρ and the phase, where each was worked
-abbrev pub stated : Phase → Float → Float → Worked → Worked → Worked → Worked → Worked → Worked → Stated
-stated phase t rho p u h cv cp w =
+-- p, u, h, cᵥ, cₚ and w with T, ρ, the phase and how many terms fell away, where each was worked
+abbrev pub stated : Phase → ℕ → Float → Float → Worked → Worked → Worked → Worked → Worked → Worked → Stated
+stated phase fallen t rho p u h cv cp w =
     orElse p Unknown (λ p.
     orElse u Unknown (λ u.
     orElse h Unknown (λ h.
     orElse cv Unknown (λ cv.
     orElse cp Unknown (λ cp.
     orElse w Unknown (λ w.
-    Known (record { t = t; p = p; rho = rho; u = u; h = h; cv = cv; cp = cp; w = w; phase = phase })))))))
+    Known (record { t = t; p = p; rho = rho; u = u; h = h; cv = cv; cp = cp; w = w; phase = phase; fallen = fallen })))))))
 
-unfoldable pub stateOf : Phase → Float → Float → Five → Float → Float → Stated
-stateOf phase t rho sums i1 i2 =
-    stated phase t rho (work (pressureFormula t rho (sums .d)))
+unfoldable pub stateOf : Phase → ℕ → Float → Float → Five → Float → Float → Stated
+stateOf phase fallen t rho sums i1 i2 =
+    stated phase fallen t rho (work (pressureFormula t rho (sums .d)))
     (work (energy t sums i1))
     (work (enthalpy t sums i1))
     (work (heatV sums i2))
@@ -79,11 +81,11 @@ stateOf phase t rho sums i1 i2 =
     (work (sound t sums i2))
 
 -- with the ideal part at the isotherm's τ
-unfoldable pub stateIdeal : Phase → Isotherm → Float → Five → Stated
-stateIdeal phase iso rho sums =
+unfoldable pub stateIdeal : Phase → ℕ → Isotherm → Float → Five → Stated
+stateIdeal phase fallen iso rho sums =
     orElse (idealPart (iso .tau) .first) Unknown (λ i1.
     orElse (idealPart (iso .tau) .second) Unknown (λ i2.
-    stateOf phase (iso .t) rho sums i1 i2))
+    stateOf phase fallen (iso .t) rho sums i1 i2))
 
 abbrev pub thenSums : Sums → (Five → Stated) → Stated
 thenSums Broken f = Unknown
@@ -91,15 +93,15 @@ thenSums (Summed sums) f = f sums
 
 -- on an isotherm, at a density
 unfoldable pub stateOn : Isotherm → Phase → Float → Stated
-stateOn iso phase rho = orElse (work (delta rho)) Unknown (λ δ. thenSums (fiveSums iso δ) (stateIdeal phase iso rho))
+stateOn iso phase rho = orElse (work (delta rho)) Unknown (λ δ. thenSums (fiveSums iso δ) (stateIdeal phase (fallenTerms iso δ) iso rho))
 
 -- T, p, ρ, u, h, cᵥ, cₚ, w
 abbrev pub eight : State → List Float
 eight x = x .t ∷ x .p ∷ x .rho ∷ x .u ∷ x .h ∷ x .cv ∷ x .cp ∷ x .w ∷ []
 
 -- ---- what code inside asks for: Table 3 in plain f64, tested nowhere
-unfoldable pub plainly : Phase → Float → Float → Five → Float → Float → State
-plainly phase t rho sums i1 i2 = record {
+unfoldable pub plainly : Phase → ℕ → Float → Float → Five → Float → Float → State
+plainly phase fallen t rho sums i1 i2 = record {
   t = t;
   p = value (pressureFormula t rho (sums .d));
   rho = rho;
@@ -109,4 +111,5 @@ plainly phase t rho sums i1 i2 = record {
   cp = value (heatP sums i2);
   w = value (sound t sums i2);
   phase = phase;
+  fallen = fallen;
 }

@@ -1,5 +1,5 @@
-// RULES 4.9: the state on an isotherm at a density (004, Table 3; docs/ARRANGEMENT.md, section 9), eight numbers and a
-// phase, or a failure.
+// RULES 4.9: the state on an isotherm at a density (004, Table 3; docs/ARRANGEMENT.md, sections 9 and 12), eight numbers,
+// a phase and how many terms fell away, or a failure.
 ghost use mathlib.Core.Path.{_≡_};
 ghost use mathlib.Core.Bool.{_&&_};
 ghost use lib.Ieee.Scale.{finite};
@@ -13,7 +13,7 @@ use eos_ideal::ideal_part;
 use eos_isotherm::Isotherm;
 use eos_pressure::pressure_of;
 use eos_residual::sum::Sums;
-use eos_residual::sum::five_sums;
+use eos_residual::sum::residual_part;
 use num_roots::root::Exponent;
 use num_roots::root::root;
 use num_working::Worked;
@@ -28,7 +28,7 @@ pub enum Phase {
     Supercritical,
 }
 
-// T, p, ρ, u, h, cᵥ, cₚ and the sound speed, in the units of RULES 4.9, and the phase.
+// T, p, ρ, u, h, cᵥ, cₚ and the sound speed, in the units of RULES 4.9, the phase, and how many terms fell away.
 pub struct State {
     pub t: f64,
     pub p: f64,
@@ -39,6 +39,7 @@ pub struct State {
     pub cp: f64,
     pub w: f64,
     pub phase: Phase,
+    pub fallen: u32,
 }
 
 pub enum Stated {
@@ -68,8 +69,8 @@ fn sound_speed(t: f64, sums: Five, i2: f64) -> f64
 }
 
 // Table 3 in plain f64.
-fn table_3(phase: Phase, t: f64, rho: f64, sums: Five, i1: f64, i2: f64) -> State
-    ensures { λ r. ⌜ r ≡ plainly phase t rho sums i1 i2 ⌝ }
+fn table_3(phase: Phase, fallen: u32, t: f64, rho: f64, sums: Five, i1: f64, i2: f64) -> State
+    ensures { λ r. ⌜ r ≡ plainly phase fallen t rho sums i1 i2 ⌝ }
 {
     let p = pressure_of(t, rho, sums.d);
     let cp = heat_p(sums, i2);
@@ -86,6 +87,7 @@ fn table_3(phase: Phase, t: f64, rho: f64, sums: Five, i1: f64, i2: f64) -> Stat
         cp,
         w,
         phase,
+        fallen,
     }
 }
 
@@ -101,7 +103,7 @@ fn are_finite(x: f64, y: f64, z: f64) -> bool
 
 // A state whose every number is finite.
 fn tested(x: State) -> Stated
-    ensures { λ r. ⌜ r ≡ stated (x .phase) (x .t) (x .rho) (checked (x .p)) (checked (x .u)) (checked (x .h)) (checked (x .cv)) (checked (x .cp)) (checked (x .w)) ⌝ }
+    ensures { λ r. ⌜ r ≡ stated (x .phase) (x .fallen) (x .t) (x .rho) (checked (x .p)) (checked (x .u)) (checked (x .h)) (checked (x .cv)) (checked (x .cp)) (checked (x .w)) ⌝ }
 {
     if are_finite(x.p, x.u, x.h) {
         if are_finite(x.cv, x.cp, x.w) {
@@ -111,15 +113,15 @@ fn tested(x: State) -> Stated
     Stated::Unknown
 }
 
-fn state_of(phase: Phase, t: f64, rho: f64, sums: Five, i1: f64, i2: f64) -> Stated
-    ensures { λ r. ⌜ r ≡ stateOf phase t rho sums i1 i2 ⌝ }
+fn state_of(phase: Phase, fallen: u32, t: f64, rho: f64, sums: Five, i1: f64, i2: f64) -> Stated
+    ensures { λ r. ⌜ r ≡ stateOf phase fallen t rho sums i1 i2 ⌝ }
 {
-    tested(table_3(phase, t, rho, sums, i1, i2))
+    tested(table_3(phase, fallen, t, rho, sums, i1, i2))
 }
 
 // With the ideal part at the isotherm's τ.
-fn state_ideal(phase: Phase, iso: Isotherm, rho: f64, sums: Five) -> Stated
-    ensures { λ r. ⌜ r ≡ stateIdeal phase iso rho sums ⌝ }
+fn state_ideal(phase: Phase, fallen: u32, iso: Isotherm, rho: f64, sums: Five) -> Stated
+    ensures { λ r. ⌜ r ≡ stateIdeal phase fallen iso rho sums ⌝ }
 {
     let i = ideal_part(iso.tau);
     let first = i.first;
@@ -130,7 +132,7 @@ fn state_ideal(phase: Phase, iso: Isotherm, rho: f64, sums: Five) -> Stated
     let Worked::Number(i2) = second else {
         return Stated::Unknown;
     };
-    state_of(phase, iso.t, rho, sums, i1, i2)
+    state_of(phase, fallen, iso.t, rho, sums, i1, i2)
 }
 
 pub fn state_on(iso: Isotherm, phase: Phase, rho: f64) -> Stated
@@ -139,8 +141,11 @@ pub fn state_on(iso: Isotherm, phase: Phase, rho: f64) -> Stated
     let Worked::Number(delta) = checked(delta_at(rho)) else {
         return Stated::Unknown;
     };
-    let Sums::Summed(sums) = five_sums(iso, delta) else {
+    let r = residual_part(iso, delta);
+    let fallen = r.fallen;
+    let five = r.sums;
+    let Sums::Summed(sums) = five else {
         return Stated::Unknown;
     };
-    state_ideal(phase, iso, rho, sums)
+    state_ideal(phase, fallen, iso, rho, sums)
 }

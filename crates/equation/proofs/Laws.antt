@@ -1,7 +1,8 @@
 -- 1996 is such an equation as the doors' theorems take. Assumes nothing.
-use mathlib.Core.Path.{_≡_}
+use mathlib.Core.Path.{_≡_, _∙_}
 use Rattle.eos_densities.proofs.Densities.{vapour-nonneg, liquid-nonneg}
 use Rattle.eos_isotherm.specs.Isotherm.{isotherm}
+use Rattle.eos_terms.proofs.Counts.{at-isotherm}
 use Rattle.eos_state.proofs.States.{kept}
 use Rattle.equation.specs.Equation.{Lawful, of1996, curve, pressureOn, stateOn}
 
@@ -14,5 +15,6 @@ lawful = record {
   pressure = λ t phase rho x e. kept (curve t .isotherm) phase phase rho .pressure x e;
   density = λ t phase rho x e. kept (curve t .isotherm) phase phase rho .density x e;
   phase = λ t phase rho x e. kept (curve t .isotherm) phase phase rho .carried x e;
+  fallen = λ t phase rho x e. kept (curve t .isotherm) phase phase rho .counted x e ∙ at-isotherm t rho;
   same = λ t phase other rho x y e f. kept (curve t .isotherm) phase other rho .same x y e f;
 }

@@ -16,9 +16,10 @@ use lib.Ieee.Order.{round-mono}
 use lib.Ieee.Positive.{num, den, positive, den-pos, le→cross, between}
 use Rattle.num_working.specs.Number.{decimal, fraction, whole}
 use Rattle.num_working.specs.Working.{checked, plain}
-use Rattle.num_exponential.specs.Exponential.{exponential, falling, series, squared}
+use Rattle.num_exponential.specs.Exponential.{steps, falling, series, squared}
 use Rattle.num_exponential.specs.Decay.{decay, every, inSeries}
 use Rattle.num_exponential.proofs.Exponentials.{falling-is}
+use Rattle.num_exponential.proofs.Sayings.{answer-is}
 use Rattle.num_laws.proofs.Halves.{quotient, no-less}
 
 stretched : (a c u v : ℕ) → c ≤ a * u → 1024 * u ≤ v → 1 * (1024 * c) ≤ a * v
@@ -64,8 +65,8 @@ below-zero m e p =
     let z : 0 < m * up e = mul-pos (ltb→lt 0 m p) (up-pos e) in
     ap (λ (b : Bool). b || eq (fin true m e) (whole 0)) (lt-ltb 0 (m * up e * 1 + 0 * 1 * down e) (omega arith))
 
-falls : (x : Float) → T (positive x) → num x ≤ 700 * den x → exponential (neg x) ≡ falling (neg x)
-unfolding exponential neg le whole ofInt round
+falls : (x : Float) → T (positive x) → num x ≤ 700 * den x → steps (neg x) ≡ falling (neg x)
+unfolding steps neg le whole ofInt round
 falls nan p l = absurd p
 falls (inf s) p l = absurd p
 falls (fin true m e) p l = absurd p
@@ -83,7 +84,8 @@ pub decay-is : (x : Float) → T (inSeries x) → decay x ≡ plain (squared 10 
 unfolding decay
 decay-is x h =
     ap plain
-    (falls x (above-zero x h) (at-most x h)
+    (answer-is (neg x)
+    ∙ falls x (above-zero x h) (at-most x h)
     ∙ falling-is (neg x)
     ∙ ap (λ (z : Float). squared 10 (series (checked (div binary64 z (whole 1024))) 14 (checked (whole 1)))) (neg-neg x))
 

@@ -1,5 +1,6 @@
 pub mod Tables
 pub mod Exponentials
+pub mod Sayings
 pub mod Decays
 pub mod Lanes
 pub mod Unique

@@ -1,14 +1,26 @@
-// RULES 4.4: the exponential.
+// RULES 4.4: the exponential, and what it says with its answer.
 ghost use mathlib.Core.Path.{_≡_};
 ghost use lib.Dec.{T};
 ghost use lib.Ieee.{le};
 ghost use Rattle.num_working.specs.Number.{decimal, whole};
 ghost use Rattle.num_working.specs.Working.{checked};
-ghost use Rattle.num_exponential.specs.Exponential.{exponential, falling, series, squared};
+ghost use Rattle.num_exponential.specs.Exponential.{answer, exponential, falling, series, squared, steps};
 ghost use Rattle.num_exponential.specs.Decay.{inSeries};
 use num_working::Worked;
 use num_working::checked;
 use num_working::is_finite;
+
+// An answer, and whether its argument was below −36.
+pub struct Said {
+    pub value: f64,
+    pub fallen: bool,
+}
+
+// Where it is refused, there is no answer to say it with.
+pub enum Raised {
+    Answered(Said),
+    Refused,
+}
 
 // s becomes 1 − (y/k)·s for k = 14, 13, .., 1.
 fn series(y: f64) -> f64
@@ -79,8 +91,9 @@ fn falling(x: f64) -> Worked
     checked(squared(series(y)))
 }
 
-pub fn exponential(x: f64) -> Worked
-    ensures { λ r. ⌜ r ≡ exponential x ⌝ }
+// The five steps in their order.
+fn steps(x: f64) -> Worked
+    ensures { λ r. ⌜ r ≡ steps x ⌝ }
 {
     if is_finite(x) {} else {
         return Worked::Failed;
@@ -98,4 +111,26 @@ pub fn exponential(x: f64) -> Worked
         return Worked::Failed;
     };
     checked(1.0 / e)
+}
+
+pub fn exponential(x: f64) -> Raised
+    ensures { λ r. ⌜ r ≡ exponential x ⌝ }
+{
+    let Worked::Number(value) = steps(x) else {
+        return Raised::Refused;
+    };
+    Raised::Answered(Said {
+        value,
+        fallen: x < -36.0,
+    })
+}
+
+// For a user that drops, on purpose, what the exponential says.
+pub fn answer(r: Raised) -> Worked
+    ensures { λ w. ⌜ w ≡ answer r ⌝ }
+{
+    match r {
+        Raised::Answered(s) => Worked::Number(s.value),
+        Raised::Refused => Worked::Failed,
+    }
 }

@@ -10,7 +10,7 @@ use lib.Ieee.Scale.{finite}
 use Rattle.num_working.specs.Number.{whole}
 use Rattle.num_working.specs.Working.{checked, over, plain, orElse, both, _+ᵂ_, _-ᵂ_, _*ᵂ_, _/ᵂ_}
 use Rattle.num_powers.specs.Power.{_^ᵂ_}
-use Rattle.num_exponential.specs.Exponential.{exponential, falling, squared, series}
+use Rattle.num_exponential.specs.Exponential.{exponential, answer, steps}
 use Rattle.num_roots.specs.Root as Root
 use Rattle.num_roots.specs.Root.{rootBits, rootOf, searched}
 use Rattle.num_formulas.specs.Formula.{Formula, num, _⊕_, _⊖_, _⊗_, _⊘_, _^^_, minus, size, e^, root, absolute, value, work}
@@ -19,51 +19,15 @@ use Rattle.num_working.specs.declared.Worked.the-variants.{Number, Failed}
 use Rattle.num_halving.specs.declared.Crossing.{Crossing}
 use Rattle.num_halving.specs.declared.Crossing.the-variants.{At, Nowhere, Broke}
 use Rattle.num_roots.specs.declared.root.Exponent.{Exponent}
-use Rattle.num_working.proofs.Cases.{by-test, by-working}
+use Rattle.num_working.proofs.Cases.{by-test}
+use Rattle.num_working.proofs.Sound.{sound, checked-sound, both-sound, cond-sound, orElse-sound, checked-plain}
 use Rattle.num_working.proofs.Workings.{checked-add, checked-sub, checked-mul, checked-div}
 use Rattle.num_powers.proofs.Powers.{checked-power}
+use Rattle.num_exponential.proofs.Sayings.{exponential-sound}
 use Rattle.num_laws.proofs.Orders.{bits-finite}
 use Rattle.num_roots.proofs.Roots.{crossing-below}
 
 -- ---- what was worked is finite
-abbrev pub sound : Worked → Bool
-sound (Number x) = finite x
-sound Failed = true
-
-checked-sound : (x : Float) → T (sound (checked x))
-checked-sound nan = tt
-checked-sound (inf s) = tt
-checked-sound (fin s m e) = tt
-
-pub both-sound : (op : Float → Float → Float) (v w : Worked) → T (sound (both op v w))
-both-sound op Failed w = tt
-both-sound op (Number x) Failed = tt
-both-sound op (Number x) (Number y) = checked-sound (op x y)
-
-cond-sound : (b : Bool) (v w : Worked) → T (sound v) → T (sound w) → T (sound (cond b v w))
-cond-sound b v w p q = by-test (λ (r : Worked). T (sound r)) b v w (λ _. p) (λ _. q)
-
--- what a number that was worked leads to, or nothing
-pub orElse-sound : (w : Worked) (f : Float → Worked) → ((x : Float) → T (sound (f x))) → T (sound (orElse w Failed f))
-orElse-sound w f h = by-working (λ (r : Worked). T (sound r)) w Failed f (λ _. tt) (λ x _. h x)
-
-squared-sound : (n : ℕ) (s : Worked) → T (sound (squared (suc n) s))
-unfolding squared _*ᵂ_
-squared-sound zero s = both-sound (Ieee.mul binary64) s s
-squared-sound (suc n) s = squared-sound n (s *ᵂ s)
-
-falling-sound : (x : Float) → T (sound (falling x))
-unfolding falling
-falling-sound x = squared-sound 9 (series (checked (Ieee.neg x) /ᵂ checked (whole 1024)) 14 (checked (whole 1)))
-
-pub exponential-sound : (x : Float) → T (sound (exponential x))
-unfolding exponential whole Ieee.ofInt _/ᵂ_
-exponential-sound x =
-    cond-sound (finite x) _ Failed
-    (cond-sound (Ieee.lt x (Ieee.neg (whole 700))) _ _ tt
-    (cond-sound (Ieee.lt (whole 700) x) _ _ tt
-    (cond-sound (Ieee.le x (whole 0)) _ _ (falling-sound x) (both-sound (Ieee.div binary64) (checked (whole 1)) (falling (Ieee.neg x)))))) tt
-
 found-sound : (k : ℕ) (t : Float) (c : Crossing) → rootBits k t ≡ c → T (sound (rootOf c))
 found-sound k t (At b) e = bits-finite b (crossing-below k t b e)
 found-sound k t Nowhere e = tt
@@ -82,12 +46,6 @@ root-sound e x =
     (cond-sound (Ieee.eq x (whole 0)) _ _ tt (searched-sound (e .m) (e .k) x))) tt) tt
 
 -- ---- an operation of one number
-pub checked-plain : (w : Worked) → T (sound w) → checked (plain w) ≡ w
-checked-plain Failed s = refl
-checked-plain (Number nan) s = absurd s
-checked-plain (Number (inf b)) s = absurd s
-checked-plain (Number (fin b m e)) s = refl
-
 checked-neg : (x : Float) → checked (Ieee.neg x) ≡ orElse (checked x) Failed (λ y. Number (Ieee.neg y))
 unfolding Ieee.neg
 checked-neg nan = refl
@@ -111,9 +69,9 @@ checked-refusing f s n i nan = ap (λ (w : Worked). checked (plain w)) n
 checked-refusing f s n i (inf b) = ap (λ (w : Worked). checked (plain w)) (i b)
 checked-refusing f s n i (fin b m e) = checked-plain (f (fin b m e)) (s (fin b m e))
 
-checked-exponential : (x : Float) → checked (plain (exponential x)) ≡ orElse (checked x) Failed exponential
-unfolding exponential
-checked-exponential = checked-refusing exponential exponential-sound refl (λ s. refl)
+checked-exponential : (x : Float) → checked (plain (answer (exponential x))) ≡ orElse (checked x) Failed (λ y. answer (exponential y))
+unfolding exponential steps
+checked-exponential = checked-refusing (λ x. answer (exponential x)) exponential-sound refl (λ s. refl)
 
 either-failed : (b : Bool) → cond b Failed Failed ≡ Failed
 either-failed b = by-test (λ (w : Worked). w ≡ Failed) b Failed Failed (λ _. refl) (λ _. refl)
@@ -160,13 +118,13 @@ once (a ⊘ b) = checked-over (value a) (value b) ∙ of-both _/ᵂ_ (once a) (o
 once (a ^^ n) = checked-power (value a) n ∙ ap (λ (w : Worked). w ^ᵂ n) (once a)
 once (minus a) = checked-neg (value a) ∙ ap (λ (w : Worked). orElse w Failed (λ x. Number (Ieee.neg x))) (once a)
 once (size a) = checked-absolute (value a) ∙ ap (λ (w : Worked). orElse w Failed (λ x. Number (absolute x))) (once a)
-once (e^ a) = checked-exponential (value a) ∙ ap (λ (w : Worked). orElse w Failed exponential) (once a)
+once (e^ a) = checked-exponential (value a) ∙ ap (λ (w : Worked). orElse w Failed (λ x. answer (exponential x))) (once a)
 once (root e a) = checked-root e (value a) ∙ ap (λ (w : Worked). orElse w Failed (Root.root e)) (once a)
 
 -- an exponential or a root of a formula, as code calls it
-pub once-e^ : (a : Formula) → exponential (value a) ≡ work (e^ a)
+pub once-e^ : (a : Formula) → answer (exponential (value a)) ≡ work (e^ a)
 unfolding value
-once-e^ a = sym (checked-plain (exponential (value a)) (exponential-sound (value a))) ∙ once (e^ a)
+once-e^ a = sym (checked-plain (answer (exponential (value a))) (exponential-sound (value a))) ∙ once (e^ a)
 
 pub once-root : (e : Exponent) (a : Formula) → Root.root e (value a) ≡ work (root e a)
 unfolding value
@@ -203,5 +161,5 @@ work-sound (a ⊘ b) = both-sound (Ieee.div binary64) (work a) (work b)
 work-sound (a ^^ n) = power-sound (work a) n (work-sound a)
 work-sound (minus a) = neg-sound (work a) (work-sound a)
 work-sound (size a) = size-sound (work a) (work-sound a)
-work-sound (e^ a) = orElse-sound (work a) exponential exponential-sound
+work-sound (e^ a) = orElse-sound (work a) (λ x. answer (exponential x)) exponential-sound
 work-sound (root e a) = orElse-sound (work a) (Root.root e) (root-sound e)

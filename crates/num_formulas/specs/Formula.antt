@@ -7,7 +7,7 @@ use lib.Ieee.{Float, binary64}
 use Rattle.num_working.specs.Number.{whole}
 use Rattle.num_working.specs.Working.{checked, over, plain, orElse, _+ᵂ_, _-ᵂ_, _*ᵂ_, _/ᵂ_}
 use Rattle.num_powers.specs.Power.{power, _^ᵂ_}
-use Rattle.num_exponential.specs.Exponential.{exponential}
+use Rattle.num_exponential.specs.Exponential.{exponential, answer}
 use Rattle.num_roots.specs.Root as Root
 use Rattle.num_working.specs.declared.Worked.{Worked}
 use Rattle.num_working.specs.declared.Worked.the-variants.{Number, Failed}
@@ -33,7 +33,8 @@ two = num (whole 2)
 unfoldable pub absolute : Float → Float
 absolute x = cond (Ieee.lt x (whole 0)) (Ieee.neg x) x
 
--- each operation is rounded once, and they come in the order in which the formula is written
+-- each operation is rounded once, and they come in the order in which the formula is written; what an exponential says is dropped, since a formula is a
+-- number (what becomes of it is said where it is passed on: `fallen`, eos_terms)
 unfoldable pub work : Formula → Worked
 work (num x) = checked x
 work (a ⊕ b) = work a +ᵂ work b
@@ -43,7 +44,7 @@ work (a ⊘ b) = work a /ᵂ work b
 work (a ^^ n) = work a ^ᵂ n
 work (minus a) = orElse (work a) Failed (λ x. Number (Ieee.neg x))
 work (size a) = orElse (work a) Failed (λ x. Number (absolute x))
-work (e^ a) = orElse (work a) Failed exponential
+work (e^ a) = orElse (work a) Failed (λ x. answer (exponential x))
 work (root e a) = orElse (work a) Failed (Root.root e)
 
 -- the same in plain f64, tested nowhere: what code works, and tests once at the end (`once`, proofs/Formulas.antt)
@@ -56,5 +57,5 @@ value (a ⊘ b) = over (value a) (value b)
 value (a ^^ n) = power (value a) n
 value (minus a) = Ieee.neg (value a)
 value (size a) = absolute (value a)
-value (e^ a) = plain (exponential (value a))
+value (e^ a) = plain (answer (exponential (value a)))
 value (root e a) = plain (Root.root e (value a))

@@ -1,9 +1,11 @@
 -- RULES 8.1: the readings of the numerics, as one table. Definitions only.
-use mathlib.Core.List.{List, [], _∷_}
+use mathlib.Core.Bool.{Bool}
+use mathlib.Core.List.{List, [], _∷_, map}
 use lib.Ieee as Ieee
-use Rattle.num_working.specs.Number.{whole}
+use lib.Ieee.{Float}
+use Rattle.num_working.specs.Number.{decimal, whole}
 use Rattle.num_powers.specs.Power.{power}
-use Rattle.num_exponential.specs.Exponential.{exponential}
+use Rattle.num_exponential.specs.Exponential.{exponential, answer, fell}
 use Rattle.num_roots.specs.Root.{root}
 use Rattle.num_formulas.specs.Formula.{num, size, work}
 use Rattle.num_working.specs.declared.Worked.{Worked}
@@ -24,12 +26,18 @@ square-root = record { m = 1; k = 2 }
 
 unfoldable pub readings : List Starred
 readings =
-    (exponential (whole 0) gives Number (whole 1))
-    ∷ (exponential (Ieee.neg (whole 701)) gives Number (whole 0))
+    (answer (exponential (whole 0)) gives Number (whole 1))
+    ∷ (answer (exponential (Ieee.neg (whole 701))) gives Number (whole 0))
     ∷ (Number (power (whole 2) 10) gives Number (whole 1024))
     ∷ (root square-root (whole 0) gives Number (whole 0))
     ∷ (root square-root (whole 1) gives Number (whole 1))
     ∷ []
+
+-- what the exponential says at −36, at the next f64 below it and below −700; and above 36, where what 1 is divided by would say yes
+unfoldable pub sayings : List Bool
+sayings =
+    map (λ (x : Float). fell (exponential x))
+    (Ieee.neg (whole 36) ∷ Ieee.neg (decimal 3600000000000001 14) ∷ Ieee.neg (whole 701) ∷ whole 37 ∷ [])
 
 -- |−1| and |1|, which are no readings of RULES 8.1
 unfoldable pub sizes : List Starred

@@ -11,11 +11,13 @@ use Rattle.eos_densities.proofs.density_of.Tie as tie
 returns : tie.Need-returns
 unfolding densityOf value
 returns c =
-    let sum = c .before .before .before .before .before .before .args .sum in
+    let raised = c .before .before .before .before .before in
+    let sum = raised .before .before .args .sum in
     let worked = simp (
       c .before .before .before .plain .ensures,
-      c .before .before .before .before .exponential .ensures,
-      c .before .before .before .before .before .span-wagner .ensures,
+      c .before .before .before .before .answer .ensures,
+      raised .exponential .ensures,
+      raised .before .span-wagner .ensures,
     ) at (c .before .checked .ensures) in
     c .above-zero .ensures ∙ ap aboveZero (worked ∙ once (num (spanWagner .density) ⊗ e^ (num sum)))
 
@@ -23,6 +25,7 @@ pub density-of-spec : {M : Type 1} → statement M
 density-of-spec =
     tie.close
     (tie.spec
+    (λ c κs. search needs)
     (λ c κs. search needs)
     (λ c κs. search needs)
     (λ c κs. search needs)

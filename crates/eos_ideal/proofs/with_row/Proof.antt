@@ -11,12 +11,19 @@ returns : tie.Need-returns
 unfolding row-τ row-ττ value whole ofInt ofBits
 returns c =
     let worked = c .before .before .before .before in
-    simp (c .before .over2 .ensures, c .before .before .before .over .ensures, worked .plain .ensures, worked .before .exponential .ensures)
+    simp (
+      c .before .over2 .ensures,
+      c .before .before .before .over .ensures,
+      worked .plain .ensures,
+      worked .before .answer .ensures,
+      worked .before .before .exponential .ensures,
+    )
 
 pub with-row-spec : {M : Type 1} → statement M
 with-row-spec =
     tie.close
     (tie.spec
+    (λ c κs. search needs)
     (λ c κs. search needs)
     (λ c κs. search needs)
     (λ c κs. search needs)

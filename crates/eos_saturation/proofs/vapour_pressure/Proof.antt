@@ -22,14 +22,16 @@ by-theta τ θ φ h = rw h
 returns : tie.Need-returns
 unfolding vapourPressure value
 returns c =
-    let summed = c .before .before .before .before .before .before in
+    let raised = c .before .before .before .before in
+    let summed = raised .before .before .before in
     let t = summed .before .before .before .args .t in
     let θ = num (plain (work (theta t))) in
     let worked = simp (
       c .before .before .plain2 .ensures,
-      c .before .before .before .exponential .ensures,
-      c .before .before .before .before .tau-at .ensures,
-      c .before .before .before .before .before .span-wagner .ensures,
+      c .before .before .before .answer .ensures,
+      raised .exponential .ensures,
+      raised .before .tau-at .ensures,
+      raised .before .before .span-wagner .ensures,
       summed .pressure-sum .ensures,
       summed .before .plain .ensures,
       summed .before .before .theta-at .ensures,
@@ -40,6 +42,7 @@ pub vapour-pressure-spec : {M : Type 1} → statement M
 vapour-pressure-spec =
     tie.close
     (tie.spec
+    (λ c κs. search needs)
     (λ c κs. search needs)
     (λ c κs. search needs)
     (λ c κs. search needs)

@@ -1,8 +1,10 @@
 -- Each step is the definition's. Assumes nothing.
-use mathlib.Core.Path.{_≡_, sym, _∙_}
+use mathlib.Core.Path.{_≡_, sym, ap, _∙_}
 use Rattle.num_formulas.specs.Formula.{work}
 use Rattle.num_formulas.proofs.Tests.{tested}
 use Rattle.eos_constants.specs.Reduced.{delta}
+use Rattle.eos_residual.specs.Sum.{residualPart}
+use Rattle.eos_residual.specs.declared.sum.Residual.{Residual}
 use Rattle.eos_state.specs.State.{stateOn}
 use borrow.Author.Needs.{needs}
 use Rattle.eos_state.proofs.state_on.Statement.{statement}
@@ -16,19 +18,24 @@ unfolding stateOn
 returns c = rw (delta-is (c .before .before) ∙ c .enum-told .given .1)
 
 returns-2 : tie.Need-returns-2
-unfolding stateOn
+unfolding stateOn residualPart
 returns-2 c =
     let m = c .before .before in
     let n = m .before .before in
-    rw (delta-is (n .before .before) ∙ n .delta .given .1, sym (m .five-sums .ensures) ∙ c .enum-told2 .given .1)
+    rw (delta-is (n .before .before) ∙ n .delta .given .1, sym (ap (λ (r : Residual). r .sums) (m .residual-part .ensures)) ∙ c .enum-told2 .given .1)
 
 returns-3 : tie.Need-returns-3
-unfolding stateOn
+unfolding stateOn residualPart
 returns-3 c =
     let l = c .before .before in
     let m = l .before .before in
     let n = m .before .before in
-    c .state-ideal .ensures ∙ rw (delta-is (n .before .before) ∙ n .delta .given .1, sym (m .five-sums .ensures) ∙ l .sums .given .1)
+    c .state-ideal .ensures
+    ∙ rw (
+      delta-is (n .before .before) ∙ n .delta .given .1,
+      sym (ap (λ (r : Residual). r .sums) (m .residual-part .ensures)) ∙ l .five .given .1,
+      ap (λ (r : Residual). r .fallen) (m .residual-part .ensures),
+    )
 
 pub state-on-spec : {M : Type 1} → statement M
 state-on-spec =

@@ -26,7 +26,7 @@ three x y z f =
     tested-choice x Unknown _ ∙ rw (tested-choice y Unknown _, tested-choice z Unknown _) (merged (finite x) (finite y) (finite z) (f x y z) Unknown)
 
 abbrev allTested : State → Stated
-allTested x = stated (x .phase) (x .t) (x .rho) (checked (x .p)) (checked (x .u)) (checked (x .h)) (checked (x .cv)) (checked (x .cp)) (checked (x .w))
+allTested x = stated (x .phase) (x .fallen) (x .t) (x .rho) (checked (x .p)) (checked (x .u)) (checked (x .h)) (checked (x .cv)) (checked (x .cp)) (checked (x .w))
 
 -- by two tests of three numbers each
 choice : (x : State)
@@ -34,10 +34,10 @@ choice : (x : State)
     ≡ cond (finite (x .p) && (finite (x .u) && finite (x .h))) (cond (finite (x .cv) && (finite (x .cp) && finite (x .w))) (Known x) Unknown) Unknown
 choice x =
     three (x .p) (x .u) (x .h)
-    (λ p u h. stated (x .phase) (x .t) (x .rho) (Number p) (Number u) (Number h) (checked (x .cv)) (checked (x .cp)) (checked (x .w)))
+    (λ p u h. stated (x .phase) (x .fallen) (x .t) (x .rho) (Number p) (Number u) (Number h) (checked (x .cv)) (checked (x .cp)) (checked (x .w)))
     ∙ ap (λ (s : Stated). cond (finite (x .p) && (finite (x .u) && finite (x .h))) s Unknown)
     (three (x .cv) (x .cp) (x .w)
-    (λ cv cp w. Known (record { t = x .t; p = x .p; rho = x .rho; u = x .u; h = x .h; cv = cv; cp = cp; w = w; phase = x .phase })))
+    (λ cv cp w. Known (record { t = x .t; p = x .p; rho = x .rho; u = x .u; h = x .h; cv = cv; cp = cp; w = w; phase = x .phase; fallen = x .fallen })))
 
 returns : tie.Need-returns
 returns c =

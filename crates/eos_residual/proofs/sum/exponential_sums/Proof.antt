@@ -8,9 +8,9 @@ use Rattle.num_powers.specs.Power.{powers}
 use Rattle.num_working.specs.Working.{checked}
 use Rattle.eos_brackets.specs.Derivative.{of}
 use Rattle.eos_isotherm.specs.declared.Isotherm.{Isotherm}
-use Rattle.eos_residual.specs.Term.{decays}
+use Rattle.eos_terms.specs.Term.{decays}
 use Rattle.eos_residual.specs.Sum.{onto, exponentialFigures}
-use Rattle.eos_residual.proofs.Points.{its-powers, its-decays}
+use Rattle.eos_terms.proofs.Points.{its-powers, its-decays}
 use Rattle.eos_residual.proofs.Sums.{Dues, dues-more, dues-none}
 use Rattle.eos_residual.proofs.Figures.{Small, exponential-small, exponential-length, exponential-placed}
 use Rattle.eos_residual.proofs.sum.exponential_sums.Statement.{statement}

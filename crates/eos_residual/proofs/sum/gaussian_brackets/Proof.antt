@@ -4,7 +4,7 @@ use lib.Ieee.{ofBits, ofInt}
 use Rattle.num_working.specs.Number.{whole}
 use Rattle.num_powers.specs.Power.{power}
 use Rattle.num_formulas.specs.Formula.{value}
-use Rattle.eos_residual.specs.Term.{gaussianBracket}
+use Rattle.eos_terms.specs.Term.{gaussianBracket}
 use borrow.Author.Needs.{needs}
 use Rattle.eos_residual.proofs.sum.gaussian_brackets.Statement.{statement}
 use Rattle.eos_residual.proofs.sum.gaussian_brackets.Tie as tie

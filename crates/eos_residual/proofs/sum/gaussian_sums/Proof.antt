@@ -6,7 +6,7 @@ use borrow.Author.Needs.{needs}
 use Rattle.num_working.specs.Working.{checked}
 use Rattle.eos_brackets.specs.Derivative.{of}
 use Rattle.eos_residual.specs.Sum.{onto, gaussianFigures}
-use Rattle.eos_residual.proofs.Points.{its-powers, its-bells}
+use Rattle.eos_terms.proofs.Points.{its-powers, its-bells}
 use Rattle.eos_residual.proofs.Sums.{Dues, dues-more, dues-none}
 use Rattle.eos_residual.proofs.Figures.{gaussian-small, gaussian-length, gaussian-placed}
 use Rattle.eos_residual.proofs.sum.gaussian_sums.Statement.{statement}

@@ -3,7 +3,7 @@ use mathlib.Core.Path.{refl}
 use lib.Ieee.{ofBits, ofInt}
 use Rattle.num_working.specs.Number.{whole}
 use Rattle.num_formulas.specs.Formula.{value}
-use Rattle.eos_residual.specs.Term.{polynomialBracket}
+use Rattle.eos_terms.specs.Term.{polynomialBracket}
 use borrow.Author.Needs.{needs}
 use Rattle.eos_residual.proofs.sum.polynomial_brackets.Statement.{statement}
 use Rattle.eos_residual.proofs.sum.polynomial_brackets.Tie as tie

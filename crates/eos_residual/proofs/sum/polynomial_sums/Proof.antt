@@ -9,7 +9,7 @@ use Rattle.eos_rows.specs.Row.{polynomials}
 use Rattle.eos_rows.specs.declared.Polynomial.{Polynomial}
 use Rattle.eos_isotherm.specs.declared.Isotherm.{Isotherm}
 use Rattle.eos_residual.specs.Sum.{total, polynomialFigures}
-use Rattle.eos_residual.proofs.Points.{its-powers}
+use Rattle.eos_terms.proofs.Points.{its-powers}
 use Rattle.eos_residual.proofs.Sums.{Dues, dues-first, dues-more, dues-none}
 use Rattle.eos_residual.proofs.Figures.{polynomial-small, polynomial-length, polynomial-placed}
 use Rattle.eos_residual.proofs.sum.polynomial_sums.Statement.{statement}

@@ -1,64 +1,26 @@
--- Each return is the arm of the definition that the tests before it lead to. Assumes nothing.
-use mathlib.Core.Path.{_≡_, sym, ap, _∙_}
+-- By what the steps came to, and the test of the argument. Assumes nothing.
+use mathlib.Core.Path.{refl}
 use borrow.Author.Needs.{needs}
 use lib.Ieee.{ofBits, ofInt}
-use Rattle.num_working.specs.declared.Worked.{Worked}
 use Rattle.num_working.specs.Number.{whole}
-use Rattle.num_working.specs.Working.{checked, _/ᵂ_}
 use Rattle.num_exponential.specs.Exponential.{exponential}
 use Rattle.num_exponential.proofs.exponential.exponential.Statement.{statement}
 use Rattle.num_exponential.proofs.exponential.exponential.Tie as tie
 
--- past the tests: 1 divided by the exponential of −x
-rising : (c : tie.After-falling2) → exponential (c .before .before .before .before .before .before .args .x) ≡ checked (whole 1) /ᵂ c .falling2 .result
-unfolding exponential ofBits ofInt whole
-rising c =
-    let d = c .before in
-    let f = sym (d .before .before .before .before .is-finite .ensures) ∙ d .before .before .before .if1 .taken in
-    simp (exponential, f, d .before .before .if2 .left, d .before .if3 .left, d .if4 .left, c .falling2 .ensures)
-
 returns : tie.Need-returns
 unfolding exponential
-returns c = simp (exponential, sym (c .before .is-finite .ensures) ∙ c .if1 .left)
+returns c = rw (← c .before .before .steps .ensures, c .enum-told .given .1) refl
 
 returns-2 : tie.Need-returns-2
 unfolding exponential ofBits ofInt whole
-returns-2 c = simp (exponential, sym (c .before .before .is-finite .ensures) ∙ c .before .if1 .taken, c .if2 .taken)
-
-returns-3 : tie.Need-returns-3
-unfolding exponential ofBits ofInt whole
-returns-3 c = simp (exponential, sym (c .before .before .before .is-finite .ensures) ∙ c .before .before .if1 .taken, c .before .if2 .left, c .if3 .taken)
-
-returns-4 : tie.Need-returns-4
-unfolding exponential ofBits ofInt whole
-returns-4 c =
-    let d = c .before in
-    let f = sym (d .before .before .before .before .is-finite .ensures) ∙ d .before .before .before .if1 .taken in
-    c .falling .ensures ∙ simp (exponential, f, d .before .before .if2 .left, d .before .if3 .left, d .if4 .taken)
-
-returns-5 : tie.Need-returns-5
-unfolding _/ᵂ_ ofInt whole
-returns-5 c = sym (rising (c .before .before) ∙ ap (λ (w : Worked). checked (whole 1) /ᵂ w) (c .enum-told .given .1))
-
-returns-6 : tie.Need-returns-6
-unfolding _/ᵂ_ ofBits ofInt whole
-returns-6 c =
-    let e = c .before .before in
-    c .checked .ensures ∙ sym (rising (e .before .before) ∙ ap (λ (w : Worked). checked (whole 1) /ᵂ w) (e .e .given .1))
+returns-2 c = rw (← c .before .before .before .steps .ensures, c .before .value .given .1) refl
 
 pub exponential-spec : {M : Type 1} → statement M
 exponential-spec =
     tie.close
     (tie.spec
     (λ c κs. search needs)
+    (λ c. search needs)
+    (λ c. search needs)
     returns
-    returns-2
-    returns-3
-    (λ c κs. search needs)
-    returns-4
-    (λ c κs. search needs)
-    (λ c. search needs)
-    (λ c. search needs)
-    returns-5
-    (λ c κs. search needs)
-    returns-6)
+    returns-2)

@@ -8,8 +8,8 @@ use Rattle.num_formulas.specs.Formula.{value}
 use Rattle.eos_rows.specs.Row.{row40, row42}
 use Rattle.eos_isotherm.specs.declared.Isotherm.{Isotherm}
 use Rattle.eos_non_analytic.specs.Parts.{around, psi}
-use Rattle.eos_residual.specs.declared.term.Point.{Point}
-use Rattle.eos_residual.specs.Term.{point, decays, bells, psis}
+use Rattle.eos_terms.specs.declared.term.Point.{Point}
+use Rattle.eos_terms.specs.Term.{point, decays, bells, psis}
 
 module _ (iso : Isotherm) (p : Point) (e : p ≡ point iso (p .delta)) where
   pub its-powers : powers 10 (p .delta) ≡ p .powers

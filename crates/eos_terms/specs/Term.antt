@@ -4,10 +4,12 @@ use mathlib.Core.List.{List, [], _∷_, map}
 use lib.ListN.{getD}
 use lib.Ieee.{Float, nan}
 use Rattle.num_working.specs.Number.{whole}
-use Rattle.num_powers.specs.Power.{powers}
+use Rattle.num_powers.specs.Power.{power, powers}
+use Rattle.num_exponential.specs.declared.decay.Twelve.{Twelve}
+use Rattle.num_exponential.specs.declared.decay.TwelveSaid.{TwelveSaid}
 use Rattle.num_formulas.specs.Formula.{Formula, num, one, two, _⊕_, _⊖_, _⊗_, _⊘_, _^^_, minus, e^, value}
 use Rattle.eos_brackets.specs.Derivative.{Derivative, columns}
-use Rattle.eos_rows.specs.Row.{gaussians, row40, row42}
+use Rattle.eos_rows.specs.Row.{gaussians, row39, nonAnalytics, row40, row42}
 use Rattle.eos_rows.specs.declared.Polynomial.{Polynomial}
 use Rattle.eos_rows.specs.declared.Exponential.{Exponential}
 use Rattle.eos_rows.specs.declared.Gaussian.{Gaussian}
@@ -15,7 +17,7 @@ use Rattle.eos_rows.specs.declared.NonAnalytic.{NonAnalytic}
 use Rattle.eos_isotherm.specs.Isotherm.{bellAt}
 use Rattle.eos_isotherm.specs.declared.Isotherm.{Isotherm}
 use Rattle.eos_non_analytic.specs.Parts.{around, psi}
-use Rattle.eos_residual.specs.declared.term.Point.{Point}
+use Rattle.eos_terms.specs.declared.term.Point.{Point}
 
 -- t = j/4
 abbrev pub inQuarters : ℕ → Formula
@@ -37,8 +39,11 @@ polynomialBracket r =
     columns d (d ⊗ (d ⊖ one)) t (t ⊗ (t ⊖ one)) (t ⊗ d)
 
 -- ---- rows 8 to 34: the term is ((n·δᵈ)·τᵗ)·e^(−δᶜ)
+abbrev pub decayArgument : Formula → ℕ → Formula
+decayArgument δ c = minus (δ ^^ c)
+
 unfoldable pub decay : Float → ℕ → Formula
-decay delta c = e^ (minus (num delta ^^ c))
+decay delta c = e^ (decayArgument (num delta) c)
 
 unfoldable pub exponentialTerm : Float → Float → Exponential → Formula
 exponentialTerm delta y r = num (r .n) ⊗ num delta ^^ r .d ⊗ num y ⊗ decay delta (r .c)
@@ -54,10 +59,11 @@ exponentialBracket z r =
     columns b (b ⊗ (d ⊖ one ⊖ g) ⊖ c ⊗ g) t (t ⊗ (t ⊖ one)) (t ⊗ b)
 
 -- ---- rows 35 to 39, with z for β·(τ−γ)²: the term is ((n·δᵈ)·τᵗ)·e^(−(α·(δ−ε)² + β·(τ−γ)²))
+abbrev pub bellArgument : Formula → Formula → Gaussian → Formula
+bellArgument δ z r = let x = δ ⊖ num (r .epsilon) in minus (num (r .alpha) ⊗ (x ⊗ x) ⊕ z)
+
 unfoldable pub bell : Float → Float → Gaussian → Formula
-bell delta z r =
-    let x = num delta ⊖ num (r .epsilon) in
-    e^ (minus (num (r .alpha) ⊗ (x ⊗ x) ⊕ num z))
+bell delta z r = e^ (bellArgument (num delta) (num z) r)
 
 unfoldable pub gaussianTerm : Float → Float → Float → Gaussian → Formula
 gaussianTerm delta y z r = num (r .n) ⊗ num delta ^^ r .d ⊗ num y ⊗ bell delta z r
@@ -88,3 +94,54 @@ psis z delta = map (λ (r : NonAnalytic). value (psi r (around delta) z)) (row40
 
 unfoldable pub point : Isotherm → Float → Point
 point iso delta = record { delta = delta; powers = powers 10 delta; decays = decays delta; bells = bells (iso .bell) delta; psis = psis (iso .psi) delta }
+
+-- the arguments of the twelve exponentials with their minus sign taken off: six powers of δ, four bells, two Ψ
+module _ (iso : Isotherm) (delta : Float) where
+  abbrev pub bellExponent : ℕ → Gaussian → Float
+  bellExponent place r = value (num (r .alpha) ⊗ ((num delta ⊖ num (r .epsilon)) ⊗ (num delta ⊖ num (r .epsilon))) ⊕ num (getD (iso .bell) place nan))
+
+  abbrev pub psiExponent : NonAnalytic → Float
+  psiExponent r = value (num (r .kc) ⊗ around delta .X ⊕ num (iso .psi))
+
+  unfoldable pub exponents : Twelve
+  exponents = record {
+    a = power delta 1;
+    b = power delta 2;
+    c = power delta 3;
+    d = power delta 4;
+    e = power delta 5;
+    f = power delta 6;
+    g = bellExponent 0 (getD gaussians 0 row39);
+    h = bellExponent 1 (getD gaussians 1 row39);
+    i = bellExponent 2 (getD gaussians 3 row39);
+    j = bellExponent 3 (getD gaussians 4 row39);
+    k = psiExponent (getD nonAnalytics 0 row42);
+    l = psiExponent (getD nonAnalytics 2 row42);
+  }
+
+-- the point by its twelve exponentials
+unfoldable pub pointBy : Float → List Float → Twelve → Point
+pointBy delta powers e = record {
+  delta = delta;
+  powers = powers;
+  decays = e .a ∷ e .b ∷ e .c ∷ e .d ∷ e .e ∷ e .f ∷ [];
+  bells = e .g ∷ e .h ∷ e .h ∷ e .i ∷ e .j ∷ [];
+  psis = e .k ∷ e .l ∷ [];
+}
+
+-- their answers alone
+unfoldable pub values : TwelveSaid → Twelve
+values e = record {
+  a = e .a .value;
+  b = e .b .value;
+  c = e .c .value;
+  d = e .d .value;
+  e = e .e .value;
+  f = e .f .value;
+  g = e .g .value;
+  h = e .h .value;
+  i = e .i .value;
+  j = e .j .value;
+  k = e .k .value;
+  l = e .l .value;
+}

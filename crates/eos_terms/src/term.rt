@@ -1,8 +1,11 @@
-// What the residual part's sums are made of: what is worked once for a state at a density.
+// What is worked once at a density for all terms of the residual part.
 ghost use mathlib.Core.Path.{_≡_};
+ghost use Rattle.num_powers.specs.Power as Power;
 ghost use Rattle.num_formulas.specs.Formula.{num, _⊕_, _⊖_, _⊗_, value};
 ghost use Rattle.eos_non_analytic.specs.Parts.{around};
-ghost use Rattle.eos_residual.specs.Term.{point};
+ghost use Rattle.eos_terms.specs.Term.{exponents, point, pointBy, values};
+ghost use Rattle.eos_terms.specs.Fallen.{told};
+use crate::fallen::fallen_rows;
 use eos_isotherm::Isotherm;
 use eos_powers::powers_to_10;
 use eos_rows::Gaussian;
@@ -10,7 +13,9 @@ use eos_rows::NonAnalytic;
 use eos_rows::gaussian_row;
 use eos_rows::non_analytic_row;
 use num_exponential::decay::Twelve;
+use num_exponential::decay::TwelveSaid;
 use num_exponential::decay::twelve_decays;
+use num_exponential::decay::twelve_said;
 
 // The powers of δ, e^(−δᶜ) for c from 1 to 6, the exponentials of rows 35 to 39, and Ψ of rows 40 and 41 and of row 42.
 pub struct Point {
@@ -19,6 +24,12 @@ pub struct Point {
     pub decays: [f64; 6],
     pub bells: [f64; 5],
     pub psis: [f64; 2],
+}
+
+// The same, and how many terms fell away.
+pub struct Told {
+    pub point: Point,
+    pub fallen: u32,
 }
 
 // α·(δ−ε)² + z of a row of 35 to 39, with z for β·(τ−γ)².
@@ -35,13 +46,13 @@ fn psi_exponent(row: NonAnalytic, delta: f64, z: f64) -> f64
     row.kc * ((delta - 1.0) * (delta - 1.0)) + z
 }
 
-// Rows 36 and 37 have one bell, rows 40 and 41 one Ψ.
-pub fn at_density(iso: Isotherm, delta: f64) -> Point
-    ensures { λ r. ⌜ r ≡ point iso delta ⌝ }
+// The arguments of the twelve exponentials but for their minus sign. Rows 36 and 37 have one bell, rows 40 and 41 one Ψ.
+fn exponents(iso: Isotherm, delta: f64, powers: [f64; 11]) -> Twelve
+    requires { ⌜ powers ≡ Power.powers 10 delta ⌝ }
+    ensures { λ r. ⌜ r ≡ exponents iso delta ⌝ }
 {
-    let powers = powers_to_10(delta);
     let bell = iso.bell;
-    let e = twelve_decays(Twelve {
+    Twelve {
         a: powers[1],
         b: powers[2],
         c: powers[3],
@@ -54,12 +65,56 @@ pub fn at_density(iso: Isotherm, delta: f64) -> Point
         j: bell_exponent(gaussian_row(4), delta, bell[3]),
         k: psi_exponent(non_analytic_row(0), delta, iso.psi),
         l: psi_exponent(non_analytic_row(2), delta, iso.psi),
-    });
+    }
+}
+
+fn point_by(delta: f64, powers: [f64; 11], e: Twelve) -> Point
+    ensures { λ r. ⌜ r ≡ pointBy delta powers e ⌝ }
+{
     Point {
         delta,
         powers,
         decays: [e.a, e.b, e.c, e.d, e.e, e.f],
         bells: [e.g, e.h, e.h, e.i, e.j],
         psis: [e.k, e.l],
+    }
+}
+
+fn values(e: TwelveSaid) -> Twelve
+    ensures { λ r. ⌜ r ≡ values e ⌝ }
+{
+    Twelve {
+        a: e.a.value,
+        b: e.b.value,
+        c: e.c.value,
+        d: e.d.value,
+        e: e.e.value,
+        f: e.f.value,
+        g: e.g.value,
+        h: e.h.value,
+        i: e.i.value,
+        j: e.j.value,
+        k: e.k.value,
+        l: e.l.value,
+    }
+}
+
+// For a pressure, which drops what the exponentials say.
+pub fn at_density(iso: Isotherm, delta: f64) -> Point
+    ensures { λ r. ⌜ r ≡ point iso delta ⌝ }
+{
+    let powers = powers_to_10(delta);
+    point_by(delta, powers, twelve_decays(exponents(iso, delta, powers)))
+}
+
+// For a state, which carries how many terms fell away.
+pub fn told_at_density(iso: Isotherm, delta: f64) -> Told
+    ensures { λ r. ⌜ r ≡ told iso delta ⌝ }
+{
+    let powers = powers_to_10(delta);
+    let e = twelve_said(exponents(iso, delta, powers));
+    Told {
+        point: point_by(delta, powers, values(e)),
+        fallen: fallen_rows(e),
     }
 }

@@ -3,8 +3,8 @@ use mathlib.Core.Path.{refl}
 use lib.Ieee.{ofBits, ofInt}
 use Rattle.num_working.specs.Number.{whole}
 use Rattle.num_formulas.specs.Formula.{value}
-use Rattle.eos_residual.proofs.term.psi_exponent.Statement.{statement}
-use Rattle.eos_residual.proofs.term.psi_exponent.Tie as tie
+use Rattle.eos_terms.proofs.term.psi_exponent.Statement.{statement}
+use Rattle.eos_terms.proofs.term.psi_exponent.Tie as tie
 
 returns : tie.Need-returns
 unfolding value whole ofBits ofInt

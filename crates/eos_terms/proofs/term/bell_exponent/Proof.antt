@@ -1,8 +1,8 @@
 -- The formula, operation by operation. Assumes nothing.
 use mathlib.Core.Path.{refl}
 use Rattle.num_formulas.specs.Formula.{value}
-use Rattle.eos_residual.proofs.term.bell_exponent.Statement.{statement}
-use Rattle.eos_residual.proofs.term.bell_exponent.Tie as tie
+use Rattle.eos_terms.proofs.term.bell_exponent.Statement.{statement}
+use Rattle.eos_terms.proofs.term.bell_exponent.Tie as tie
 
 returns : tie.Need-returns
 unfolding value

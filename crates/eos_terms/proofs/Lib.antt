@@ -1,0 +1,3 @@
+pub mod Points
+pub mod Counts
+pub mod Unique

@@ -8,6 +8,8 @@ use lib.Ieee.{Float}
 use Rattle.num_working.proofs.Unique.{by-equation}
 use Rattle.interface.proofs.makhroeng_from_pressure.Reads as from-pressure
 use Rattle.interface.proofs.makhroeng_from_density.Reads as from-density
+use Rattle.interface.proofs.makhroeng_state_from_pressure.Reads as state-from-pressure
+use Rattle.interface.proofs.makhroeng_state_from_density.Reads as state-from-density
 use Rattle.interface.proofs.makhroeng_report.Reads as report
 
 -- of a function that writes into its third argument, and of one that writes into its second
@@ -23,6 +25,12 @@ from-pressure-once κs a r s x y p q = (by-equation (p .number) (q .number), by-
 
 pub from-density-once : (κs : Lfts 1) → OneAnswered (from-density.Post κs)
 from-density-once κs a r s x y p q = (by-equation (p .number) (q .number), by-equation (p .figures) (q .figures))
+
+pub state-from-pressure-once : (κs : Lfts 1) → OneAnswered (state-from-pressure.Post κs)
+state-from-pressure-once κs a r s x y p q = (by-equation (p .number) (q .number), by-equation (p .figures) (q .figures))
+
+pub state-from-density-once : (κs : Lfts 1) → OneAnswered (state-from-density.Post κs)
+state-from-density-once κs a r s x y p q = (by-equation (p .number) (q .number), by-equation (p .figures) (q .figures))
 
 pub report-once : (κs : Lfts 2) → OneReport (report.Post κs)
 report-once κs a r s x y p q = (by-equation (p .number) (q .number), by-equation (p .bytes) (q .bytes))

@@ -1,5 +1,6 @@
-// RULES 12: for programs in other languages, the two doors and the report (include/makhroeng.h). Nothing is kept
-// between calls, so any number of threads may call at once. A slice is a pointer and a length.
+// RULES 12: for programs in other languages, the two doors, by a state's eight numbers or by all that it carries, and
+// the report (include/makhroeng.h). Nothing is kept between calls, so any number of threads may call at once. A slice
+// is a pointer and a length.
 ghost use mathlib.Core.Path.{_≡_};
 ghost use Prim.Native.Nat.{_≤_};
 ghost use lib.ListN.{length};
@@ -9,7 +10,7 @@ ghost use Rattle.door_pressure.specs.PressureDoor.{pressureDoor};
 ghost use Rattle.door_density.specs.DensityDoor.{densityDoor};
 ghost use Rattle.sheet_read.specs.Form.{inForm};
 ghost use Rattle.sheet_score.specs.Score.{report};
-ghost use Rattle.interface.specs.Interface.{phaseNumber, withEight, AnsweredIn, ReportedIn};
+ghost use Rattle.interface.specs.Interface.{phaseNumber, withEight, AnsweredIn, CarriedIn, ReportedIn};
 use door_answers::Answer;
 use door_density::from_density;
 use door_limits::document_01;
@@ -76,6 +77,43 @@ pub extern "C" fn makhroeng_from_density(temperature: f64, density: f64, figures
     ensures { λ r. ⌜ AnsweredIn (now (figures .entry)) (now (figures .exit)) (densityDoor of1996 document01 temperature density) r ⌝ }
 {
     put_answer(from_density(document_01(), temperature, density), figures)
+}
+
+// All that a state carries: behind the eight numbers the count of the terms that fell away, where there is room for it.
+fn put_state(a: Answer, figures: &mut [f64]) -> u32
+    ensures { λ r. ⌜ CarriedIn (now (figures .entry)) (now (figures .exit)) a r ⌝ }
+{
+    let Answer::State(s) = a else {
+        return put_answer(a, figures);
+    };
+    let fallen = s.fallen as f64;
+    let number = put_answer(Answer::State(s), figures);
+    if figures.len() > 8 {
+        figures[8] = fallen;
+    }
+    number
+}
+
+#[no_mangle]
+pub extern "C" fn makhroeng_state_from_pressure(
+    temperature: f64,
+    pressure: f64,
+    figures: &mut [f64],
+) -> u32
+    ensures { λ r. ⌜ CarriedIn (now (figures .entry)) (now (figures .exit)) (pressureDoor of1996 document01 temperature pressure) r ⌝ }
+{
+    put_state(from_pressure(document_01(), temperature, pressure), figures)
+}
+
+#[no_mangle]
+pub extern "C" fn makhroeng_state_from_density(
+    temperature: f64,
+    density: f64,
+    figures: &mut [f64],
+) -> u32
+    ensures { λ r. ⌜ CarriedIn (now (figures .entry)) (now (figures .exit)) (densityDoor of1996 document01 temperature density) r ⌝ }
+{
+    put_state(from_density(document_01(), temperature, density), figures)
 }
 
 #[no_mangle]

@@ -16,6 +16,12 @@ int main(void) {
            answer == MAKHROENG_VAPOUR ? "vapour" : answer == MAKHROENG_LIQUID ? "liquid" : "supercritical",
            figures[MAKHROENG_DENSITY], figures[MAKHROENG_SOUND]);
 
+    /* deep in the liquid, with all that a state carries */
+    double carried[9];
+    if (makhroeng_state_from_pressure(220.0, 10e6, carried, 9) == MAKHROENG_LIQUID)
+        printf("220 K and 10 MPa: liquid, %.6f kg/m3, %.0f of the equation's 42 terms fell away\n",
+               carried[MAKHROENG_DENSITY], carried[MAKHROENG_FALLEN]);
+
     const char *sheet = "N 75000000\n"
                         "C 1 3131500 P 10000000 40000\n"
                         "C 2 3101500 P 9600000 40000\n"

@@ -29,7 +29,7 @@ enum {
     MAKHROENG_SOLID = 19           /* the pressure, asked or worked, is above the melting pressure: dry ice (RULES 5.4) */
 };
 
-/* The places of the eight numbers in `figures`. */
+/* The places in `figures`: the eight numbers, and after them what else a state carries. */
 enum {
     MAKHROENG_TEMPERATURE, /* K */
     MAKHROENG_PRESSURE,    /* Pa, as worked at this temperature and density */
@@ -38,7 +38,8 @@ enum {
     MAKHROENG_ENTHALPY,    /* J/kg */
     MAKHROENG_CV,          /* J/(kg K) */
     MAKHROENG_CP,          /* J/(kg K) */
-    MAKHROENG_SOUND        /* m/s */
+    MAKHROENG_SOUND,       /* m/s */
+    MAKHROENG_FALLEN       /* how many of the equation's 42 terms fell away: their exponential's argument is below -36 */
 };
 
 /* The state at a temperature in K and a pressure in Pa, whatever two doubles these are, infinities and NaN included.
@@ -49,6 +50,15 @@ uint32_t makhroeng_from_pressure(double temperature, double pressure, double *fi
 
 /* The same from a temperature in K and a density in kg/m3. */
 uint32_t makhroeng_from_density(double temperature, double density, double *figures, size_t len);
+
+/* The state with all that it carries, as far as figures are lent: the eight numbers of makhroeng_from_pressure, bit for
+ * bit, in figures[0] to figures[7], and where len is at least 9 the count of the terms that fell away, a whole number from
+ * 0 to 35, in figures[8]. It returns the same, and where it refuses every figure is as it was; where len is below 8: 15.
+ * Figures after the last that a state carries are never touched. A later version may carry more, in figures[9] and on. */
+uint32_t makhroeng_state_from_pressure(double temperature, double pressure, double *figures, size_t len);
+
+/* The same from a temperature in K and a density in kg/m3. */
+uint32_t makhroeng_state_from_density(double temperature, double density, double *figures, size_t len);
 
 /* Scores the sheet in text[0] to text[text_len - 1], whatever bytes these are, and writes its report to `out`.
  * Returns the report's length, 13 to 1,512 bytes; bytes of `out` after it are as they were. Where the report is longer

@@ -24,7 +24,8 @@ PRESSURES = [
     (217.0, 5000000.0), (217.0, 2429700.0), (217.0, 2429701.0), (217.0, 2429700.0645423313), (217.0, 2429700.0645423317),
     (217.546, 5000000.0), (217.5461, 5000000.0), (217.5460227897887, 5000000.0), (217.54602278978874, 5000000.0), (222.7145, 30000000.0),
     (222.7146, 30000000.0), (216.592, 517950.0), (216.592, 517950.00000000006), (216.592, 517951.0), (216.592, 30000001.0),
-    (216.592003, 517964.0), (216.592003, 517965.0),
+    (216.592003, 517964.0), (216.592003, 517965.0), (217.6, 5000000.0), (230.0, 20000000.0), (304.1282, 30000000.0),
+    (350.0, 20000000.0),
 ]
 DENSITIES = [
     (250.0, 1058.86), (300.0, 128.4), (400.0, 72.804), (250.0, 46.646153870768245), (250.0, 46.64615387076825),
@@ -76,9 +77,10 @@ def not_solid(t, p):
 
 def state(phase, t, rho):
     try:
-        return phase, [x.x for x in equation.state(t, rho)]
+        eight, count = equation.state(t, rho)
     except figures.Failure:
         raise Refusal(7)
+    return phase, [x.x for x in eight], count
 
 
 def pressure_figure(t):
@@ -132,12 +134,12 @@ def by_density(t, rho):
 def tell(name, door, t, x):
     where = f"T {numerics.show(t)} and {name} {numerics.show(x)}"
     try:
-        phase, eight = door(t, x)
+        phase, eight, count = door(t, x)
     except Refusal as r:
         print(f"{where} refused by {r.args[0]}")
         return
     named = zip(["T", "p", "rho", "u", "h", "cv", "cp", "w"], eight)
-    print(f"{where} {phase} " + " ".join(f"{n} {numerics.show(v)}" for n, v in named))
+    print(f"{where} {phase} " + " ".join(f"{n} {numerics.show(v)}" for n, v in named) + f" fallen {count}")
 
 
 if __name__ == "__main__":
@@ -149,5 +151,6 @@ if __name__ == "__main__":
         tell("p", by_pressure, t, p)
     for t, rho in [(-INF, 100.0), (NAN, NAN), (300.0, INF), (300.0, NAN), (NAN, 100.0)]:
         tell("rho", by_density, t, rho)
-    for t, p in [(250.0, 5000000.0), (300.0, 5000000.0), (400.0, 5000000.0), (217.0, 2429700.0645423313)]:
+    # what the pressure door found, asked of the density door: the same eight numbers, and the same count
+    for t, p in [(250.0, 5000000.0), (300.0, 5000000.0), (400.0, 5000000.0), (217.0, 2429700.0645423313), (217.6, 5000000.0), (230.0, 20000000.0)]:
         tell("rho", by_density, t, by_pressure(t, p)[1][2])

@@ -1,5 +1,5 @@
 #!/usr/bin/env python3
-"""The pressure and the state worked a second time, from 004 and docs/ARRANGEMENT.md, sections 2 to 9: prints what the program `run_figures` must print.
+"""The pressure and the state worked a second time, from 004 and docs/ARRANGEMENT.md, sections 2 to 9 and 12: prints what the program `run_figures` must print.
 
 Each operation is one Python float operation, which is the same f64 operation. Each number is tested as it is worked, where the code tests at the end.
     crosscheck/equation.py | diff - crates/run_figures/stdout
@@ -9,7 +9,7 @@ import sys
 sys.dont_write_bytecode = True
 import figures
 import numerics
-from figures import DENSITY, TEMPERATURE, Failure, Num, e_to, first, root, second
+from figures import DENSITY, TEMPERATURE, Failure, Num, e_said, first, root, second
 
 GAS = 188.9241
 # Table 31, rows 1 to 34: n, d, t in quarters, c (0: no exponential)
@@ -46,17 +46,21 @@ class Point:
         return power(self.tau, j // 4) * power(self.q, j % 4)
 
 
+# A row is its term, its five brackets, and what its exponential says (docs/ARRANGEMENT.md, section 12); rows 1 to 7 have none.
+
+
 def rows_1_34(at, row):
     n, d, j, c = row
     term = Num(n) * power(at.delta, d) * at.tau_to(j)
     dn, t = Num(float(d)), Num(j / 4)
     if c == 0:
-        return term, [lambda: dn, lambda: dn * (dn - ONE), lambda: t, lambda: t * (t - ONE), lambda: t * dn]
+        return term, [lambda: dn, lambda: dn * (dn - ONE), lambda: t, lambda: t * (t - ONE), lambda: t * dn], False
     z = power(at.delta, c)
-    term = term * e_to(-z)
+    e, fallen = e_said(-z)
+    term = term * e
     g = Num(float(c)) * z
     b = dn - g
-    return term, [lambda: b, lambda: b * ((dn - ONE) - g) - Num(float(c)) * g, lambda: t, lambda: t * (t - ONE), lambda: t * b]
+    return term, [lambda: b, lambda: b * ((dn - ONE) - g) - Num(float(c)) * g, lambda: t, lambda: t * (t - ONE), lambda: t * b], fallen
 
 
 def rows_35_39(at, row):
@@ -64,14 +68,16 @@ def rows_35_39(at, row):
     delta, tau = at.delta, at.tau
     dn, t, alpha, beta = Num(float(d)), Num(j / 4), Num(alpha), Num(beta)
     x, y = delta - Num(epsilon), tau - Num(gamma)
-    term = Num(n) * power(delta, d) * at.tau_to(j) * e_to(-(alpha * (x * x) + beta * (y * y)))
+    e, fallen = e_said(-(alpha * (x * x) + beta * (y * y)))
+    term = Num(n) * power(delta, d) * at.tau_to(j) * e
 
     def b():
         return dn - TWO * alpha * delta * x
 
     def s():
         return t - TWO * beta * tau * y
-    return term, [b, lambda: b() * b() - dn - TWO * alpha * power(delta, 2), s, lambda: s() * s() - t - TWO * beta * power(tau, 2), lambda: b() * s()]
+    brackets = [b, lambda: b() * b() - dn - TWO * alpha * power(delta, 2), s, lambda: s() * s() - t - TWO * beta * power(tau, 2), lambda: b() * s()]
+    return term, brackets, fallen
 
 
 def rows_40_42(at, row):
@@ -85,7 +91,7 @@ def rows_40_42(at, row):
     r, v = root(x, 5, 3), root(x, 2, 3)
     theta = (ONE - tau) + ka * r
     d = theta * theta + kb * up
-    psi = e_to(-(kc * x + kd * y))
+    psi, fallen = e_said(-(kc * x + kd * y))
     p0 = root(d, *exponent)
     p1 = p0 / d
     term = n * delta * psi
@@ -118,31 +124,53 @@ def rows_40_42(at, row):
     def by_delta_tau():
         pdt = -(ka * b * Num(20 / 3) * p1 * e * v) - TWO * theta * (b * (b - ONE)) * p2() * dd
         return tau * (p0 * psi_t() * g + rise * psi_t() + p_t() * g + delta * pdt)
-    return term, [lambda: p0 * g + rise, by_delta_delta, lambda: tau * (p_t() + p0 * psi_t()), by_tau_tau, by_delta_tau]
+    return term, [lambda: p0 * g + rise, by_delta_delta, lambda: tau * (p_t() + p0 * psi_t()), by_tau_tau, by_delta_tau], fallen
 
 
 def residual(at, which):
-    """One of the five sums, in row order from the first row's product."""
-    total = None
+    """One of the five sums, in row order from the first row's product; and how many of its rows fell away, each row by itself."""
+    total, count = None, 0
     for work, table in [(rows_1_34, ROWS), (rows_35_39, GAUSSIAN), (rows_40_42, NON_ANALYTIC)]:
         for row in table:
-            term, brackets = work(at, row)
+            term, brackets, fallen = work(at, row)
             figure = term * brackets[which]()
             total = figure if total is None else total + figure
-    return total
+            count += fallen
+    return total, count
 
 
 def pressure(t, rho):
-    return Num(rho) * Num(GAS) * Num(t) * (ONE + residual(Point(t, rho), 0))
+    s1, _dropped = residual(Point(t, rho), 0)
+    return Num(rho) * Num(GAS) * Num(t) * (ONE + s1)
 
 
 def state(t, rho):
+    """The eight numbers, and the count of the rows that fell away: each of the five sums goes over the same rows, so each has the same count."""
     at = Point(t, rho)
-    s1, s2, s3, s4, s5 = [residual(at, k) for k in range(5)]
+    (s1, count), (s2, _), (s3, _), (s4, _), (s5, _) = [residual(at, k) for k in range(5)]
     i1, i2 = first(at.tau.x), second(at.tau.x)
     t, rho, gas = Num(t), Num(rho), Num(GAS)
     s, z, g, k = i1 + s3, i2 + s4, ONE + s1 - s5, ONE + TWO * s1 + s2
-    return [t, rho * gas * t * (ONE + s1), rho, gas * t * s, gas * t * (ONE + s + s1), gas * -z, gas * (-z + g * g / k), root(gas * t * (k - g * g / z), 1, 2)]
+    eight = [t, rho * gas * t * (ONE + s1), rho, gas * t * s, gas * t * (ONE + s + s1), gas * -z, gas * (-z + g * g / k), root(gas * t * (k - g * g / z), 1, 2)]
+    return eight, count
+
+
+# Two neighbouring floats each, with an argument of -36 or the last above it, then one below it: the rows named count at the second alone. The argument is -36
+# itself at the first of all pairs but those of c = 2, 4 and 5. Of c = 1 there is none: a density that high is refused by the roots of rows 40 to 42.
+FALLEN = [
+    (300.0, 2805.6), (300.0, 2805.6000000000004),  # c = 2, rows 17 to 23; the arguments of c = 4 to 6 are below -700
+    (300.0, 1543.9811815831276), (300.0, 1543.9811815831279),  # c = 3, rows 24 to 26
+    (230.0, 1145.381403725414), (230.0, 1145.3814037254142),  # c = 4, rows 27 to 32
+    (280.0, 957.4916661806428), (280.0, 957.4916661806429),  # c = 5, row 33
+    (300.0, 849.6855892083086), (300.0, 849.6855892083087),  # c = 6, row 34
+    (265.0, 1028.3337772507039), (265.0, 1028.333777250704),  # row 35
+    (304.86379908770004, 1.0), (304.8637990877001, 1.0),  # rows 36 and 37, of one argument
+    (320.0, 61.459336211435975), (320.0, 61.45933621143597),  # row 38
+    (250.0, 1094.9220927601548), (250.0, 1094.922092760155),  # row 39
+    (243.0, 1105.2842056135098), (243.0, 1105.28420561351),  # rows 40 and 41, of one argument
+    (235.153310960611, 3.0), (235.15331096061098, 3.0),  # row 42
+    (1000.0, -981.96),  # row 33 is e to a number above 36, which doesn't count
+]
 
 
 def states():
@@ -151,11 +179,12 @@ def states():
               (304.2, 467.6), (305.0, 467.6), (306.5, 530.25), (330.0, 701.2), (400.0, 72.804), (450.0, 467.6), (523.0, 0.05), (523.0, 1400.0),
               (327.6, 596.9), (321.9, 282.0), (316.0, 725.1), (305.5, 668.7), (304.11, 490.7), (311.1, 522.1),
               (304.1282, 467.6), (300.0, 0.0), (300.0, -1.0), (0.0, 100.0), (-300.0, 100.0), (1e-300, 100.0), (300.0, 1e300), (300.0, inf), (inf, 100.0), (nan, 100.0), (300.0, nan)]
-    for t, rho in points:
+    for t, rho in points + FALLEN:
         where = f"at {numerics.show(t)} {numerics.show(rho)} is"
         print(f"pressure {where} {numerics.tell(figures.worked(lambda _: pressure(t, rho), t))}")
         try:
-            print(f"state {where} {' '.join(numerics.show(x.x) for x in state(t, rho))}")
+            eight, count = state(t, rho)
+            print(f"state {where} {' '.join(numerics.show(x.x) for x in eight)} fallen {count}")
         except Failure:
             print(f"state {where} refused")
 
@@ -166,7 +195,7 @@ def sharp():
         at = Point(t, rho)
         for which in range(5):
             for row in NON_ANALYTIC:
-                term, brackets = rows_40_42(at, row)
+                term, brackets, _dropped = rows_40_42(at, row)
                 print(f"rows 40 to 42 is {numerics.show((term * brackets[which]()).x)}")
 
 

@@ -54,8 +54,19 @@ class Num:
         return p
 
 
+def e_said(a):
+    """e to a, and what the exponential says of a: for those who pass it on."""
+    e = numerics.exponential(a.x)
+    if e is None:
+        raise Failure
+    answer, fallen = e
+    return Num(answer), fallen
+
+
 def e_to(a):
-    return Num(numerics.exponential(a.x))
+    """e to a, for those who drop what the exponential says: the saturation equations and the ideal part (docs/ARRANGEMENT.md, section 12)."""
+    answer, _dropped = e_said(a)
+    return answer
 
 
 def root(a, m, k):

@@ -26,21 +26,28 @@ def power(x, n):
 
 
 def exponential(x):
+    """RULES 4.4: the answer, and what is said with it: whether x was below -36 (docs/ARRANGEMENT.md, section 12). None where refused: it says nothing then."""
     if not math.isfinite(x):
         return None
     if x < -700.0:
-        return 0.0
+        return 0.0, True
     if x > 700.0:
         return None
     if x <= 0.0:
-        y = (-x) / 1024.0
-        s = 1.0
-        for k in range(14, 0, -1):
-            s = 1.0 - (y / k) * s
-        for _ in range(10):
-            s = s * s
-        return s
-    return 1.0 / exponential(-x)
+        return series(x), x < -36.0
+    # by step 4, and not by the whole of the rule: what e to -x would say is not said of x
+    return 1.0 / series(-x), False
+
+
+def series(x):
+    """RULES 4.4, step 4."""
+    y = (-x) / 1024.0
+    s = 1.0
+    for k in range(14, 0, -1):
+        s = 1.0 - (y / k) * s
+    for _ in range(10):
+        s = s * s
+    return s
 
 
 def halve(figure, target, lo, hi):
@@ -87,12 +94,20 @@ def tell(w):
     return "refused" if w is None else show(w)
 
 
+def tell_said(e):
+    return "refused" if e is None else f"{show(e[0])} fallen {int(e[1])}"
+
+
 def main():
     for x, n in [(2.0, 10), (0.1, 0), (0.1, 1), (1.1, 10), (1.3972, 28), (1e200, 2)]:
         print(f"power {n} of {show(x)} is {tell(power(x, n))}")
     inf, nan = float("inf"), float("nan")
-    for x in [0.0, -0.0, -701.0, -700.0, -700.0000000000001, 700.0, 700.0000000000001, inf, -inf, nan, 1.0, -1.0, -0.0001220703125, -36.5, 0.3, 12.25, -123.456, 650.1, -1e-300]:
-        print(f"e to {show(x)} is {tell(exponential(x))}")
+    worked = [0.0, -0.0, -701.0, -700.0, -700.0000000000001, 700.0, 700.0000000000001, inf, -inf, nan, 1.0, -1.0, -0.0001220703125, -36.5, 0.3, 12.25,
+              -123.456, 650.1, -1e-300]
+    # -36, the next float below it and the next above; two numbers whose negative is below -36; one that is so itself
+    said = [-36.0, -36.00000000000001, -35.99999999999999, 36.00000000000001, 36.5, -37.0]
+    for x in worked + said:
+        print(f"e to {show(x)} is {tell_said(exponential(x))}")
     edges = [(4.0, 1, 2), (0.0, 1, 2), (-0.0, 17, 50), (1.0, 1, 2), (-1.0, 1, 2), (inf, 1, 2), (nan, 1, 2), (2.0, 2, 1), (2.0, 0, 0), (2.0, 0, 1), (2.0, 1, 51),
              (2.0, 1, 52), (0.0, 1, 52), (1099511627775.9999, 1, 2), (1099511627776.0, 1, 2), (5e-324, 1, 2), (5e-324, 3, 2), (1e-200, 5, 3), (1e-308, 37, 40),
              (1e300, 3, 2), (1e-17, 2, 3)]

@@ -26,9 +26,9 @@ def milligrams(number, temperature, kind, value, volume):
         raise doors.Refusal(2)
     t = float(int(temperature)) / 10000.0
     if kind == b"P":
-        phase, eight = doors.by_pressure(t, float(int(value)))
+        _phase, eight, _count = doors.by_pressure(t, float(int(value)))
     else:
-        phase, eight = doors.by_density(t, float(int(value)) / 1000.0)
+        _phase, eight, _count = doors.by_density(t, float(int(value)) / 1000.0)
     return math.floor(eight[2] * float(int(volume)))
 
 

@@ -1,6 +1,6 @@
 //! RULES 3.3 and 5: the doors.
 
-use crate::equation::{isotherm, pressure, state, Isotherm, CRITICAL_TEMPERATURE};
+use crate::equation::{isotherm, pressure, state, Isotherm, State, CRITICAL_TEMPERATURE};
 use crate::melting::melting_pressure;
 use crate::numbers::{halve, Halved};
 use crate::saturation::{liquid_density, vapour_density, vapour_pressure};
@@ -12,8 +12,8 @@ pub enum Phase {
     Supercritical,
 }
 
-/// The eight numbers with their phase, or a refusal number.
-pub type Answer = Result<(Phase, [f64; 8]), u32>;
+/// A state with its phase, or a refusal number.
+pub type Answer = Result<(Phase, State), u32>;
 
 /// RULES 2.2 and 2.3: every end is inside its range.
 pub const TEMPERATURES: [f64; 2] = [216.592, 523.0];
@@ -147,7 +147,8 @@ mod tests {
     #[test]
     fn rows_of_the_5_mpa_isobar() {
         for (t, rho, h, w) in [(250.0, 1058.86, -359.31, 762.21), (300.0, 128.40, -60.830, 223.25), (400.0, 72.804, 64.593, 294.63)] {
-            let (_, [at, p, density, u, enthalpy, _, _, sound]) = from_pressure(t, 5e6).unwrap();
+            let (_, state) = from_pressure(t, 5e6).unwrap();
+            let [at, p, density, u, enthalpy, _, _, sound] = state.eight;
             assert_eq!(at, t);
             assert!((p - 5e6).abs() < 1e-3);
             assert!((density - rho).abs() < if rho > 1000.0 || rho > 100.0 { 0.01 } else { 0.001 });
@@ -156,5 +157,18 @@ mod tests {
             assert!((enthalpy - u - p / density).abs() < 1e-6);
             assert_eq!(from_density(t, density), from_pressure(t, 5e6));
         }
+    }
+
+    #[test]
+    fn fallen_terms() {
+        let by_pressure = |(t, p)| from_pressure(t, p).map(|(_, state)| state.fallen);
+        let at_5_mpa = [250.0, 300.0, 400.0, 217.6].map(|t| (t, 5e6));
+        assert_eq!(at_5_mpa.map(by_pressure), [5, 0, 5, 16].map(Ok));
+        let elsewhere = [(217.0, 5e5), (230.0, 2e7), (300.0, 3e7), (304.1282, 3e7), (350.0, 2e7), (523.0, 1e4)];
+        assert_eq!(elsewhere.map(by_pressure), [6, 15, 4, 3, 1, 8].map(Ok));
+        // neighbouring floats, at −36 and below it: row 34, then rows 40 and 41
+        let by_density = |(t, rho)| from_density(t, rho).map(|(_, state)| state.fallen);
+        assert_eq!([(300.0, 849.6855892083086), (300.0, 849.6855892083087)].map(by_density), [0, 1].map(Ok));
+        assert_eq!([(243.0, 1105.2842056135098), (243.0, 1105.28420561351)].map(by_density), [7, 9].map(Ok));
     }
 }

@@ -1,4 +1,4 @@
-//! The equation of 004 in the order of docs/ARRANGEMENT.md, sections 2 to 9.
+//! The equation of 004 in the order of docs/ARRANGEMENT.md, sections 2 to 9, and the terms of it that fell away, section 12.
 
 use crate::numbers::{exponentials, powers, root};
 use crate::tables::{A2, A3, GAUSSIANS, IDEAL, ROWS, SHAPES, SHARPS};
@@ -36,8 +36,8 @@ pub fn isotherm(t: f64) -> Isotherm {
     Isotherm { t, tau, lift, cold, still: [SHAPES[0].kd * (f * f), SHAPES[1].kd * (f * f)] }
 }
 
-/// Section 7: S₁ to S₅ where ALL, else S₁ alone.
-fn sums<const ALL: bool>(on: &Isotherm, rho: f64) -> [f64; 5] {
+/// Section 7: S₁ to S₅ where ALL, else S₁ alone. And section 12: for how many of the rows the exponential says that its argument was below −36.
+fn sums<const ALL: bool>(on: &Isotherm, rho: f64) -> ([f64; 5], u32) {
     let delta = rho / CRITICAL_DENSITY;
     let d: [f64; 11] = powers(delta);
     let tau = on.tau;
@@ -54,10 +54,11 @@ fn sums<const ALL: bool>(on: &Isotherm, rho: f64) -> [f64; 5] {
     let [g1, g2, g3, g4, g5] = bells;
     let s1 = -(SHAPES[0].kc * x + on.still[0]);
     let s2 = -(SHAPES[1].kc * x + on.still[1]);
-    let exps = exponentials([-d[1], -d[2], -d[3], -d[4], -d[5], -d[6], g1, g2, g3, g4, g5, s1, s2]);
+    let (exps, said) = exponentials([-d[1], -d[2], -d[3], -d[4], -d[5], -d[6], g1, g2, g3, g4, g5, s1, s2]);
 
     // −0 + x is x for every x, so each sum starts with row 1's product
     let mut sums = [-0.0; 5];
+    let mut fallen = 0;
     let mut add = |term: f64, brackets: [f64; 5]| {
         for k in 0..if ALL { 5 } else { 1 } {
             sums[k] += term * brackets[k];
@@ -74,6 +75,7 @@ fn sums<const ALL: bool>(on: &Isotherm, rho: f64) -> [f64; 5] {
     for (row, lift) in ROWS[7..].iter().zip(&on.lift[7..]) {
         let (dn, t, c) = (row.d as f64, row.j as f64 / 4.0, row.c as f64);
         let term = ((row.n * d[row.d]) * lift) * exps[row.c - 1];
+        fallen += u32::from(said[row.c - 1]);
         let g = c * d[row.c];
         let b = dn - g;
         add(term, [b, b * ((dn - 1.0) - g) - c * g, t, t * (t - 1.0), t * b]);
@@ -83,6 +85,7 @@ fn sums<const ALL: bool>(on: &Isotherm, rho: f64) -> [f64; 5] {
         let (dn, t) = (row.d as f64, row.j as f64 / 4.0);
         let (x, y) = (delta - row.epsilon, tau - row.gamma);
         let term = ((row.n * d[row.d]) * on.lift[34 + i]) * exps[6 + i];
+        fallen += u32::from(said[6 + i]);
         let b = dn - ((2.0 * row.alpha) * delta) * x;
         let s = t - ((2.0 * row.beta) * tau) * y;
         let dd = ((b * b) - dn) - (2.0 * row.alpha) * (delta * delta);
@@ -108,6 +111,7 @@ fn sums<const ALL: bool>(on: &Isotherm, rho: f64) -> [f64; 5] {
         let p0 = root(cap, row.m, row.k);
         let p1 = p0 / cap;
         let term = (row.n * delta) * exps[11 + row.shape];
+        fallen += u32::from(said[11 + row.shape]);
         let m = ((ka * theta) * (20.0 / 3.0)) * v + ((2.0 * kb) * a) * xa1;
         let cap_d = e * m;
         let p_d = (b * p1) * cap_d;
@@ -135,18 +139,18 @@ fn sums<const ALL: bool>(on: &Isotherm, rho: f64) -> [f64; 5] {
         }
         add(term, brackets);
     }
-    sums
+    (sums, fallen)
 }
 
-/// Section 9, the first row; by section 7 a pressure needs S₁ alone. Failed where it is not finite.
+/// Section 9, the first row; by section 7 a pressure needs S₁ alone. Failed where it is not finite. Its count is dropped (section 12).
 pub fn pressure(on: &Isotherm, rho: f64) -> f64 {
-    let [s1, ..] = sums::<false>(on, rho);
+    let ([s1, ..], _fallen) = sums::<false>(on, rho);
     ((rho * GAS) * on.t) * (1.0 + s1)
 }
 
-/// Section 8: I₁ and I₂.
+/// Section 8: I₁ and I₂. What its exponentials say is dropped (section 12).
 fn ideal(tau: f64) -> [f64; 2] {
-    let e = exponentials(IDEAL.map(|(_, theta)| -(theta * tau)));
+    let (e, _said) = exponentials(IDEAL.map(|(_, theta)| -(theta * tau)));
     let mut first = A2 + A3 / tau;
     let mut second = -(A3 / (tau * tau));
     for ((a, theta), e) in IDEAL.into_iter().zip(e) {
@@ -157,11 +161,18 @@ fn ideal(tau: f64) -> [f64; 2] {
     [tau * first, (tau * tau) * second]
 }
 
-/// Section 9: T, p, ρ, u, h, cᵥ, cₚ, w, or None where a number on the way is not finite.
-pub fn state(on: &Isotherm, rho: f64) -> Option<[f64; 8]> {
+/// Section 9: T, p, ρ, u, h, cᵥ, cₚ, w. Section 12: the count of the rows that fell away.
+#[derive(Clone, Copy, Debug, PartialEq)]
+pub struct State {
+    pub eight: [f64; 8],
+    pub fallen: u32,
+}
+
+/// None where a number on the way is not finite.
+pub fn state(on: &Isotherm, rho: f64) -> Option<State> {
     let finite = |xs: &[f64]| xs.iter().all(|x| x.is_finite());
     let t = on.t;
-    let [s1, s2, s3, s4, s5] = sums::<true>(on, rho);
+    let ([s1, s2, s3, s4, s5], fallen) = sums::<true>(on, rho);
     let [i1, i2] = ideal(on.tau);
     let s = i1 + s3;
     let z = i2 + s4;
@@ -177,5 +188,5 @@ pub fn state(on: &Isotherm, rho: f64) -> Option<[f64; 8]> {
     let cp = GAS * ((-z) + (g * g) / k);
     let w = root((GAS * t) * (k - (g * g) / z), 1, 2);
     let eight = [t, p, rho, u, h, cv, cp, w];
-    finite(&eight).then_some(eight)
+    finite(&eight).then_some(State { eight, fallen })
 }

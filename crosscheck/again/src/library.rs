@@ -3,18 +3,52 @@
 extern "C" {
     fn makhroeng_from_pressure(temperature: f64, pressure: f64, figures: *mut f64, len: usize) -> u32;
     fn makhroeng_from_density(temperature: f64, density: f64, figures: *mut f64, len: usize) -> u32;
+    #[cfg(feature = "counts")]
+    fn makhroeng_state_from_pressure(temperature: f64, pressure: f64, figures: *mut f64, len: usize) -> u32;
+    #[cfg(feature = "counts")]
+    fn makhroeng_state_from_density(temperature: f64, density: f64, figures: *mut f64, len: usize) -> u32;
     fn makhroeng_report(text: *const u8, text_len: usize, out: *mut u8, out_len: usize) -> u64;
 }
 
+/// A function that asks a door. One that counts gives the rows that fell away behind the eight numbers.
+pub struct Function {
+    pub name: &'static str,
+    pub call: fn(f64, f64, &mut [u64]) -> u32,
+    pub counts: bool,
+}
+
+pub const BY_PRESSURE: &[Function] = &[
+    Function { name: "makhroeng_from_pressure", call: from_pressure, counts: false },
+    #[cfg(feature = "counts")]
+    Function { name: "makhroeng_state_from_pressure", call: state_from_pressure, counts: true },
+];
+pub const BY_DENSITY: &[Function] = &[
+    Function { name: "makhroeng_from_density", call: from_density, counts: false },
+    #[cfg(feature = "counts")]
+    Function { name: "makhroeng_state_from_density", call: state_from_density, counts: true },
+];
+
 /// `figures` are lent as bits, so that no pattern in them is taken for a number on the way.
-pub fn from_pressure(t: f64, p: f64, figures: &mut [u64]) -> u32 {
+fn from_pressure(t: f64, p: f64, figures: &mut [u64]) -> u32 {
     // SAFETY: the slice is lent for the call; a double has the size and the alignment of its bits
     unsafe { makhroeng_from_pressure(t, p, figures.as_mut_ptr().cast(), figures.len()) }
 }
 
-pub fn from_density(t: f64, rho: f64, figures: &mut [u64]) -> u32 {
+fn from_density(t: f64, rho: f64, figures: &mut [u64]) -> u32 {
     // SAFETY: as above
     unsafe { makhroeng_from_density(t, rho, figures.as_mut_ptr().cast(), figures.len()) }
+}
+
+#[cfg(feature = "counts")]
+fn state_from_pressure(t: f64, p: f64, figures: &mut [u64]) -> u32 {
+    // SAFETY: as above
+    unsafe { makhroeng_state_from_pressure(t, p, figures.as_mut_ptr().cast(), figures.len()) }
+}
+
+#[cfg(feature = "counts")]
+fn state_from_density(t: f64, rho: f64, figures: &mut [u64]) -> u32 {
+    // SAFETY: as above
+    unsafe { makhroeng_state_from_density(t, rho, figures.as_mut_ptr().cast(), figures.len()) }
 }
 
 pub fn report(text: &[u8], out: &mut [u8]) -> u64 {

@@ -113,7 +113,9 @@ fn ask() -> io::Result<()> {
             _ => return Err(io::Error::other(format!("not a question: {line}"))),
         };
         match answer {
-            Ok((phase, eight)) => writeln!(out, "{phase:?} {}", eight.map(|x| format!("{:016x}", x.to_bits())).join(" "))?,
+            Ok((phase, state)) => {
+                writeln!(out, "{phase:?} {} fallen {}", state.eight.map(|x| format!("{:016x}", x.to_bits())).join(" "), state.fallen)?
+            }
             Err(number) => writeln!(out, "{number}")?,
         }
     }

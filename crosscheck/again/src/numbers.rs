@@ -43,8 +43,9 @@ fn falling<const N: usize>(x: [f64; N]) -> [f64; N] {
     s
 }
 
-/// RULES 4.4, steps 1 to 5 in their order; refused: failed.
-pub fn exponentials<const N: usize>(x: [f64; N]) -> [f64; N] {
+/// RULES 4.4, steps 1 to 5 in their order; refused: failed. Beside the answers stands what is said of each argument: whether it was below −36
+/// (docs/ARRANGEMENT.md, section 12). Of one that is refused nothing is said, which is a no here.
+pub fn exponentials<const N: usize>(x: [f64; N]) -> ([f64; N], [bool; N]) {
     let mut e = falling(x);
     for i in 0..N {
         if !(-700.0..=0.0).contains(&x[i]) {
@@ -57,11 +58,12 @@ pub fn exponentials<const N: usize>(x: [f64; N]) -> [f64; N] {
             };
         }
     }
-    e
+    (e, x.map(|x| x.is_finite() && x < -36.0))
 }
 
-pub fn exponential(x: f64) -> f64 {
-    exponentials([x])[0]
+pub fn exponential(x: f64) -> (f64, bool) {
+    let ([answer], [said]) = exponentials([x]);
+    (answer, said)
 }
 
 #[derive(Debug, PartialEq)]
@@ -150,16 +152,28 @@ mod tests {
 
     #[test]
     fn readings_of_document_01() {
-        assert_eq!(exponential(0.0), 1.0);
-        assert_eq!(exponential(-0.0), 1.0);
-        assert_eq!(exponential(-701.0), 0.0);
-        assert!(exponential(700.0000000000001).is_nan() && exponential(f64::INFINITY).is_nan() && exponential(f64::NEG_INFINITY).is_nan());
+        assert_eq!(exponential(0.0), (1.0, false));
+        assert_eq!(exponential(-0.0), (1.0, false));
+        assert_eq!(exponential(-701.0), (0.0, true));
+        for refused in [700.0000000000001, f64::INFINITY, f64::NEG_INFINITY, f64::NAN] {
+            let (answer, said) = exponential(refused);
+            assert!(answer.is_nan() && !said);
+        }
         assert_eq!(whole_power(2.0, 10), 1024.0);
         assert_eq!(root(0.0, 1, 2).to_bits(), 0);
         assert_eq!(root(-0.0, 1, 2).to_bits(), 0);
         assert_eq!(root(1.0, 1, 2), 1.0);
         assert_eq!(root(4.0, 1, 2), 2.0);
         assert!(root(-1.0, 1, 2).is_nan() && root(f64::NAN, 1, 2).is_nan() && root(2.0, 2, 1).is_nan() && root(2.0, 1, 52).is_nan());
+    }
+
+    #[test]
+    fn below_36() {
+        let said = |x: f64| exponential(x).1;
+        let at = (-36.0f64).to_bits();
+        assert_eq!([at - 1, at, at + 1].map(|bits| said(f64::from_bits(bits))), [false, false, true]);
+        assert_eq!([-37.0, -700.0, -1e300].map(said), [true; 3]);
+        assert_eq!([-1.0, 1.0, 36.0, 36.5, 700.0].map(said), [false; 5]);
     }
 
     #[test]

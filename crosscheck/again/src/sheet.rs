@@ -80,10 +80,11 @@ pub fn weigh(line: &Line) -> Result<u64, u32> {
     }
     // whole numbers of 10 digits are exact
     let t = temperature as f64 / 10000.0;
-    let (_, [_, _, rho, ..]) = match line.kind {
+    let (_, state) = match line.kind {
         Kind::Pressure => from_pressure(t, value as f64)?,
         Kind::Density => from_density(t, value as f64 / 1000.0)?,
     };
+    let [_, _, rho, ..] = state.eight;
     let mass = rho * volume as f64;
     if !(0.0..9007199254740992.0).contains(&mass) {
         return Err(7);

@@ -2,14 +2,16 @@
 
 use crate::doors::{self, Answer, Phase, BOX_DENSITIES, BOX_PRESSURES, BOX_TEMPERATURES, DENSITIES, PRESSURES, TEMPERATURES};
 use crate::equation::{isotherm, pressure, CRITICAL_DENSITY, CRITICAL_TEMPERATURE};
-use crate::library;
+use crate::library::{Function, BY_DENSITY, BY_PRESSURE};
 use crate::melting::melting_pressure;
+use crate::numbers::whole_power;
 use crate::rng::Rng;
 use crate::saturation::{liquid_density, vapour_density, vapour_pressure};
+use crate::tables::{GAUSSIANS, SHAPES};
 use crate::tally::{digest, run, Tally};
 use std::time::Duration;
 
-const KINDS: [&str; 13] = [
+const KINDS: [&str; 14] = [
     "spread evenly",
     "every float alike",
     "ends of the ranges, neighbours",
@@ -21,11 +23,12 @@ const KINDS: [&str; 13] = [
     "whole numbers of a sheet",
     "what the other door gave",
     "critical density, neighbours",
+    "an argument of -36, neighbours",
     "any bits",
     "infinities, NaNs, zeros, ends",
 ];
 /// Out of 100.
-const SHARES: [u64; 13] = [22, 14, 10, 6, 10, 4, 8, 6, 6, 4, 4, 4, 2];
+const SHARES: [u64; 14] = [18, 14, 10, 6, 10, 4, 8, 6, 6, 4, 4, 4, 4, 2];
 const ANSWERS: [u32; 12] = [256, 257, 258, 3, 4, 5, 6, 7, 8, 9, 15, 19];
 
 #[derive(Clone, Copy, PartialEq)]
@@ -42,10 +45,10 @@ impl Door {
         }
     }
 
-    fn ask_library(self, t: f64, x: f64, figures: &mut [u64]) -> u32 {
+    fn functions(self) -> &'static [Function] {
         match self {
-            Door::Pressure => library::from_pressure(t, x, figures),
-            Door::Density => library::from_density(t, x, figures),
+            Door::Pressure => BY_PRESSURE,
+            Door::Density => BY_DENSITY,
         }
     }
 
@@ -71,6 +74,47 @@ fn density_about(t: f64, p: f64, rng: &mut Rng) -> f64 {
         }
     }
     rng.near(low, 2)
+}
+
+/// The last density before the argument passes −36, near the guess, or a float beside it.
+fn passing(guess: f64, argument: impl Fn(f64) -> f64, rng: &mut Rng) -> f64 {
+    let below = |bits: u64| argument(f64::from_bits(bits) / CRITICAL_DENSITY) < -36.0;
+    let [mut low, mut high] = [guess * (1.0 - 1e-9), guess * (1.0 + 1e-9)].map(f64::to_bits);
+    let first = below(low);
+    while low + 1 < high {
+        let mid = low + (high - low) / 2;
+        if below(mid) == first {
+            low = mid;
+        } else {
+            high = mid;
+        }
+    }
+    rng.near(f64::from_bits(low), 1)
+}
+
+/// A temperature and a density where the argument of some row's exponential passes −36 (docs/ARRANGEMENT.md, sections 2, 5 and 6).
+fn about_36(rng: &mut Rng) -> (f64, f64) {
+    // those of c = 1 to 3 don't in the range of densities; the temperatures are about those at which the pressure is in its range
+    let falling = [(4, [222.0, 250.0]), (5, [265.0, 305.0]), (6, [280.0, 330.0])];
+    if rng.one_in(3) {
+        let (c, temperatures) = rng.pick(&falling);
+        let guess = CRITICAL_DENSITY * 36f64.powf(1.0 / f64::from(c));
+        return (rng.uniform(temperatures), passing(guess, |delta| -whole_power(delta, c), rng));
+    }
+    let gaussians = GAUSSIANS.iter().map(|row| (row.alpha, row.beta, row.gamma));
+    let bells: Vec<_> = gaussians.chain(SHAPES.iter().map(|shape| (shape.kc, shape.kd, 1.0))).collect();
+    let (a, b, gamma) = rng.pick(&bells);
+    let [hot, cold] = [TEMPERATURES[1], TEMPERATURES[0]].map(|t| CRITICAL_TEMPERATURE / t);
+    let reach = (36.0 / b).sqrt();
+    let t = CRITICAL_TEMPERATURE / rng.uniform([hot.max(gamma - reach), cold.min(gamma + reach)]);
+    let y = CRITICAL_TEMPERATURE / t - gamma;
+    let x = ((36.0 - b * (y * y)) / a).max(0.0).sqrt();
+    let delta = if rng.one_in(2) { 1.0 + x } else { 1.0 - x };
+    let argument = |delta: f64| {
+        let x = delta - 1.0;
+        -(a * (x * x) + b * (y * y))
+    };
+    (t, passing((CRITICAL_DENSITY * delta).max(DENSITIES[0]), argument, rng))
 }
 
 /// A temperature and a pressure or density of the kind.
@@ -164,7 +208,7 @@ fn case_of(rng: &mut Rng, door: Door, kind: usize) -> (f64, f64) {
             }
             Door::Density => {
                 let (t, p) = (rng.uniform(TEMPERATURES), rng.any_float(PRESSURES));
-                (t, doors::from_pressure(t, p).map_or(CRITICAL_DENSITY, |(_, eight)| eight[2]))
+                (t, doors::from_pressure(t, p).map_or(CRITICAL_DENSITY, |(_, state)| state.eight[2]))
             }
         },
         10 => {
@@ -176,6 +220,13 @@ fn case_of(rng: &mut Rng, door: Door, kind: usize) -> (f64, f64) {
             }
         }
         11 => {
+            let (t, rho) = about_36(rng);
+            match door {
+                Door::Pressure => (t, pressure(&isotherm(t), rho)),
+                Door::Density => (t, rho),
+            }
+        }
+        12 => {
             let any = [rng.bits(), rng.bits()].map(f64::from_bits);
             match rng.below(3) {
                 0 => (any[0], any[1]),
@@ -214,12 +265,15 @@ fn case_of(rng: &mut Rng, door: Door, kind: usize) -> (f64, f64) {
     }
 }
 
-/// Fewer than eight now and then, and more.
-fn length(rng: &mut Rng) -> usize {
-    (match rng.below(20) {
-        0 => rng.below(8),
-        1..=4 => rng.between(9, 24),
-        _ => 8,
+/// How many are lent: fewer than eight now and then, and more. With the count nine are right, and eight will do.
+fn length(rng: &mut Rng, counts: bool) -> usize {
+    (match (rng.below(20), counts) {
+        (0, _) => rng.below(8),
+        (1..=4, false) => rng.between(9, 24),
+        (_, false) => 8,
+        (1..=2, true) => 8,
+        (3..=8, true) => rng.between(10, 12),
+        (_, true) => 9,
     }) as usize
 }
 
@@ -234,6 +288,57 @@ fn number(answer: &Answer) -> u32 {
 
 /// Numbers that are not lent, before and after those that are.
 const GUARD: usize = 4;
+const ROOM: usize = 24 + 2 * GUARD;
+
+/// A call of the library: what it answered and left, and what is right.
+struct Call {
+    name: &'static str,
+    len: usize,
+    number: u32,
+    figures: [u64; ROOM],
+    right_number: u32,
+    right_figures: [u64; ROOM],
+}
+
+impl Call {
+    fn of(function: &Function, t: f64, x: f64, answer: &Answer, rng: &mut Rng) -> Call {
+        let len = length(rng, function.counts);
+        let mut figures = [0u64; ROOM];
+        figures.iter_mut().for_each(|figure| *figure = rng.bits());
+        let mut right_figures = figures;
+        let answer = if len < 8 { &Err(15) } else { answer };
+        if let Ok((_, state)) = answer {
+            right_figures[GUARD..GUARD + 8].copy_from_slice(&state.eight.map(f64::to_bits));
+            if function.counts && len > 8 {
+                right_figures[GUARD + 8] = f64::from(state.fallen).to_bits();
+            }
+        }
+        let number = (function.call)(t, x, &mut figures[GUARD..GUARD + len]);
+        Call { name: function.name, len, number, figures, right_number: self::number(answer), right_figures }
+    }
+
+    fn is_right(&self) -> bool {
+        self.number == self.right_number && self.figures == self.right_figures
+    }
+
+    fn change(&self) -> String {
+        if self.number != self.right_number {
+            format!("{}: {} answered where {} is right", self.name, self.number, self.right_number)
+        } else {
+            format!("{}: {} answered, which is right, with other figures", self.name, self.number)
+        }
+    }
+
+    fn told(&self, t: f64, x: f64, kind: &str) -> String {
+        let asked = format!("{:#018x}, {:#018x}, figures, {}", t.to_bits(), x.to_bits(), self.len);
+        let mut told = format!("{}({asked}), which are {t:?} and {x:?} ({kind}):\n", self.name);
+        told += &format!("    {} expected, {} answered\n", self.right_number, self.number);
+        for (i, (left, right)) in self.figures.iter().zip(&self.right_figures).enumerate().filter(|(_, (left, right))| left != right) {
+            told += &format!("    figures[{}]: {right:016x} expected, {left:016x} left\n", i as i64 - GUARD as i64);
+        }
+        told
+    }
+}
 
 fn case(seed: u64, index: u64, door: Door, tally: &mut Tally) {
     let mut rng = Rng::of_case(seed, door as u64, index);
@@ -245,36 +350,21 @@ fn case(seed: u64, index: u64, door: Door, tally: &mut Tally) {
     });
     let kind = kind.expect("the shares are 100 in all");
     let (t, x) = case_of(&mut rng, door, kind);
-    let len = length(&mut rng);
-    let mut got = [0u64; 24 + 2 * GUARD];
-    got.iter_mut().for_each(|figure| *figure = rng.bits());
-    let mut expected = got;
+    let answer = door.ask(t, x);
+    let calls: Vec<Call> = door.functions().iter().map(|function| Call::of(function, t, x, &answer, &mut rng)).collect();
 
-    let answer = if len < 8 { Err(15) } else { door.ask(t, x) };
-    let expected_number = number(&answer);
-    if let Ok((_, eight)) = answer {
-        expected[GUARD..GUARD + 8].copy_from_slice(&eight.map(f64::to_bits));
-    }
-    let got_number = door.ask_library(t, x, &mut got[GUARD..GUARD + len]);
-
-    let name = if door == Door::Pressure { "makhroeng_from_pressure" } else { "makhroeng_from_density" };
-    let column = ANSWERS.iter().position(|&answer| answer == expected_number).expect("an answer of RULES 3.1 or a phase");
+    let column = ANSWERS.iter().position(|&answer| answer == calls[0].right_number).expect("an answer of RULES 3.1 or a phase");
     tally.counts[kind][column] += 1;
-    if got_number != expected_number {
-        tally.change(format!("{name}: {got_number} answered where {expected_number} is right"));
-    } else if got != expected {
-        tally.change(format!("{name}: {got_number} answered, which is right, with other figures"));
+    let fallen = answer.ok().map(|(_, state)| state.fallen);
+    if let Some(fallen) = fallen {
+        *tally.fallen.entry(fallen).or_default() += 1;
     }
-    let digest = digest([t.to_bits(), x.to_bits(), u64::from(expected_number)].into_iter().chain(expected));
-    tally.note(index, digest, got_number == expected_number && got == expected, || {
-        let mut told =
-            format!("{name}({:#018x}, {:#018x}, figures, {len}), which are {t:?} and {x:?} ({}):\n", t.to_bits(), x.to_bits(), KINDS[kind]);
-        told += &format!("    {expected_number} expected, {got_number} answered\n");
-        for i in (0..got.len()).filter(|&i| got[i] != expected[i]) {
-            told += &format!("    figures[{}]: {:016x} expected, {:016x} left\n", i as i64 - GUARD as i64, expected[i], got[i]);
-        }
-        told
-    });
+    let wrong = || calls.iter().filter(|call| !call.is_right());
+    wrong().for_each(|call| tally.change(call.change()));
+    // of what the first function should say, and the count, whether or not it is asked for
+    let words = [t.to_bits(), x.to_bits(), u64::from(calls[0].right_number), fallen.map_or(u64::MAX, u64::from)];
+    let digest = digest(words.into_iter().chain(calls[0].right_figures));
+    tally.note(index, digest, wrong().next().is_none(), || wrong().map(|call| call.told(t, x, KINDS[kind])).collect());
 }
 
 /// Compares half as many of each door.
@@ -289,6 +379,8 @@ pub fn compare(seed: u64, states: u64, threads: usize) -> Vec<(Tally, Duration)>
             &KINDS,
             &columns,
         );
+        let fallen: Vec<String> = tally.fallen.iter().map(|(rows, states)| format!("{rows} in {states}")).collect();
+        println!("  rows that fell away: {}", fallen.join(", "));
         told.push((tally, took));
     }
     told

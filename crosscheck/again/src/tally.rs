@@ -19,11 +19,21 @@ pub struct Tally {
     pub first: Vec<(u64, String)>,
     /// how often each kind of difference came up
     pub changes: BTreeMap<String, u64>,
+    /// how many states had each count of rows that fell away
+    pub fallen: BTreeMap<u32, u64>,
+}
+
+/// Adds up by key.
+fn add_up<K: Ord>(mine: &mut BTreeMap<K, u64>, theirs: BTreeMap<K, u64>) {
+    for (key, times) in theirs {
+        *mine.entry(key).or_default() += times;
+    }
 }
 
 impl Tally {
     fn new(kinds: usize, columns: usize) -> Tally {
-        Tally { counts: vec![vec![0; columns]; kinds], compared: 0, differ: 0, digest: 0, first: Vec::new(), changes: BTreeMap::new() }
+        let counts = vec![vec![0; columns]; kinds];
+        Tally { counts, compared: 0, differ: 0, digest: 0, first: Vec::new(), changes: BTreeMap::new(), fallen: BTreeMap::new() }
     }
 
     pub fn note(&mut self, index: u64, digest: u64, same: bool, tell: impl Fn() -> String) {
@@ -51,9 +61,8 @@ impl Tally {
         self.first.extend(other.first);
         self.first.sort();
         self.first.truncate(SHOWN);
-        for (kind, times) in other.changes {
-            *self.changes.entry(kind).or_default() += times;
-        }
+        add_up(&mut self.changes, other.changes);
+        add_up(&mut self.fallen, other.fallen);
     }
 
     pub fn print(&self, title: &str, kinds: &[&str], columns: &[String]) {

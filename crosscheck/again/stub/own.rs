@@ -22,9 +22,57 @@ fn fault(name: &str) -> bool {
     option_env!("FAULT") == Some(name)
 }
 
-fn answer(t: f64, x: f64, door: fn(f64, f64) -> doors::Answer, figures: &mut [f64]) -> u32 {
+/// The arguments of the exponentials of rows 8 to 42, one for each row (docs/ARRANGEMENT.md, sections 2, 5 and 6).
+fn arguments(t: f64, rho: f64) -> Vec<f64> {
+    let (delta, tau) = (rho / equation::CRITICAL_DENSITY, equation::CRITICAL_TEMPERATURE / t);
+    let bell = |a: f64, b: f64, gamma: f64| {
+        let (x, y) = (delta - 1.0, tau - gamma);
+        -(a * (x * x) + b * (y * y))
+    };
+    let falling = tables::ROWS[7..].iter().map(|row| -numbers::whole_power(delta, row.c as u32));
+    let gaussians = tables::GAUSSIANS.iter().map(|row| bell(row.alpha, row.beta, row.gamma));
+    let sharps = tables::SHARPS.iter().map(|row| &tables::SHAPES[row.shape]).map(|shape| bell(shape.kc, shape.kd, 1.0));
+    falling.chain(gaussians).chain(sharps).collect()
+}
+
+/// How many rows fell away, or what a fault takes for it.
+fn count(t: f64, state: &equation::State, by_pressure: bool) -> u32 {
+    let rho = state.eight[2];
+    let fallen = |rho: f64| arguments(t, rho).into_iter().filter(|&x| x < -36.0).collect::<Vec<_>>();
+    let fell = |row: usize| u32::from(arguments(t, rho)[row - 8] < -36.0);
+    let ideal = || tables::IDEAL.iter().filter(|(_, theta)| -(theta * (equation::CRITICAL_TEMPERATURE / t)) < -36.0).count() as u32;
+    if fault("ideal-part-counted") {
+        state.fallen + ideal()
+    } else if fault("rows-of-one-exponential-counted-once") {
+        let mut each = fallen(rho);
+        each.dedup();
+        each.len() as u32
+    } else if fault("rows-36-and-37-counted-once") {
+        state.fallen - fell(37)
+    } else if fault("rows-40-and-41-counted-once") {
+        state.fallen - fell(41)
+    } else if fault("rows-40-to-42-not-counted") {
+        state.fallen - (40..=42).map(fell).sum::<u32>()
+    } else if fault("an-argument-of-minus-36-counted") {
+        arguments(t, rho).into_iter().filter(|&x| x <= -36.0).count() as u32
+    } else if fault("count-at-one-percent-more-density") {
+        fallen(1.01 * rho).len() as u32
+    } else if fault("count-at-the-next-density") && by_pressure {
+        fallen(f64::from_bits(rho.to_bits() + 1)).len() as u32
+    } else if fault("pressure-worked-before-counted-too") && !by_pressure {
+        2 * state.fallen
+    } else {
+        state.fallen
+    }
+}
+
+/// `counts`: with the count behind the eight numbers, where nine are lent.
+fn answer(t: f64, x: f64, door: fn(f64, f64) -> doors::Answer, figures: &mut [f64], counts: bool) -> u32 {
     if fault("refuses-everything") {
         return 7;
+    }
+    if figures.len() == 8 && counts && fault("15-where-eight-are-lent") {
+        return 15;
     }
     if figures.len() < 8 {
         if fault("writes-where-too-few-are-lent") && !figures.is_empty() {
@@ -36,21 +84,36 @@ fn answer(t: f64, x: f64, door: fn(f64, f64) -> doors::Answer, figures: &mut [f6
     let above_the_line = by_pressure && melting::melting_pressure(t).is_some_and(|line| x > line);
     match door(t, x) {
         Ok(_) if fault("solid-at-the-melting-pressure") && by_pressure && melting::melting_pressure(t) == Some(x) => 19,
-        Ok((phase, mut eight)) => {
+        Ok((phase, state)) => {
+            let mut eight = state.eight;
             if fault("sound-speed-one-float-up-in-one-of-4096") && eight[7].to_bits() % 4096 == 7 {
                 eight[7] = f64::from_bits(eight[7].to_bits() + 1);
             }
             if fault("upper-neighbour") && by_pressure {
                 eight[2] = f64::from_bits(eight[2].to_bits() + 1);
             }
-            if fault("ninth-number") && figures.len() > 8 {
+            if fault("ninth-number") && figures.len() > 8 && !counts {
                 figures[8] = 0.0;
+            }
+            if fault("tenth-number") && figures.len() > 9 && counts {
+                figures[9] = 0.0;
+            }
+            if fault("sound-speed-one-float-up-beside-the-count") && counts {
+                eight[7] = f64::from_bits(eight[7].to_bits() + 1);
             }
             if fault("number-before-the-first") {
                 // SAFETY: the comparison keeps numbers there
                 unsafe { *figures.as_mut_ptr().sub(1) = 0.0 };
             }
             figures[..8].copy_from_slice(&eight);
+            if counts && figures.len() > 8 && !fault("no-count") {
+                let count = count(t, &state, by_pressure);
+                figures[8] = if fault("count-as-the-bits-of-a-whole-number") { f64::from_bits(u64::from(count)) } else { f64::from(count) };
+            }
+            if counts && figures.len() == 8 && fault("count-behind-the-eight-lent") {
+                // SAFETY: the comparison keeps numbers there
+                unsafe { *figures.as_mut_ptr().add(8) = f64::from(state.fallen) };
+            }
             match phase {
                 doors::Phase::Vapour => 256,
                 doors::Phase::Liquid => 257,
@@ -60,6 +123,9 @@ fn answer(t: f64, x: f64, door: fn(f64, f64) -> doors::Answer, figures: &mut [f6
         Err(number) => {
             if fault("writes-where-refused") {
                 figures[0] = t;
+            }
+            if counts && figures.len() > 8 && fault("count-where-refused") {
+                figures[8] = 0.0;
             }
             match number {
                 5 if fault("19-before-5") && above_the_line => 19,
@@ -75,14 +141,28 @@ fn answer(t: f64, x: f64, door: fn(f64, f64) -> doors::Answer, figures: &mut [f6
 /// `figures` are `len` numbers.
 #[no_mangle]
 pub unsafe extern "C" fn makhroeng_from_pressure(t: f64, p: f64, figures: *mut f64, len: usize) -> u32 {
-    answer(t, p, doors::from_pressure, std::slice::from_raw_parts_mut(figures, len))
+    answer(t, p, doors::from_pressure, std::slice::from_raw_parts_mut(figures, len), false)
 }
 
 /// # Safety
 /// `figures` are `len` numbers.
 #[no_mangle]
 pub unsafe extern "C" fn makhroeng_from_density(t: f64, rho: f64, figures: *mut f64, len: usize) -> u32 {
-    answer(t, rho, doors::from_density, std::slice::from_raw_parts_mut(figures, len))
+    answer(t, rho, doors::from_density, std::slice::from_raw_parts_mut(figures, len), false)
+}
+
+/// # Safety
+/// `figures` are `len` numbers.
+#[no_mangle]
+pub unsafe extern "C" fn makhroeng_state_from_pressure(t: f64, p: f64, figures: *mut f64, len: usize) -> u32 {
+    answer(t, p, doors::from_pressure, std::slice::from_raw_parts_mut(figures, len), true)
+}
+
+/// # Safety
+/// `figures` are `len` numbers.
+#[no_mangle]
+pub unsafe extern "C" fn makhroeng_state_from_density(t: f64, rho: f64, figures: *mut f64, len: usize) -> u32 {
+    answer(t, rho, doors::from_density, std::slice::from_raw_parts_mut(figures, len), true)
 }
 
 /// # Safety

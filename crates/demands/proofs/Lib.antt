@@ -5,6 +5,7 @@ pub mod DensityDoors
 pub mod Demands
 pub mod Fluids
 pub mod Before
+pub mod Counts
 pub mod Lines
 pub mod Sheets
 pub mod Lengths

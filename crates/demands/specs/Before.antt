@@ -27,6 +27,7 @@ neverSolid E = record {
   meltingPressure = λ t. Number (inf false);
   pressure = E .pressure;
   state = E .state;
+  fallen = E .fallen;
 }
 
 -- an answer, and the one that stood before it, where the melting pressure is w: the same, or solid, or there is no melting pressure

@@ -1,5 +1,6 @@
 pub mod Demands
 pub mod Before
+pub mod Counts
 pub mod Lines
 pub mod Sheets
 pub mod Readings

@@ -1,5 +1,6 @@
 // The saturation figures and the melting pressure at temperatures, I₁ and I₂ of the ideal part at values of τ, and
-// pressures and states; their bits were worked elsewhere (crosscheck/equation.py). One figure a line.
+// pressures and states with the count of the terms that fell away; their bits and counts were worked elsewhere
+// (crosscheck/equation.py). One figure a line.
 use eos_brackets::Five;
 use eos_densities::liquid_density;
 use eos_densities::vapour_density;
@@ -8,15 +9,16 @@ use eos_isotherm::at_temperature;
 use eos_melting::melting_pressure;
 use eos_non_analytic::figures::add_figures;
 use eos_non_analytic::parts::at_critical;
-use eos_residual::term::at_density;
 use eos_rows::non_analytic_row;
 use eos_saturation::vapour_pressure;
 use eos_state::Phase;
 use eos_state::State;
 use eos_state::Stated;
+use eos_terms::term::at_density;
 use equation::curve_at;
 use equation::pressure_on;
 use equation::state_on;
+use libc::STDOUT_FILENO;
 use num_working::Worked;
 use num_working::checked;
 use run_print::bits::figure;
@@ -36,13 +38,13 @@ fn pressure(t: f64, rho: f64) {
     tell(pressure_on(curve_at(t), rho));
 }
 
-// The eight numbers, which don't hang on the phase, or that there is no state.
+// The eight numbers and the count, which don't hang on the phase, or that there is no state.
 fn state(t: f64, rho: f64) {
     pressure(t, rho);
     at(b"state at ", t, rho);
     say(b" is");
     match state_on(curve_at(t), Phase::Supercritical, rho) {
-        Stated::Known(s) => eight(s),
+        Stated::Known(s) => carried(s),
         Stated::Unknown => say(b" refused"),
     }
     say(b"\n");
@@ -53,7 +55,7 @@ fn also(x: f64) {
     show(x);
 }
 
-fn eight(s: State) {
+fn carried(s: State) {
     also(s.t);
     also(s.p);
     also(s.rho);
@@ -62,6 +64,8 @@ fn eight(s: State) {
     also(s.cv);
     also(s.cp);
     also(s.w);
+    say(b" fallen ");
+    io::print_decimal(STDOUT_FILENO, s.fallen as u64);
 }
 
 fn saturated(t: f64) {
@@ -329,12 +333,53 @@ fn no_states() {
     state(300.0, 0.0 / 0.0);
 }
 
+// Neighbouring floats on both sides of an argument of −36: from the first to the second of each pair the count grows by
+// the rows named (docs/ARRANGEMENT.md, section 12).
+fn fallen_states() {
+    // rows 17 to 23
+    state(300.0, 2805.6);
+    state(300.0, 2805.6000000000004);
+    // rows 24 to 26
+    state(300.0, 1543.9811815831276);
+    state(300.0, 1543.9811815831279);
+    // rows 27 to 32
+    state(230.0, 1145.381403725414);
+    state(230.0, 1145.3814037254142);
+    // row 33
+    state(280.0, 957.4916661806428);
+    state(280.0, 957.4916661806429);
+    // row 34
+    state(300.0, 849.6855892083086);
+    state(300.0, 849.6855892083087);
+    // row 35
+    state(265.0, 1028.3337772507039);
+    state(265.0, 1028.333777250704);
+    // rows 36 and 37
+    state(304.86379908770004, 1.0);
+    state(304.8637990877001, 1.0);
+    // row 38
+    state(320.0, 61.459336211435975);
+    state(320.0, 61.45933621143597);
+    // row 39
+    state(250.0, 1094.9220927601548);
+    state(250.0, 1094.922092760155);
+    // rows 40 and 41
+    state(243.0, 1105.2842056135098);
+    state(243.0, 1105.28420561351);
+    // row 42
+    state(235.153310960611, 3.0);
+    state(235.15331096061098, 3.0);
+    // row 33's argument is above 36, and is not counted
+    state(1000.0, -981.96);
+}
+
 fn main() {
     saturations();
     meltings();
     ideal_gases();
     states();
     no_states();
+    fallen_states();
     non_analytic(290.1, 567.9);
     non_analytic(295.4, 588.8);
     non_analytic(312.2, 580.6);

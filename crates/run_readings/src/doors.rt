@@ -1,6 +1,7 @@
 // The doors: the three rows of RULES 8.3, the temperatures and pressures of RULES 8.1, the ends of each range and the
 // floats beside them, both sides of the saturation line, the edges of the critical box, both sides of the melting line
-// (RULES 8.4), and what is no number. Bits worked elsewhere (crosscheck/doors.py).
+// (RULES 8.4), the states of docs/ARRANGEMENT.md, section 12, and what is no number. Bits and counts worked elsewhere
+// (crosscheck/doors.py).
 use door_answers::Answer;
 use door_density::from_density;
 use door_limits::document_01;
@@ -33,6 +34,8 @@ fn tell_state(x: State) {
     tell_number(b" cv ", x.cv);
     tell_number(b" cp ", x.cp);
     tell_number(b" w ", x.w);
+    say(b" fallen ");
+    io::print_decimal(STDOUT_FILENO, x.fallen as u64);
 }
 
 fn tell_answer(a: Answer) {
@@ -229,6 +232,14 @@ fn pressures() {
         517964.0,
         216.592003,
         517965.0,
+        217.6,
+        5000000.0,
+        230.0,
+        20000000.0,
+        304.1282,
+        30000000.0,
+        350.0,
+        20000000.0,
     ];
     each(false, &list);
 }
@@ -376,4 +387,6 @@ pub fn run() {
     by_both(300.0, 5000000.0);
     by_both(400.0, 5000000.0);
     by_both(217.0, 2429700.0645423313);
+    by_both(217.6, 5000000.0);
+    by_both(230.0, 20000000.0);
 }

@@ -6,6 +6,7 @@ mod doors;
 use eos_constants::Printed;
 use eos_constants::worked_as;
 use libc::STDOUT_FILENO;
+use num_exponential::exponential::Raised;
 use num_exponential::exponential::exponential;
 use num_powers::whole_power;
 use num_roots::root::Exponent;
@@ -13,6 +14,7 @@ use num_roots::root::root;
 use num_working::Worked;
 use run_print::bits::figure;
 use run_print::bits::say;
+use run_print::bits::show;
 
 fn numbered(text: &[u8], n: usize) {
     say(text);
@@ -34,8 +36,19 @@ fn power_of(x: f64, n: usize) {
     figure(b" of ", x, Worked::Number(whole_power(x, n)));
 }
 
+// The answer, and whether it says that x was below −36.
 fn e_to(x: f64) {
-    figure(b"e to ", x, exponential(x));
+    say(b"e to ");
+    show(x);
+    say(b" is ");
+    match exponential(x) {
+        Raised::Answered(s) => {
+            show(s.value);
+            numbered(b" fallen ", s.fallen as usize);
+        }
+        Raised::Refused => say(b"refused"),
+    }
+    say(b"\n");
 }
 
 fn exponentials() {
@@ -58,6 +71,12 @@ fn exponentials() {
     e_to(-123.456);
     e_to(650.1);
     e_to(-1e-300);
+    e_to(-36.0);
+    e_to(-36.00000000000001);
+    e_to(-35.99999999999999);
+    e_to(36.00000000000001);
+    e_to(36.5);
+    e_to(-37.0);
 }
 
 // At exponents as 004 prints them.

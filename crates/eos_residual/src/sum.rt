@@ -2,7 +2,7 @@
 // pressure needs. Each row's term is worked once for all that are asked for, in plain f64, and each sum is tested once,
 // at its end. What hangs on the temperature comes with the isotherm.
 ghost use mathlib.Core.Path.{_≡_};
-ghost use mathlib.Core.Bool.{true, _&&_};
+ghost use mathlib.Core.Bool.{true, cond, _&&_};
 ghost use lib.Ieee.Scale.{finite};
 ghost use Rattle.num_working.specs.Working.{checked};
 ghost use Rattle.num_formulas.specs.Formula.{num, value};
@@ -10,6 +10,7 @@ ghost use Rattle.eos_brackets.specs.Derivative.{Delta, of, five};
 ghost use Rattle.eos_non_analytic.specs.Parts.{critical};
 ghost use Rattle.eos_non_analytic.specs.Figures.{nonAnalyticFigures};
 ghost use Rattle.eos_terms.specs.Term.{point, polynomialBracket, exponentialBracket, gaussianBracket};
+ghost use Rattle.eos_terms.specs.Fallen.{fallenTerms};
 ghost use Rattle.eos_residual.specs.Sum.{onto, total, Meet, polynomialFigures, exponentialFigures, gaussianFigures, residual, allFive, residualPart};
 use eos_brackets::Five;
 use eos_brackets::grow;
@@ -28,7 +29,6 @@ use eos_rows::non_analytic_row;
 use eos_rows::polynomial_row;
 use eos_terms::term::Point;
 use eos_terms::term::at_density;
-use eos_terms::term::told_at_density;
 use num_working::Worked;
 use num_working::checked;
 use num_working::is_finite;
@@ -36,6 +36,12 @@ use num_working::is_finite;
 pub enum Sums {
     Summed(Five),
     Broken,
+}
+
+// The sums that are asked for, in plain f64; and where all five are, how many terms fell away.
+struct Added {
+    five: Five,
+    fallen: u32,
 }
 
 // The five sums, and how many terms fell away.
@@ -198,22 +204,25 @@ fn non_analytic_sums(all: bool, start: Five, iso: Isotherm, p: Point, c: Critica
 }
 
 // All 42, in plain f64. Rows 40 to 42 wait longest for their roots, so these are begun before the sums.
-fn sums_at(all: bool, iso: Isotherm, p: Point) -> Five
-    requires { ⌜ p ≡ point iso (p .delta) ⌝ }
-    ensures { λ v. ⌜ Meet all v (λ k. residual iso (p .delta) k) ⌝ }
+fn sums_at(all: bool, iso: Isotherm, delta: f64) -> Added
+    ensures { λ v. ⌜ Meet all (v .five) (λ k. residual iso delta k) × (v .fallen ≡ cond all (fallenTerms iso delta) 0) ⌝ }
 {
-    let c = at_critical(iso, p.delta);
-    let s7 = polynomial_sums(all, iso, p);
-    let s34 = exponential_sums(all, s7, iso, p);
-    let s39 = gaussian_sums(all, s34, iso, p);
-    non_analytic_sums(all, s39, iso, p, c)
+    let t = at_density(all, iso, delta);
+    let c = at_critical(iso, delta);
+    let s7 = polynomial_sums(all, iso, t.point);
+    let s34 = exponential_sums(all, s7, iso, t.point);
+    let s39 = gaussian_sums(all, s34, iso, t.point);
+    Added {
+        five: non_analytic_sums(all, s39, iso, t.point, c),
+        fallen: t.fallen,
+    }
 }
 
 // δφ_δ, which a pressure needs. What the exponentials say is dropped.
 pub fn slope_at(iso: Isotherm, delta: f64) -> Worked
     ensures { λ v. ⌜ v ≡ residual iso delta Delta ⌝ }
 {
-    checked(sums_at(false, iso, at_density(iso, delta)).d)
+    checked(sums_at(false, iso, delta).five.d)
 }
 
 fn also_finite(x: f64, others: bool) -> bool
@@ -247,9 +256,9 @@ fn all_five(s: Five) -> Sums
 pub fn residual_part(iso: Isotherm, delta: f64) -> Residual
     ensures { λ v. ⌜ v ≡ residualPart iso delta ⌝ }
 {
-    let t = told_at_density(iso, delta);
+    let s = sums_at(true, iso, delta);
     Residual {
-        sums: all_five(sums_at(true, iso, t.point)),
-        fallen: t.fallen,
+        sums: all_five(s.five),
+        fallen: s.fallen,
     }
 }

@@ -1,4 +1,5 @@
--- The rows that each exponential serves, added up, are the rows that say so. Assumes nothing.
+-- The rows that each exponential serves, added up, are the rows that say so, and on the isotherm of a temperature they are those of the definition. Assumes
+-- nothing.
 use Prim.Native.Nat.{ℕ, zero, suc, _+_, _*_, _≤_, _<_}
 use mathlib.Core.Path.{_≡_, refl, sym, ap, _∙_}
 use mathlib.Core.Bool.{Bool, true, false, cond}
@@ -6,16 +7,11 @@ use native.Mathlib.Omega.{arith}
 use lib.ListN.{getD}
 use lib.Ieee as Ieee
 use lib.Ieee.{Float, nan, inf, fin}
-use Rattle.num_working.specs.Working.{checked, orElse, plain}
+use Rattle.num_working.specs.Working.{checked, orElse}
 use Rattle.num_working.specs.declared.Worked.{Worked}
-use Rattle.num_powers.specs.Power.{power, powers}
-use Rattle.num_exponential.specs.Exponential.{exponential, steps, answer, fell}
-use Rattle.num_exponential.specs.Decay.{decay, decayed, each, eachSaid, plainly}
+use Rattle.num_powers.specs.Power.{power}
+use Rattle.num_exponential.specs.Exponential.{exponential, steps, fell}
 use Rattle.num_exponential.specs.declared.decay.Twelve.{Twelve}
-use Rattle.num_exponential.specs.declared.decay.TwelveSaid.{TwelveSaid}
-use Rattle.num_exponential.specs.declared.exponential.Said.{Said}
-use Rattle.num_exponential.specs.declared.exponential.Raised.{Raised}
-use Rattle.num_exponential.specs.declared.exponential.Raised.the-variants.{Answered, Refused}
 use Rattle.num_formulas.specs.Formula.{Formula, num, one, _⊖_, _⊗_, minus, value, work}
 use Rattle.num_formulas.proofs.Formulas.{once}
 use Rattle.eos_constants.specs.Reduced as Reduced
@@ -25,33 +21,32 @@ use Rattle.eos_rows.specs.Row.{exponentials, gaussians, row39, nonAnalytics, ro
 use Rattle.eos_rows.specs.declared.Gaussian.{Gaussian}
 use Rattle.eos_rows.specs.declared.NonAnalytic.{NonAnalytic}
 use Rattle.eos_non_analytic.specs.Parts.{psiArgument}
-use Rattle.eos_terms.specs.Term as Term
-use Rattle.eos_terms.specs.Term.{decayArgument, bellArgument, exponents, values, point, pointBy, decays, bells, bell, psis}
+use Rattle.eos_terms.specs.Term.{decayArgument, bellArgument, exponents}
 use Rattle.eos_terms.specs.Fallen.{falls, rowArguments, count, fallenAt, fallenTerms, rowsOf, fallenRows}
+
+-- what the exponential of −x says
+abbrev says : Float → Bool
+says x = fell (exponential (Ieee.neg x))
 
 -- ---- at most the rows that it serves
 some : (b : Bool) (n : ℕ) → cond b n 0 ≤ n
 some true n = omega arith
 some false n = omega arith
 
-pub at-most : (s : Said) (n k : ℕ) → k ≡ rowsOf s n → k ≤ n
+pub at-most : (x : Float) (n k : ℕ) → k ≡ rowsOf x n → k ≤ n
 unfolding rowsOf
-at-most s n k e = rw e (some (s .fallen) n)
+at-most x n k e = rw e (some (says x) n)
 
 -- ---- what an exponential says of an argument with a minus sign is what the twelve say of it without
-passed : (r : Raised) → fell r ≡ plainly r .fallen
-passed Refused = refl
-passed (Answered s) = refl
-
-refusing : (x : Float) → orElse (checked (Ieee.neg x)) false (λ y. fell (exponential y)) ≡ decayed x .fallen
-unfolding decayed exponential steps Ieee.neg
+refusing : (x : Float) → orElse (checked x) false (λ y. fell (exponential y)) ≡ fell (exponential x)
+unfolding exponential steps
 refusing nan = refl
 refusing (inf s) = refl
-refusing (fin s m e) = passed (exponential (Ieee.neg (fin s m e)))
+refusing (fin s m e) = refl
 
-pub falls-is : (a : Formula) → falls (minus a) ≡ decayed (value a) .fallen
+pub falls-is : (a : Formula) → falls (minus a) ≡ says (value a)
 unfolding falls value
-falls-is a = ap (λ (w : Worked). orElse w false (λ y. fell (exponential y))) (sym (once (minus a))) ∙ refusing (value a)
+falls-is a = ap (λ (w : Worked). orElse w false (λ y. fell (exponential y))) (sym (once (minus a))) ∙ refusing (Ieee.neg (value a))
 
 -- ---- the rows of each kind, by the exponential that serves them
 abbrev unit : Bool → ℕ
@@ -61,20 +56,20 @@ times : (b : Bool) (n : ℕ) → cond b n 0 ≡ n * unit b
 times true n = omega arith
 times false n = omega arith
 
-by-rows : (t : TwelveSaid) {a b c d e f g h i j k l : Bool}
-    → a ≡ t .a .fallen
-    → b ≡ t .b .fallen
-    → c ≡ t .c .fallen
-    → d ≡ t .d .fallen
-    → e ≡ t .e .fallen
-    → f ≡ t .f .fallen
-    → g ≡ t .g .fallen
-    → h ≡ t .h .fallen
-    → i ≡ t .i .fallen
-    → j ≡ t .j .fallen
-    → k ≡ t .k .fallen
-    → l ≡ t .l .fallen
-    → fallenRows t
+by-rows : (x : Twelve) {a b c d e f g h i j k l : Bool}
+    → a ≡ says (x .a)
+    → b ≡ says (x .b)
+    → c ≡ says (x .c)
+    → d ≡ says (x .d)
+    → e ≡ says (x .e)
+    → f ≡ says (x .f)
+    → g ≡ says (x .g)
+    → h ≡ says (x .h)
+    → i ≡ says (x .i)
+    → j ≡ says (x .j)
+    → k ≡ says (x .k)
+    → l ≡ says (x .l)
+    → fallenRows x
     ≡ (unit a + (unit a + (unit a + (unit a + (unit a + (unit a + (unit a + (unit a + (unit a +
     (unit b + (unit b + (unit b + (unit b + (unit b + (unit b + (unit b +
     (unit c + (unit c + (unit c +
@@ -82,42 +77,14 @@ by-rows : (t : TwelveSaid) {a b c d e f g h i j k l : Bool}
     (unit g + (unit h + (unit h + (unit i + (unit j +
     (unit k + (unit k + (unit l + 0)))))))))))))))))))))))))))))))))))
 unfolding fallenRows rowsOf
-by-rows t p1 p2 p3 p4 p5 p6 p7 p8 p9 p10 p11 p12 = rw (p1, p2, p3, p4, p5, p6, p7, p8, p9, p10, p11, p12) (omega (arith, times (t .a .fallen) 9, times (t .b .fallen) 7, times (t .c .fallen) 3, times (t .d .fallen) 6, times (t .h .fallen) 2, times (t .k .fallen) 2))
+by-rows x p1 p2 p3 p4 p5 p6 p7 p8 p9 p10 p11 p12 = rw (p1, p2, p3, p4, p5, p6, p7, p8, p9, p10, p11, p12) (omega (arith, times (says (x .a)) 9, times (says (x .b)) 7, times (says (x .c)) 3, times (says (x .d)) 6, times (says (x .h)) 2, times (says (x .k)) 2))
 
-pub counted : (iso : Isotherm) (delta : Float) → fallenRows (eachSaid decayed (exponents iso delta)) ≡ fallenTerms iso delta
-unfolding eachSaid exponents fallenTerms rowArguments count exponentials gaussians nonAnalytics value
+pub counted : (iso : Isotherm) (delta : Float) → fallenRows (exponents iso delta) ≡ fallenTerms iso delta
+unfolding exponents fallenTerms rowArguments count exponentials gaussians nonAnalytics value
 counted iso delta =
-    by-rows (eachSaid decayed (exponents iso delta))
+    by-rows (exponents iso delta)
     (falls-is _) (falls-is _) (falls-is _) (falls-is _) (falls-is _) (falls-is _)
     (falls-is _) (falls-is _) (falls-is _) (falls-is _) (falls-is _) (falls-is _)
-
--- ---- the answers of the twelve
-value-is : (r : Raised) → plainly r .value ≡ plain (answer r)
-value-is Refused = refl
-value-is (Answered s) = refl
-
-pub values-are : (x : Twelve) → values (eachSaid decayed x) ≡ each decay x
-unfolding values eachSaid decayed each decay
-values-are x =
-    let at : (v : Float) → decayed v .value ≡ decay v = λ v. value-is (exponential (Ieee.neg v)) in
-    λ i. record {
-      a = at (x .a) i;
-      b = at (x .b) i;
-      c = at (x .c) i;
-      d = at (x .d) i;
-      e = at (x .e) i;
-      f = at (x .f) i;
-      g = at (x .g) i;
-      h = at (x .h) i;
-      i = at (x .i) i;
-      j = at (x .j) i;
-      k = at (x .k) i;
-      l = at (x .l) i;
-    }
-
-pub point-is : (iso : Isotherm) (delta : Float) → pointBy delta (powers 10 delta) (each decay (exponents iso delta)) ≡ point iso delta
-unfolding pointBy each decay exponents point Term.decay decays bells bell psis gaussians nonAnalytics powers power value
-point-is iso delta = refl
 
 -- ---- on the isotherm of a temperature
 module _ (δ δ′ : Formula) (e : work δ ≡ work δ′) where

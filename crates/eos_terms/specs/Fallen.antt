@@ -3,11 +3,11 @@ use Prim.Native.Nat.{ℕ, _+_}
 use mathlib.Core.Bool.{Bool, false, cond}
 use mathlib.Core.List.{List, [], _∷_, _++_, map}
 use lib.ListN.{getD}
+use lib.Ieee as Ieee
 use lib.Ieee.{Float, nan}
 use Rattle.num_working.specs.Working.{orElse}
 use Rattle.num_exponential.specs.Exponential.{exponential, fell}
-use Rattle.num_exponential.specs.declared.exponential.Said.{Said}
-use Rattle.num_exponential.specs.declared.decay.TwelveSaid.{TwelveSaid}
+use Rattle.num_exponential.specs.declared.decay.Twelve.{Twelve}
 use Rattle.num_formulas.specs.Formula.{Formula, num, one, _⊖_, _⊗_, value, work}
 use Rattle.eos_constants.specs.Reduced as Reduced
 use Rattle.eos_rows.specs.Row.{exponentials, gaussians, nonAnalytics}
@@ -46,16 +46,17 @@ fallenAt t rho = let tau = value (Reduced.tau t) in count (rowArguments (Reduced
 unfoldable pub fallenTerms : Isotherm → Float → ℕ
 fallenTerms iso delta = count (rowArguments (num delta) (λ (i : ℕ) (r : Gaussian). num (getD (iso .bell) (bellAt i) nan)) (λ (r : NonAnalytic). num (iso .psi)))
 
-unfoldable pub told : Isotherm → Float → Told
-told iso delta = record { point = point iso delta; fallen = fallenTerms iso delta }
+-- where that is to be told
+unfoldable pub atDensity : Bool → Isotherm → Float → Told
+atDensity told iso delta = record { point = point iso delta; fallen = cond told (fallenTerms iso delta) 0 }
 
--- ---- and the rows that an exponential serves, where it says so, and of all twelve
+-- ---- and the rows that an exponential serves, where it says so: by the argument with its minus sign taken off, and of all twelve
 
-unfoldable pub rowsOf : Said → ℕ → ℕ
-rowsOf s rows = cond (s .fallen) rows 0
+unfoldable pub rowsOf : Float → ℕ → ℕ
+rowsOf x rows = cond (fell (exponential (Ieee.neg x))) rows 0
 
-unfoldable pub fallenRows : TwelveSaid → ℕ
-fallenRows e =
-    rowsOf (e .a) 9 + rowsOf (e .b) 7 + rowsOf (e .c) 3 + rowsOf (e .d) 6 + rowsOf (e .e) 1 + rowsOf (e .f) 1
-    + rowsOf (e .g) 1 + rowsOf (e .h) 2 + rowsOf (e .i) 1 + rowsOf (e .j) 1
-    + rowsOf (e .k) 2 + rowsOf (e .l) 1
+unfoldable pub fallenRows : Twelve → ℕ
+fallenRows x =
+    rowsOf (x .a) 9 + rowsOf (x .b) 7 + rowsOf (x .c) 3 + rowsOf (x .d) 6 + rowsOf (x .e) 1 + rowsOf (x .f) 1
+    + rowsOf (x .g) 1 + rowsOf (x .h) 2 + rowsOf (x .i) 1 + rowsOf (x .j) 1
+    + rowsOf (x .k) 2 + rowsOf (x .l) 1

@@ -6,7 +6,6 @@ use lib.Ieee.{Float, nan}
 use Rattle.num_working.specs.Number.{whole}
 use Rattle.num_powers.specs.Power.{power, powers}
 use Rattle.num_exponential.specs.declared.decay.Twelve.{Twelve}
-use Rattle.num_exponential.specs.declared.decay.TwelveSaid.{TwelveSaid}
 use Rattle.num_formulas.specs.Formula.{Formula, num, one, two, _⊕_, _⊖_, _⊗_, _⊘_, _^^_, minus, e^, value}
 use Rattle.eos_brackets.specs.Derivative.{Derivative, columns}
 use Rattle.eos_rows.specs.Row.{gaussians, row39, nonAnalytics, row40, row42}
@@ -127,21 +126,4 @@ pointBy delta powers e = record {
   decays = e .a ∷ e .b ∷ e .c ∷ e .d ∷ e .e ∷ e .f ∷ [];
   bells = e .g ∷ e .h ∷ e .h ∷ e .i ∷ e .j ∷ [];
   psis = e .k ∷ e .l ∷ [];
-}
-
--- their answers alone
-unfoldable pub values : TwelveSaid → Twelve
-values e = record {
-  a = e .a .value;
-  b = e .b .value;
-  c = e .c .value;
-  d = e .d .value;
-  e = e .e .value;
-  f = e .f .value;
-  g = e .g .value;
-  h = e .h .value;
-  i = e .i .value;
-  j = e .j .value;
-  k = e .k .value;
-  l = e .l .value;
 }

@@ -3,9 +3,9 @@ ghost use mathlib.Core.Path.{_≡_};
 ghost use Rattle.num_powers.specs.Power as Power;
 ghost use Rattle.num_formulas.specs.Formula.{num, _⊕_, _⊖_, _⊗_, value};
 ghost use Rattle.eos_non_analytic.specs.Parts.{around};
-ghost use Rattle.eos_terms.specs.Term.{exponents, point, pointBy, values};
-ghost use Rattle.eos_terms.specs.Fallen.{told};
-use crate::fallen::fallen_rows;
+ghost use Rattle.eos_terms.specs.Term.{exponents, pointBy};
+ghost use Rattle.eos_terms.specs.Fallen.{atDensity};
+use crate::fallen::rows_told;
 use eos_isotherm::Isotherm;
 use eos_powers::powers_to_10;
 use eos_rows::Gaussian;
@@ -13,9 +13,7 @@ use eos_rows::NonAnalytic;
 use eos_rows::gaussian_row;
 use eos_rows::non_analytic_row;
 use num_exponential::decay::Twelve;
-use num_exponential::decay::TwelveSaid;
 use num_exponential::decay::twelve_decays;
-use num_exponential::decay::twelve_said;
 
 // The powers of δ, e^(−δᶜ) for c from 1 to 6, the exponentials of rows 35 to 39, and Ψ of rows 40 and 41 and of row 42.
 pub struct Point {
@@ -26,7 +24,7 @@ pub struct Point {
     pub psis: [f64; 2],
 }
 
-// The same, and how many terms fell away.
+// The same, and how many terms fell away, where that is told.
 pub struct Told {
     pub point: Point,
     pub fallen: u32,
@@ -80,41 +78,15 @@ fn point_by(delta: f64, powers: [f64; 11], e: Twelve) -> Point
     }
 }
 
-fn values(e: TwelveSaid) -> Twelve
-    ensures { λ r. ⌜ r ≡ values e ⌝ }
-{
-    Twelve {
-        a: e.a.value,
-        b: e.b.value,
-        c: e.c.value,
-        d: e.d.value,
-        e: e.e.value,
-        f: e.f.value,
-        g: e.g.value,
-        h: e.h.value,
-        i: e.i.value,
-        j: e.j.value,
-        k: e.k.value,
-        l: e.l.value,
-    }
-}
-
-// For a pressure, which drops what the exponentials say.
-pub fn at_density(iso: Isotherm, delta: f64) -> Point
-    ensures { λ r. ⌜ r ≡ point iso delta ⌝ }
+// For a state, which is told how many terms fell away, or for a pressure, which is not.
+pub fn at_density(told: bool, iso: Isotherm, delta: f64) -> Told
+    ensures { λ r. ⌜ r ≡ atDensity told iso delta ⌝ }
 {
     let powers = powers_to_10(delta);
-    point_by(delta, powers, twelve_decays(exponents(iso, delta, powers)))
-}
-
-// For a state, which carries how many terms fell away.
-pub fn told_at_density(iso: Isotherm, delta: f64) -> Told
-    ensures { λ r. ⌜ r ≡ told iso delta ⌝ }
-{
-    let powers = powers_to_10(delta);
-    let e = twelve_said(exponents(iso, delta, powers));
+    let x = exponents(iso, delta, powers);
+    let fallen = rows_told(told, x);
     Told {
-        point: point_by(delta, powers, values(e)),
-        fallen: fallen_rows(e),
+        point: point_by(delta, powers, twelve_decays(x)),
+        fallen,
     }
 }

@@ -15,11 +15,10 @@ use lib.Ieee.Fits.{and-l, and-r, up-pos}
 use lib.Ieee.Order.{round-mono}
 use lib.Ieee.Positive.{num, den, positive, den-pos, le→cross, between}
 use Rattle.num_working.specs.Number.{decimal, fraction, whole}
-use Rattle.num_working.specs.Working.{checked, plain}
+use Rattle.num_working.specs.Working.{checked}
 use Rattle.num_exponential.specs.Exponential.{steps, falling, series, squared}
-use Rattle.num_exponential.specs.Decay.{decay, every, inSeries}
+use Rattle.num_exponential.specs.Decay.{every, inSeries}
 use Rattle.num_exponential.proofs.Exponentials.{falling-is}
-use Rattle.num_exponential.proofs.Sayings.{answer-is}
 use Rattle.num_laws.proofs.Halves.{quotient, no-less}
 
 stretched : (a c u v : ℕ) → c ≤ a * u → 1024 * u ≤ v → 1 * (1024 * c) ≤ a * v
@@ -80,14 +79,11 @@ neg-neg (inf false) = refl
 neg-neg (fin true m e) = refl
 neg-neg (fin false m e) = refl
 
-pub decay-is : (x : Float) → T (inSeries x) → decay x ≡ plain (squared 10 (series (checked (div binary64 x (whole 1024))) 14 (checked (whole 1))))
-unfolding decay
-decay-is x h =
-    ap plain
-    (answer-is (neg x)
-    ∙ falls x (above-zero x h) (at-most x h)
+pub steps-are : (x : Float) → T (inSeries x) → steps (neg x) ≡ squared 10 (series (checked (div binary64 x (whole 1024))) 14 (checked (whole 1)))
+steps-are x h =
+    falls x (above-zero x h) (at-most x h)
     ∙ falling-is (neg x)
-    ∙ ap (λ (z : Float). squared 10 (series (checked (div binary64 z (whole 1024))) 14 (checked (whole 1)))) (neg-neg x))
+    ∙ ap (λ (z : Float). squared 10 (series (checked (div binary64 z (whole 1024))) 14 (checked (whole 1)))) (neg-neg x)
 
 pub each-of : (p : Float → Bool) (l : List Float) (k : ℕ) → T (every p l) → k < length l → T (p (getD l k nan))
 unfolding every

@@ -7,19 +7,21 @@ use native.Mathlib.Omega.{arith}
 use mathlib.Core.List.{List, [], _∷_, map}
 use lib.Dec.{T, lit≤}
 use lib.Pow.{pow-pos}
-use lib.Ieee.{Float, nan, inf, fin, binary64, low, round, ofInt, mul, sub, div, le}
+use lib.Ieee.{Float, nan, inf, fin, binary64, low, round, ofInt, neg, mul, sub, div, le}
 use lib.Ieee.Exact.{HasValue}
 use lib.Ieee.Fits.{and-i, and-l, and-r}
 use lib.Ieee.Scale.{grid}
 use lib.Ieee.Positive.{num, den, den-pos}
 use Rattle.num_working.specs.Number.{decimal, whole}
 use Rattle.num_working.specs.Working.{checked, plain}
+use Rattle.num_working.specs.declared.Worked.the-variants.{Number}
 use Rattle.num_exponential.specs.declared.decay.Twelve.{Twelve}
-use Rattle.num_exponential.specs.Exponential.{squared}
+use Rattle.num_exponential.specs.Exponential.{steps, squared}
 use Rattle.num_exponential.specs.Decay.{decay, each, every, numbers, inSeries}
 use Rattle.num_exponential.specs.Lockstep.{chain, pairs, squarings, turn}
 use Rattle.num_laws.specs.Quotient.{normal}
-use Rattle.num_exponential.proofs.Decays.{decay-is, each-of, range}
+use Rattle.num_exponential.proofs.Decays.{steps-are, each-of, range}
+use Rattle.num_exponential.proofs.Sayings.{answer-is}
 use Rattle.num_exponential.proofs.Exponentials.{series-chain, squared-powers}
 use Rattle.num_exponential.proofs.Steps.{low-of, high-of}
 use Rattle.num_laws.proofs.Halves.{above-zero, at-most, quotient}
@@ -109,10 +111,10 @@ unfolding squarings
 powers-within zero s v = v
 powers-within (suc n) s v = powers-within n (mul binary64 s s) (mul-within s s v v)
 
-plain-within : (x : Float) → Within x → plain (checked x) ≡ x
-plain-within nan v = absurd (v .1)
-plain-within (inf s) v = absurd (v .1)
-plain-within (fin s m e) v = refl
+checked-within : (x : Float) → Within x → checked x ≡ Number x
+checked-within nan v = absurd (v .1)
+checked-within (inf s) v = absurd (v .1)
+checked-within (fin s m e) v = refl
 
 -- ---- an x from 10⁻²⁰⁰ to 700
 normal-part : (x : Float) → T (inSeries x) → T (normal (div binary64 x (whole 1024)))
@@ -125,14 +127,19 @@ pub normal-parts : (x : Twelve) → T (every inSeries (numbers x)) → T (every 
 unfolding each
 normal-parts x h = every-map inSeries normal (λ v. div binary64 v (whole 1024)) normal-part (numbers x) h
 
-decay-worked : (x : Float) → T (inSeries x) → squarings 10 (chain (div binary64 x (whole 1024)) 14 (whole 1)) ≡ decay x
-decay-worked x h =
+-- it is answered
+pub steps-worked : (x : Float) → T (inSeries x) → steps (neg x) ≡ Number (squarings 10 (chain (div binary64 x (whole 1024)) 14 (whole 1)))
+steps-worked x h =
     let y = div binary64 x (whole 1024) in
     let s = chain y 14 (whole 1) in
-    sym (decay-is x h
-    ∙ ap (λ w. plain (squared 10 w)) (series-chain y 14 (whole 1) (omega arith))
-    ∙ ap plain (squared-powers 10 s)
-    ∙ plain-within (squarings 10 s) (powers-within 10 s (chain-within y 14 (whole 1) (normal-part x h) (omega arith) one-within)))
+    steps-are x h
+    ∙ ap (squared 10) (series-chain y 14 (whole 1) (omega arith))
+    ∙ squared-powers 10 s
+    ∙ checked-within (squarings 10 s) (powers-within 10 s (chain-within y 14 (whole 1) (normal-part x h) (omega arith) one-within))
+
+decay-worked : (x : Float) → T (inSeries x) → squarings 10 (chain (div binary64 x (whole 1024)) 14 (whole 1)) ≡ decay x
+unfolding decay
+decay-worked x h = sym (ap plain (answer-is (neg x) ∙ steps-worked x h))
 
 pub all-worked : (x : Twelve) → T (every inSeries (numbers x))
     → each (squarings 10) (each (λ v. chain v 14 (whole 1)) (each (λ v. div binary64 v (whole 1024)) x)) ≡ each decay x

@@ -1,19 +1,17 @@
--- The exponential's answer is what its steps come to, and is finite; what it says can be told by that answer. Assumes nothing.
+-- The exponential's answer is what its steps come to, and is finite; and what it says, by whether there is an answer. Assumes nothing.
 use Prim.Native.Nat.{ℕ, zero, suc}
 use mathlib.Core.Path.{_≡_, refl}
-use mathlib.Core.Bool.{Bool, _&&_}
+use mathlib.Core.Bool.{Bool, false}
 use lib.Dec.{T}
 use lib.Ieee as Ieee
-use lib.Ieee.{Float, nan, inf, fin, binary64}
+use lib.Ieee.{Float, binary64}
 use lib.Ieee.Scale.{finite}
 use Rattle.num_working.specs.Number.{whole}
-use Rattle.num_working.specs.Working.{checked, orElse, plain, _*ᵂ_, _/ᵂ_}
+use Rattle.num_working.specs.Working.{checked, orElse, _*ᵂ_, _/ᵂ_}
 use Rattle.num_working.specs.declared.Worked.{Worked}
 use Rattle.num_working.specs.declared.Worked.the-variants.{Number, Failed}
 use Rattle.num_working.proofs.Sound.{sound, both-sound, cond-sound}
-use Rattle.num_exponential.specs.Exponential.{exponential, answer, steps, falling, squared, series}
-use Rattle.num_exponential.specs.Decay.{decay, decayed, plainly, saidBy}
-use Rattle.num_exponential.specs.declared.exponential.Said.{Said}
+use Rattle.num_exponential.specs.Exponential.{exponential, answer, fell, steps, falling, squared, series}
 use Rattle.num_exponential.specs.declared.exponential.Raised.{Raised}
 use Rattle.num_exponential.specs.declared.exponential.Raised.the-variants.{Answered, Refused}
 
@@ -50,14 +48,19 @@ steps-sound x =
 pub exponential-sound : (x : Float) → T (sound (answer (exponential x)))
 exponential-sound x = rw (answer-is x) (steps-sound x)
 
--- ---- what it says
-told : (w : Worked) (b : Bool) → T (sound w)
-    → _≡_ {A = Said} (record { value = plain (answer (saying w b)); fallen = finite (plain (answer (saying w b))) && b }) (plainly (saying w b))
-told Failed b s = refl
-told (Number nan) b s = absurd s
-told (Number (inf t)) b s = absurd s
-told (Number (fin t m e)) b s = refl
+-- ---- what it says: nothing where it is refused, no where its argument is not below −36
+said : (w : Worked) (b : Bool) → b ≡ false → fell (saying w b) ≡ false
+said Failed b e = refl
+said (Number x) b e = e
 
-pub said-is : (x : Float) → saidBy x (decay x) ≡ decayed x
-unfolding saidBy decay decayed exponential
-said-is x = told (steps (Ieee.neg x)) (Ieee.lt (Ieee.neg x) (Ieee.neg (whole 36))) (steps-sound (Ieee.neg x))
+pub silent : (x : Float) → Ieee.lt x (Ieee.neg (whole 36)) ≡ false → fell (exponential x) ≡ false
+unfolding exponential
+silent x e = said (steps x) (Ieee.lt x (Ieee.neg (whole 36))) e
+
+pub spoken : (x v : Float) → steps x ≡ Number v → fell (exponential x) ≡ Ieee.lt x (Ieee.neg (whole 36))
+unfolding exponential
+spoken x v e = rw e refl
+
+pub refused : (x : Float) → finite x ≡ false → fell (exponential x) ≡ false
+unfolding exponential steps
+refused x e = rw e refl

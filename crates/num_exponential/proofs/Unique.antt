@@ -1,11 +1,11 @@
 -- No second answer meets a public function's promise. Assumes nothing.
+use mathlib.Core.Bool.{Bool}
 use Rattle.num_working.specs.declared.Worked.{Worked}
 use Rattle.num_working.proofs.Unique.{OneAnswer, by-equation}
 use Rattle.num_exponential.specs.declared.exponential.Raised.{Raised}
 use Rattle.num_exponential.specs.declared.decay.Twelve.{Twelve}
-use Rattle.num_exponential.specs.declared.decay.TwelveSaid.{TwelveSaid}
+use Rattle.num_exponential.proofs.decay.falls.Reads as falls
 use Rattle.num_exponential.proofs.decay.twelve_decays.Reads as twelve-decays
-use Rattle.num_exponential.proofs.decay.twelve_said.Reads as twelve-said
 use Rattle.num_exponential.proofs.exponential.answer.Reads as answer
 use Rattle.num_exponential.proofs.exponential.exponential.Reads as exponential
 
@@ -15,8 +15,8 @@ exponential-once a r s x y = by-equation
 pub answer-once : OneAnswer Worked (answer.Post tt)
 answer-once a r s x y = by-equation
 
+pub falls-once : OneAnswer Bool (falls.Post tt)
+falls-once a r s x y = by-equation
+
 pub twelve-decays-once : OneAnswer Twelve (twelve-decays.Post tt)
 twelve-decays-once a r s x y = by-equation
-
-pub twelve-said-once : OneAnswer TwelveSaid (twelve-said.Post tt)
-twelve-said-once a r s x y = by-equation

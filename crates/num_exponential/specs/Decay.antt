@@ -1,29 +1,16 @@
 -- RULES 4.4: e⁻ˣ for a formula that goes on in plain f64. Definitions only.
-use mathlib.Core.Bool.{Bool, true, false, _&&_}
+use mathlib.Core.Bool.{Bool, true, _&&_}
 use mathlib.Core.List.{List, [], _∷_}
 use lib.Ieee as Ieee
-use lib.Ieee.{Float, nan}
-use lib.Ieee.Scale.{finite}
+use lib.Ieee.{Float}
 use Rattle.num_working.specs.Number.{decimal, whole}
 use Rattle.num_working.specs.Working.{plain}
 use Rattle.num_exponential.specs.Exponential.{exponential, answer}
-use Rattle.num_exponential.specs.declared.exponential.Said.{Said}
-use Rattle.num_exponential.specs.declared.exponential.Raised.{Raised}
-use Rattle.num_exponential.specs.declared.exponential.Raised.the-variants.{Answered, Refused}
 use Rattle.num_exponential.specs.declared.decay.Twelve.{Twelve}
-use Rattle.num_exponential.specs.declared.decay.TwelveSaid.{TwelveSaid}
 
 -- what the exponential says is dropped
 unfoldable pub decay : Float → Float
 decay x = plain (answer (exponential (Ieee.neg x)))
-
--- it is passed on; where it is refused, the answer is a NaN and nothing is said
-abbrev pub plainly : Raised → Said
-plainly Refused = record { value = nan; fallen = false }
-plainly (Answered s) = s
-
-unfoldable pub decayed : Float → Said
-decayed x = plainly (exponential (Ieee.neg x))
 
 -- twelve numbers at once
 unfoldable pub each : (Float → Float) → Twelve → Twelve
@@ -42,27 +29,7 @@ each f x = record {
   l = f (x .l);
 }
 
-unfoldable pub eachSaid : (Float → Said) → Twelve → TwelveSaid
-eachSaid f x = record {
-  a = f (x .a);
-  b = f (x .b);
-  c = f (x .c);
-  d = f (x .d);
-  e = f (x .e);
-  f = f (x .f);
-  g = f (x .g);
-  h = f (x .h);
-  i = f (x .i);
-  j = f (x .j);
-  k = f (x .k);
-  l = f (x .l);
-}
-
 -- ---- what code inside asks for
-
--- what the exponential of −x says by its answer e: nothing where that is not finite
-unfoldable pub saidBy : Float → Float → Said
-saidBy x e = record { value = e; fallen = finite e && Ieee.lt (Ieee.neg x) (Ieee.neg (whole 36)) }
 
 -- x from 10⁻²⁰⁰ to 700, where the exponential of −x is worked by step 4, and y/k of a y = x/1024 is in the normal range for each k
 unfoldable pub inSeries : Float → Bool

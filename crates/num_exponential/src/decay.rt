@@ -1,13 +1,12 @@
 // RULES 4.4: e⁻ˣ of twelve numbers side by side, for a formula that goes on in plain f64. One exponential is a chain of
-// 38 operations, each of which waits for the one before it; twelve chains fill each other's waits. What the twelve say
-// is worked for those alone who pass it on.
+// 38 operations, each of which waits for the one before it; twelve chains fill each other's waits.
 ghost use mathlib.Core.Path.{_≡_};
 ghost use mathlib.Core.Bool.{_&&_};
 ghost use lib.Dec.{T};
-ghost use lib.Ieee.{binary64, div};
+ghost use lib.Ieee.{binary64, div, neg};
 ghost use Rattle.num_working.specs.Number.{whole};
-ghost use Rattle.num_exponential.specs.Decay.{decay, decayed, each, eachSaid, every, numbers, inSeries, saidBy};
-use crate::exponential::Said;
+ghost use Rattle.num_exponential.specs.Decay.{decay, each, every, numbers, inSeries};
+ghost use Rattle.num_exponential.specs.Exponential.{exponential, fell};
 use crate::exponential::answer;
 use crate::exponential::exponential;
 use crate::exponential::in_series;
@@ -30,21 +29,6 @@ pub struct Twelve {
     pub j: f64,
     pub k: f64,
     pub l: f64,
-}
-
-pub struct TwelveSaid {
-    pub a: Said,
-    pub b: Said,
-    pub c: Said,
-    pub d: Said,
-    pub e: Said,
-    pub f: Said,
-    pub g: Said,
-    pub h: Said,
-    pub i: Said,
-    pub j: Said,
-    pub k: Said,
-    pub l: Said,
 }
 
 fn decay(x: f64) -> f64
@@ -122,7 +106,7 @@ fn one_by_one(x: Twelve) -> Twelve
     }
 }
 
-// What each exponential says is dropped, and not worked.
+// What each says is dropped.
 pub fn twelve_decays(x: Twelve) -> Twelve
     ensures { λ r. ⌜ r ≡ each decay x ⌝ }
 {
@@ -132,31 +116,10 @@ pub fn twelve_decays(x: Twelve) -> Twelve
     one_by_one(x)
 }
 
-// e is e⁻ˣ, a NaN where it is refused.
-fn said_by(x: f64, e: f64) -> Said
-    ensures { λ r. ⌜ r ≡ saidBy x e ⌝ }
+// What the exponential of −x says, for those who pass it on: it hangs on x alone, and can be told before the answer is
+// worked.
+pub fn falls(x: f64) -> bool
+    ensures { λ r. ⌜ r ≡ fell (exponential (neg x)) ⌝ }
 {
-    let fallen = if is_finite(e) { -x < -36.0 } else { false };
-    Said { value: e, fallen }
-}
-
-// With what each exponential says.
-pub fn twelve_said(x: Twelve) -> TwelveSaid
-    ensures { λ r. ⌜ r ≡ eachSaid decayed x ⌝ }
-{
-    let e = twelve_decays(x);
-    TwelveSaid {
-        a: said_by(x.a, e.a),
-        b: said_by(x.b, e.b),
-        c: said_by(x.c, e.c),
-        d: said_by(x.d, e.d),
-        e: said_by(x.e, e.e),
-        f: said_by(x.f, e.f),
-        g: said_by(x.g, e.g),
-        h: said_by(x.h, e.h),
-        i: said_by(x.i, e.i),
-        j: said_by(x.j, e.j),
-        k: said_by(x.k, e.k),
-        l: said_by(x.l, e.l),
-    }
+    if is_finite(x) { -x < -36.0 } else { false }
 }

@@ -255,7 +255,7 @@ fn non_analytic(t: f64, rho: f64) {
         tt: -0.0,
         dt: -0.0,
     };
-    let psis = at_density(iso, delta).psis;
+    let psis = at_density(false, iso, delta).point.psis;
     let r40 = add_figures(
         none,
         non_analytic_row(0),

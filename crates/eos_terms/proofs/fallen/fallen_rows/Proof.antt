@@ -3,7 +3,6 @@ use Prim.Native.Nat.{ℕ, _+_, _≤_}
 use mathlib.Core.Path.{_≡_, refl}
 use native.Mathlib.Omega.{arith}
 use borrow.Author.Needs.{needs}
-use Rattle.num_exponential.specs.declared.exponential.Said.{Said}
 use Rattle.eos_terms.specs.Fallen.{rowsOf, fallenRows}
 use Rattle.eos_terms.proofs.Counts.{at-most}
 use Rattle.eos_terms.proofs.fallen.fallen_rows.Statement.{statement}

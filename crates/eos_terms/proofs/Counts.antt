@@ -1,7 +1,7 @@
 -- The rows that each exponential serves, added up, are the rows that say so, and on the isotherm of a temperature they are those of the definition. Assumes
 -- nothing.
 use Prim.Native.Nat.{ℕ, zero, suc, _+_, _*_, _≤_, _<_}
-use mathlib.Core.Path.{_≡_, refl, sym, ap, _∙_}
+use mathlib.Core.Path.{_≡_, refl, sym, ap, subst, _∙_}
 use mathlib.Core.Bool.{Bool, true, false, cond}
 use native.Mathlib.Omega.{arith}
 use lib.ListN.{getD}
@@ -162,3 +162,28 @@ at-isotherm t rho =
     (by-number (Reduced.delta rho))
     (λ i h. rw (bells-held t i h) (by-number (bellTau tau (getD gaussians i row39))))
     (psi-held t row40 refl) (psi-held t row41 refl) (psi-held t row42 refl)
+
+-- ---- so never more than 35
+of-twelve : (x : Twelve) → fallenRows x ≤ 35
+unfolding fallenRows rowsOf
+of-twelve x =
+    omega (
+      arith,
+      some (says (x .a)) 9,
+      some (says (x .b)) 7,
+      some (says (x .c)) 3,
+      some (says (x .d)) 6,
+      some (says (x .e)) 1,
+      some (says (x .f)) 1,
+      some (says (x .g)) 1,
+      some (says (x .h)) 2,
+      some (says (x .i)) 1,
+      some (says (x .j)) 1,
+      some (says (x .k)) 2,
+      some (says (x .l)) 1,
+    )
+
+pub few : (t rho : Float) → fallenAt t rho ≤ 35
+few t rho =
+    let delta = value (Reduced.delta rho) in
+    subst (λ (n : ℕ). n ≤ 35) (counted (isotherm t) delta ∙ at-isotherm t rho) (of-twelve (exponents (isotherm t) delta))

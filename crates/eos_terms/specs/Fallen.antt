@@ -41,17 +41,15 @@ rowArguments δ bell psi =
 unfoldable pub fallenAt : Float → Float → ℕ
 fallenAt t rho = let tau = value (Reduced.tau t) in count (rowArguments (Reduced.delta rho) (λ (i : ℕ). bellTau tau) (psiTau tau))
 
--- ---- what code inside asks for: the same by what an isotherm holds, with the point
-
+-- the same by what an isotherm holds of the arguments (`at-isotherm`, proofs/Counts.antt)
 unfoldable pub fallenTerms : Isotherm → Float → ℕ
 fallenTerms iso delta = count (rowArguments (num delta) (λ (i : ℕ) (r : Gaussian). num (getD (iso .bell) (bellAt i) nan)) (λ (r : NonAnalytic). num (iso .psi)))
 
--- where that is to be told
+-- ---- what code inside asks for: what is worked at a density, with the count where that is told
 unfoldable pub atDensity : Bool → Isotherm → Float → Told
 atDensity told iso delta = record { point = point iso delta; fallen = cond told (fallenTerms iso delta) 0 }
 
--- ---- and the rows that an exponential serves, where it says so: by the argument with its minus sign taken off, and of all twelve
-
+-- the rows that an exponential serves, where it says so, by its argument with the minus sign taken off; and of all twelve
 unfoldable pub rowsOf : Float → ℕ → ℕ
 rowsOf x rows = cond (fell (exponential (Ieee.neg x))) rows 0
 

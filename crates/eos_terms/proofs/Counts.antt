@@ -33,10 +33,6 @@ some : (b : Bool) (n : ℕ) → cond b n 0 ≤ n
 some true n = omega arith
 some false n = omega arith
 
-pub at-most : (x : Float) (n k : ℕ) → k ≡ rowsOf x n → k ≤ n
-unfolding rowsOf
-at-most x n k e = rw e (some (says x) n)
-
 -- ---- what an exponential says of an argument with a minus sign is what the twelve say of it without
 refusing : (x : Float) → orElse (checked x) false (λ y. fell (exponential y)) ≡ fell (exponential x)
 unfolding exponential steps

@@ -55,6 +55,7 @@ rowsOf x rows = cond (fell (exponential (Ieee.neg x))) rows 0
 
 unfoldable pub fallenRows : Twelve → ℕ
 fallenRows x =
-    rowsOf (x .a) 9 + rowsOf (x .b) 7 + rowsOf (x .c) 3 + rowsOf (x .d) 6 + rowsOf (x .e) 1 + rowsOf (x .f) 1
-    + rowsOf (x .g) 1 + rowsOf (x .h) 2 + rowsOf (x .i) 1 + rowsOf (x .j) 1
-    + rowsOf (x .k) 2 + rowsOf (x .l) 1
+    (rowsOf (x .a) 9 + rowsOf (x .b) 7 + rowsOf (x .c) 3 + rowsOf (x .d) 6 + rowsOf (x .e) 1 + rowsOf (x .f) 1)
+    + (rowsOf (x .g) 1 + rowsOf (x .h) 2 + rowsOf (x .i) 1 + rowsOf (x .j) 1)
+    + rowsOf (x .k) 2
+    + rowsOf (x .l) 1

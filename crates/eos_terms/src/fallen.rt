@@ -6,7 +6,8 @@ ghost use Rattle.eos_terms.specs.Fallen.{rowsOf, fallenRows};
 use num_exponential::decay::Twelve;
 use num_exponential::decay::falls;
 
-fn rows_of(x: f64, rows: u32) -> u32
+// At most 255, so that twelve of them are added with no fear for the sum.
+fn rows_of(x: f64, rows: u8) -> u8
     ensures { λ n. ⌜ n ≡ rowsOf x rows ⌝ }
 {
     if falls(x) { rows } else { 0 }
@@ -17,14 +18,17 @@ fn rows_of(x: f64, rows: u32) -> u32
 fn fallen_rows(x: Twelve) -> u32
     ensures { λ n. ⌜ n ≡ fallenRows x ⌝ }
 {
-    let n = rows_of(x.a, 9)
-        + rows_of(x.b, 7)
-        + rows_of(x.c, 3)
-        + rows_of(x.d, 6)
-        + rows_of(x.e, 1)
-        + rows_of(x.f, 1);
-    let n = n + rows_of(x.g, 1) + rows_of(x.h, 2) + rows_of(x.i, 1) + rows_of(x.j, 1);
-    n + rows_of(x.k, 2) + rows_of(x.l, 1)
+    let exponential = rows_of(x.a, 9) as u32
+        + rows_of(x.b, 7) as u32
+        + rows_of(x.c, 3) as u32
+        + rows_of(x.d, 6) as u32
+        + rows_of(x.e, 1) as u32
+        + rows_of(x.f, 1) as u32;
+    let gaussian = rows_of(x.g, 1) as u32
+        + rows_of(x.h, 2) as u32
+        + rows_of(x.i, 1) as u32
+        + rows_of(x.j, 1) as u32;
+    exponential + gaussian + rows_of(x.k, 2) as u32 + rows_of(x.l, 1) as u32
 }
 
 // Where it is to be told.

@@ -1,5 +1,5 @@
--- An answer's state was worked at its temperature and density, so its count is the equation's there; and no step of a door looks at a count. Over any
--- equation and any limits, of 1996, and of the public functions. Assumes nothing.
+-- An answer's state was worked at its temperature and density, so its count is the equation's there, of any equation that is lawful; and no step of a door
+-- looks at a count, of any equation. Over any limits, of 1996, and of the public functions. Assumes nothing.
 use Prim.Native.Nat.{ℕ}
 use mathlib.Core.Path.{_≡_, refl, sym, ap, _∙_}
 use mathlib.Core.Bool.{Bool, true, false, cond, _&&_, not}

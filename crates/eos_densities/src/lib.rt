@@ -9,7 +9,7 @@ use eos_constants::Printed;
 use eos_constants::span_wagner;
 use eos_constants::worked_as;
 use eos_saturation::theta_at;
-use num_exponential::exponential::answer;
+use num_exponential::exponential::answer_alone;
 use num_exponential::exponential::exponential;
 use num_powers::whole_power;
 use num_roots::root::Exponent;
@@ -65,7 +65,7 @@ fn above_zero(w: Worked) -> Worked
 fn density_of(sum: f64) -> Worked
     ensures { λ r. ⌜ r ≡ densityOf (num sum) ⌝ }
 {
-    above_zero(checked(span_wagner().density * plain(answer(exponential(sum)))))
+    above_zero(checked(span_wagner().density * plain(answer_alone(exponential(sum)))))
 }
 
 pub fn liquid_density(t: f64) -> Worked

@@ -3,7 +3,7 @@
 ghost use mathlib.Core.Path.{_≡_};
 ghost use Rattle.num_formulas.specs.Formula.{num, _⊕_, _⊖_};
 ghost use Rattle.eos_ideal.specs.Ideal.{table27, head-τ, head-ττ, row-τ, row-ττ, phi-τ, phi-ττ, sums, idealPart};
-use num_exponential::exponential::answer;
+use num_exponential::exponential::answer_alone;
 use num_exponential::exponential::exponential;
 use num_working::Worked;
 use num_working::checked;
@@ -85,7 +85,7 @@ fn with_row(s: Sums, i: Row, tau: f64) -> Sums
 {
     let a = i.a;
     let theta = i.theta;
-    let e = plain(answer(exponential(-(theta * tau))));
+    let e = plain(answer_alone(exponential(-(theta * tau))));
     let o = 1.0 - e;
     Sums {
         first: s.first + (a * theta) * (over(1.0, o) - 1.0),

@@ -1,5 +1,4 @@
 -- Rows 40 to 42, the non-analytic ones: what their terms and brackets are made of (docs/ARRANGEMENT.md, section 6; 004, Tables 31 and 32). Definitions only.
-use Prim.Native.Nat.{ℕ}
 use mathlib.Core.Bool.{Bool, cond}
 use lib.Ieee.{Float}
 use Rattle.num_roots.specs.declared.root.Exponent.{Exponent}
@@ -50,11 +49,11 @@ parts row n tau =
     record { θ = θ; Δ = Δ; P₀ = P₀; P₁ = P₀ ⊘ Δ; low = raised (row .half) (n .e) (n .X ^^ 2) }
 
 -- Ψ = e^(−(C·X + z)), with z for D·(τ−1)²
-abbrev pub psiArgument : NonAnalytic → Formula → Formula → Formula
-psiArgument row X z = minus (num (row .kc) ⊗ X ⊕ z)
+abbrev pub psiSum : NonAnalytic → Formula → Formula → Formula
+psiSum row X z = num (row .kc) ⊗ X ⊕ z
 
 abbrev pub psi : NonAnalytic → Around → Float → Formula
-psi row n z = e^ (psiArgument row (n .X) (num z))
+psi row n z = e^ (minus (psiSum row (n .X) (num z)))
 
 -- ---- what code inside asks for: what is worked once for a state, in plain f64
 abbrev pub near : Around → Near

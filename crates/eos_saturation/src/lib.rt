@@ -5,7 +5,7 @@ ghost use Rattle.num_formulas.specs.Formula.{num, value, work};
 ghost use Rattle.eos_saturation.specs.Saturation.{theta, pressureSum, vapourPressure};
 use eos_constants::span_wagner;
 use eos_constants::tau_at;
-use num_exponential::exponential::answer;
+use num_exponential::exponential::answer_alone;
 use num_exponential::exponential::exponential;
 use num_powers::whole_power;
 use num_roots::root::Exponent;
@@ -36,5 +36,5 @@ pub fn vapour_pressure(t: f64) -> Worked
     ensures { λ r. ⌜ r ≡ vapourPressure t ⌝ }
 {
     let sum = pressure_sum(plain(theta_at(t)));
-    checked(span_wagner().pressure * plain(answer(exponential(tau_at(t) * sum))))
+    checked(span_wagner().pressure * plain(answer_alone(exponential(tau_at(t) * sum))))
 }

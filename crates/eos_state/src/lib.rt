@@ -143,8 +143,8 @@ pub fn state_on(iso: Isotherm, phase: Phase, rho: f64) -> Stated
     };
     let r = residual_part(iso, delta);
     let fallen = r.fallen;
-    let five = r.sums;
-    let Sums::Summed(sums) = five else {
+    let summed = r.sums;
+    let Sums::Summed(sums) = summed else {
         return Stated::Unknown;
     };
     state_ideal(phase, fallen, iso, rho, sums)

@@ -1,3 +1,4 @@
 pub mod Points
 pub mod Counts
+pub mod Readings
 pub mod Unique

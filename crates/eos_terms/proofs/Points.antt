@@ -1,6 +1,5 @@
 -- What a point holds, by the density that it was worked at. Assumes nothing.
 use mathlib.Core.Path.{_≡_, refl, sym, ap, _∙_}
-use mathlib.Core.List.{List}
 use lib.ListN.{getD}
 use lib.Ieee.{Float, nan}
 use Rattle.num_powers.specs.Power.{power, powers}

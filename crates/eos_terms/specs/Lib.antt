@@ -1,2 +1,3 @@
 pub mod Term
 pub mod Fallen
+pub mod Readings

@@ -15,7 +15,7 @@ use Rattle.eos_rows.specs.declared.Gaussian.{Gaussian}
 use Rattle.eos_rows.specs.declared.NonAnalytic.{NonAnalytic}
 use Rattle.eos_isotherm.specs.Isotherm.{bellAt}
 use Rattle.eos_isotherm.specs.declared.Isotherm.{Isotherm}
-use Rattle.eos_non_analytic.specs.Parts.{around, psi}
+use Rattle.eos_non_analytic.specs.Parts.{around, psi, psiSum}
 use Rattle.eos_terms.specs.declared.term.Point.{Point}
 
 -- t = j/4
@@ -38,11 +38,8 @@ polynomialBracket r =
     columns d (d ⊗ (d ⊖ one)) t (t ⊗ (t ⊖ one)) (t ⊗ d)
 
 -- ---- rows 8 to 34: the term is ((n·δᵈ)·τᵗ)·e^(−δᶜ)
-abbrev pub decayArgument : Formula → ℕ → Formula
-decayArgument δ c = minus (δ ^^ c)
-
 unfoldable pub decay : Float → ℕ → Formula
-decay delta c = e^ (decayArgument (num delta) c)
+decay delta c = e^ (minus (num delta ^^ c))
 
 unfoldable pub exponentialTerm : Float → Float → Exponential → Formula
 exponentialTerm delta y r = num (r .n) ⊗ num delta ^^ r .d ⊗ num y ⊗ decay delta (r .c)
@@ -58,11 +55,11 @@ exponentialBracket z r =
     columns b (b ⊗ (d ⊖ one ⊖ g) ⊖ c ⊗ g) t (t ⊗ (t ⊖ one)) (t ⊗ b)
 
 -- ---- rows 35 to 39, with z for β·(τ−γ)²: the term is ((n·δᵈ)·τᵗ)·e^(−(α·(δ−ε)² + β·(τ−γ)²))
-abbrev pub bellArgument : Formula → Formula → Gaussian → Formula
-bellArgument δ z r = let x = δ ⊖ num (r .epsilon) in minus (num (r .alpha) ⊗ (x ⊗ x) ⊕ z)
+abbrev pub bellSum : Formula → Formula → Gaussian → Formula
+bellSum δ z r = let x = δ ⊖ num (r .epsilon) in num (r .alpha) ⊗ (x ⊗ x) ⊕ z
 
 unfoldable pub bell : Float → Float → Gaussian → Formula
-bell delta z r = e^ (bellArgument (num delta) (num z) r)
+bell delta z r = e^ (minus (bellSum (num delta) (num z) r))
 
 unfoldable pub gaussianTerm : Float → Float → Float → Gaussian → Formula
 gaussianTerm delta y z r = num (r .n) ⊗ num delta ^^ r .d ⊗ num y ⊗ bell delta z r
@@ -97,10 +94,10 @@ point iso delta = record { delta = delta; powers = powers 10 delta; decays = dec
 -- the arguments of the twelve exponentials with their minus sign taken off: six powers of δ, four bells, two Ψ
 module _ (iso : Isotherm) (delta : Float) where
   abbrev pub bellExponent : ℕ → Gaussian → Float
-  bellExponent place r = value (num (r .alpha) ⊗ ((num delta ⊖ num (r .epsilon)) ⊗ (num delta ⊖ num (r .epsilon))) ⊕ num (getD (iso .bell) place nan))
+  bellExponent place r = value (bellSum (num delta) (num (getD (iso .bell) place nan)) r)
 
   abbrev pub psiExponent : NonAnalytic → Float
-  psiExponent r = value (num (r .kc) ⊗ around delta .X ⊕ num (iso .psi))
+  psiExponent r = value (psiSum r (around delta .X) (num (iso .psi)))
 
   unfoldable pub exponents : Twelve
   exponents = record {

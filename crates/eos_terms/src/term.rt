@@ -1,9 +1,9 @@
 // What is worked once at a density for all terms of the residual part.
 ghost use mathlib.Core.Path.{_≡_};
 ghost use Rattle.num_powers.specs.Power as Power;
-ghost use Rattle.num_formulas.specs.Formula.{num, _⊕_, _⊖_, _⊗_, value};
-ghost use Rattle.eos_non_analytic.specs.Parts.{around};
-ghost use Rattle.eos_terms.specs.Term.{exponents, pointBy};
+ghost use Rattle.num_formulas.specs.Formula.{num, value};
+ghost use Rattle.eos_non_analytic.specs.Parts.{around, psiSum};
+ghost use Rattle.eos_terms.specs.Term.{bellSum, exponents, pointBy};
 ghost use Rattle.eos_terms.specs.Fallen.{atDensity};
 use crate::fallen::rows_told;
 use eos_isotherm::Isotherm;
@@ -32,14 +32,14 @@ pub struct Told {
 
 // α·(δ−ε)² + z of a row of 35 to 39, with z for β·(τ−γ)².
 fn bell_exponent(row: Gaussian, delta: f64, z: f64) -> f64
-    ensures { λ r. ⌜ r ≡ value (num (row .alpha) ⊗ ((num delta ⊖ num (row .epsilon)) ⊗ (num delta ⊖ num (row .epsilon))) ⊕ num z) ⌝ }
+    ensures { λ r. ⌜ r ≡ value (bellSum (num delta) (num z) row) ⌝ }
 {
     row.alpha * ((delta - row.epsilon) * (delta - row.epsilon)) + z
 }
 
 // C·(δ−1)² + z of a row of 40 to 42, with z for D·(τ−1)².
 fn psi_exponent(row: NonAnalytic, delta: f64, z: f64) -> f64
-    ensures { λ r. ⌜ r ≡ value (num (row .kc) ⊗ around delta .X ⊕ num z) ⌝ }
+    ensures { λ r. ⌜ r ≡ value (psiSum row (around delta .X) (num z)) ⌝ }
 {
     row.kc * ((delta - 1.0) * (delta - 1.0)) + z
 }

@@ -1,5 +1,5 @@
 -- 1996 is such an equation as the doors' theorems take. Assumes nothing.
-use mathlib.Core.Path.{_≡_, _∙_}
+use mathlib.Core.Path.{_∙_}
 use Rattle.eos_densities.proofs.Densities.{vapour-nonneg, liquid-nonneg}
 use Rattle.eos_isotherm.specs.Isotherm.{isotherm}
 use Rattle.eos_terms.proofs.Counts.{at-isotherm}

@@ -5,9 +5,9 @@ use mathlib.Core.List.{List, [], _∷_, _++_}
 use Prim.Native.Nat.{ℕ, _≤_, _<_}
 use native.Mathlib.Omega.{arith}
 use lib.Dec.{ltb}
-use lib.ListN.{length, take, drop, set}
+use lib.ListN.{length, getD, take, drop, set}
 use lib.Seq.{take-all, take-nil, set-out}
-use lib.Ieee.{Float}
+use lib.Ieee.{Float, nan}
 use borrow.Author.Tests.{ltb-true, ltb-false, lt-ltb, le-ltb}
 use Rattle.num_working.specs.Number.{whole}
 use Rattle.eos_state.specs.State.{eight}
@@ -81,6 +81,11 @@ first-figures l a false e = first-eight l a (ltb-false (length l) 8 e)
 pub same-eight : (old new out : List Float) (a : Answer) (r s : ℕ) → CarriedIn old new a r → AnsweredIn old out a s → (r ≡ s) × (take 8 new ≡ take 8 out)
 same-eight old new out a r s p q =
     (p .number ∙ sym (q .number), rw (p .figures, q .figures) (first-figures old a (ltb (length old) 8) refl))
+
+-- THE NINTH FIGURE, where it is lent, is how many terms fell away
+pub ninth : (old new : List Float) (s : State) (r : ℕ) → CarriedIn old new (Answer.State s) r → 9 ≤ length old → getD new 8 nan ≡ whole (s .fallen)
+unfolding laidOver
+ninth old new s r p h = rw (p .figures, le-ltb (length old) 8 (omega (arith, h)), take-all (length old) (carried s) h) refl
 
 -- ---- the report
 

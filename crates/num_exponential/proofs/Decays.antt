@@ -64,12 +64,12 @@ below-zero m e p =
     let z : 0 < m * up e = mul-pos (ltb→lt 0 m p) (up-pos e) in
     ap (λ (b : Bool). b || eq (fin true m e) (whole 0)) (lt-ltb 0 (m * up e * 1 + 0 * 1 * down e) (omega arith))
 
-falls : (x : Float) → T (positive x) → num x ≤ 700 * den x → steps (neg x) ≡ falling (neg x)
+by-step-4 : (x : Float) → T (positive x) → num x ≤ 700 * den x → steps (neg x) ≡ falling (neg x)
 unfolding steps neg le whole ofInt round
-falls nan p l = absurd p
-falls (inf s) p l = absurd p
-falls (fin true m e) p l = absurd p
-falls (fin false m e) p l = rw (le-ltb (700 * down e) (m * up e * 1) (omega arith), below-zero m e p) refl
+by-step-4 nan p l = absurd p
+by-step-4 (inf s) p l = absurd p
+by-step-4 (fin true m e) p l = absurd p
+by-step-4 (fin false m e) p l = rw (le-ltb (700 * down e) (m * up e * 1) (omega arith), below-zero m e p) refl
 
 neg-neg : (x : Float) → neg (neg x) ≡ x
 unfolding neg
@@ -81,7 +81,7 @@ neg-neg (fin false m e) = refl
 
 pub steps-are : (x : Float) → T (inSeries x) → steps (neg x) ≡ squared 10 (series (checked (div binary64 x (whole 1024))) 14 (checked (whole 1)))
 steps-are x h =
-    falls x (above-zero x h) (at-most x h)
+    by-step-4 x (above-zero x h) (at-most x h)
     ∙ falling-is (neg x)
     ∙ ap (λ (z : Float). squared 10 (series (checked (div binary64 z (whole 1024))) 14 (checked (whole 1)))) (neg-neg x)
 

@@ -11,7 +11,7 @@ use Rattle.num_working.specs.Working.{checked, orElse, _*ᵂ_, _/ᵂ_}
 use Rattle.num_working.specs.declared.Worked.{Worked}
 use Rattle.num_working.specs.declared.Worked.the-variants.{Number, Failed}
 use Rattle.num_working.proofs.Sound.{sound, both-sound, cond-sound}
-use Rattle.num_exponential.specs.Exponential.{exponential, answer, fell, steps, falling, squared, series}
+use Rattle.num_exponential.specs.Exponential.{exponential, answerAlone, fell, steps, falling, squared, series}
 use Rattle.num_exponential.specs.declared.exponential.Raised.{Raised}
 use Rattle.num_exponential.specs.declared.exponential.Raised.the-variants.{Answered, Refused}
 
@@ -19,11 +19,11 @@ use Rattle.num_exponential.specs.declared.exponential.Raised.the-variant
 abbrev saying : Worked → Bool → Raised
 saying w b = orElse w Refused (λ e. Answered (record { value = e; fallen = b }))
 
-answer-of : (w : Worked) (b : Bool) → answer (saying w b) ≡ w
+answer-of : (w : Worked) (b : Bool) → answerAlone (saying w b) ≡ w
 answer-of Failed b = refl
 answer-of (Number e) b = refl
 
-pub answer-is : (x : Float) → answer (exponential x) ≡ steps x
+pub answer-is : (x : Float) → answerAlone (exponential x) ≡ steps x
 unfolding exponential
 answer-is x = answer-of (steps x) (Ieee.lt x (Ieee.neg (whole 36)))
 
@@ -45,7 +45,7 @@ steps-sound x =
     (cond-sound (Ieee.lt (whole 700) x) _ _ tt
     (cond-sound (Ieee.le x (whole 0)) _ _ (falling-sound x) (both-sound (Ieee.div binary64) (checked (whole 1)) (falling (Ieee.neg x)))))) tt
 
-pub exponential-sound : (x : Float) → T (sound (answer (exponential x)))
+pub exponential-sound : (x : Float) → T (sound (answerAlone (exponential x)))
 exponential-sound x = rw (answer-is x) (steps-sound x)
 
 -- ---- what it says: nothing where it is refused, no where its argument is not below −36

@@ -6,14 +6,14 @@ use Rattle.num_exponential.specs.declared.exponential.Raised.{Raised}
 use Rattle.num_exponential.specs.declared.decay.Twelve.{Twelve}
 use Rattle.num_exponential.proofs.decay.falls.Reads as falls
 use Rattle.num_exponential.proofs.decay.twelve_decays.Reads as twelve-decays
-use Rattle.num_exponential.proofs.exponential.answer.Reads as answer
+use Rattle.num_exponential.proofs.exponential.answer_alone.Reads as answer-alone
 use Rattle.num_exponential.proofs.exponential.exponential.Reads as exponential
 
 pub exponential-once : OneAnswer Raised (exponential.Post tt)
 exponential-once a r s x y = by-equation
 
-pub answer-once : OneAnswer Worked (answer.Post tt)
-answer-once a r s x y = by-equation
+pub answer-alone-once : OneAnswer Worked (answer-alone.Post tt)
+answer-alone-once a r s x y = by-equation
 
 pub falls-once : OneAnswer Bool (falls.Post tt)
 falls-once a r s x y = by-equation

@@ -5,12 +5,12 @@ use lib.Ieee as Ieee
 use lib.Ieee.{Float}
 use Rattle.num_working.specs.Number.{decimal, whole}
 use Rattle.num_working.specs.Working.{plain}
-use Rattle.num_exponential.specs.Exponential.{exponential, answer}
+use Rattle.num_exponential.specs.Exponential.{exponential, answerAlone}
 use Rattle.num_exponential.specs.declared.decay.Twelve.{Twelve}
 
 -- what the exponential says is dropped
 unfoldable pub decay : Float → Float
-decay x = plain (answer (exponential (Ieee.neg x)))
+decay x = plain (answerAlone (exponential (Ieee.neg x)))
 
 -- twelve numbers at once
 unfoldable pub each : (Float → Float) → Twelve → Twelve

@@ -8,7 +8,6 @@ use Rattle.num_working.specs.Number.{whole}
 use Rattle.num_working.specs.Working.{checked, orElse, _-ᵂ_, _*ᵂ_, _/ᵂ_}
 use Rattle.num_working.specs.declared.Worked.{Worked}
 use Rattle.num_working.specs.declared.Worked.the-variants.{Number, Failed}
-use Rattle.num_exponential.specs.declared.exponential.Said.{Said}
 use Rattle.num_exponential.specs.declared.exponential.Raised.{Raised}
 use Rattle.num_exponential.specs.declared.exponential.Raised.the-variants.{Answered, Refused}
 
@@ -40,10 +39,10 @@ steps x =
 unfoldable pub exponential : Float → Raised
 exponential x = orElse (steps x) Refused (λ e. Answered (record { value = e; fallen = Ieee.lt x (Ieee.neg (whole 36)) }))
 
--- ---- its users: what it answers, where what it says is dropped on purpose; and what it says
-abbrev pub answer : Raised → Worked
-answer Refused = Failed
-answer (Answered s) = Number (s .value)
+-- ---- its users: the answer alone, where what it says is dropped on purpose; or what it says, which is passed on
+abbrev pub answerAlone : Raised → Worked
+answerAlone Refused = Failed
+answerAlone (Answered s) = Number (s .value)
 
 abbrev pub fell : Raised → Bool
 fell Refused = false

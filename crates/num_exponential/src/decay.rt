@@ -7,7 +7,7 @@ ghost use lib.Ieee.{binary64, div, neg};
 ghost use Rattle.num_working.specs.Number.{whole};
 ghost use Rattle.num_exponential.specs.Decay.{decay, each, every, numbers, inSeries};
 ghost use Rattle.num_exponential.specs.Exponential.{exponential, fell};
-use crate::exponential::answer;
+use crate::exponential::answer_alone;
 use crate::exponential::exponential;
 use crate::exponential::in_series;
 use crate::lockstep::chains;
@@ -34,7 +34,7 @@ pub struct Twelve {
 fn decay(x: f64) -> f64
     ensures { λ r. ⌜ r ≡ decay x ⌝ }
 {
-    plain(answer(exponential(-x)))
+    plain(answer_alone(exponential(-x)))
 }
 
 fn also(x: f64, others: bool) -> bool

@@ -4,7 +4,7 @@ ghost use lib.Dec.{T};
 ghost use lib.Ieee.{le};
 ghost use Rattle.num_working.specs.Number.{decimal, whole};
 ghost use Rattle.num_working.specs.Working.{checked};
-ghost use Rattle.num_exponential.specs.Exponential.{answer, exponential, falling, series, squared, steps};
+ghost use Rattle.num_exponential.specs.Exponential.{answerAlone, exponential, falling, series, squared, steps};
 ghost use Rattle.num_exponential.specs.Decay.{inSeries};
 use num_working::Worked;
 use num_working::checked;
@@ -126,8 +126,8 @@ pub fn exponential(x: f64) -> Raised
 }
 
 // For a user that drops, on purpose, what the exponential says.
-pub fn answer(r: Raised) -> Worked
-    ensures { λ w. ⌜ w ≡ answer r ⌝ }
+pub fn answer_alone(r: Raised) -> Worked
+    ensures { λ w. ⌜ w ≡ answerAlone r ⌝ }
 {
     match r {
         Raised::Answered(s) => Worked::Number(s.value),

@@ -8,9 +8,9 @@ use lib.Ieee as Ieee
 use lib.Ieee.{Float, nan, inf, fin, binary64}
 use lib.Ieee.Scale.{finite}
 use Rattle.num_working.specs.Number.{whole}
-use Rattle.num_working.specs.Working.{checked, over, plain, orElse, both, _+ᵂ_, _-ᵂ_, _*ᵂ_, _/ᵂ_}
+use Rattle.num_working.specs.Working.{checked, over, plain, orElse, _+ᵂ_, _-ᵂ_, _*ᵂ_, _/ᵂ_}
 use Rattle.num_powers.specs.Power.{_^ᵂ_}
-use Rattle.num_exponential.specs.Exponential.{exponential, answer, steps}
+use Rattle.num_exponential.specs.Exponential.{exponential, answerAlone, steps}
 use Rattle.num_roots.specs.Root as Root
 use Rattle.num_roots.specs.Root.{rootBits, rootOf, searched}
 use Rattle.num_formulas.specs.Formula.{Formula, num, _⊕_, _⊖_, _⊗_, _⊘_, _^^_, minus, size, e^, root, absolute, value, work}
@@ -23,7 +23,7 @@ use Rattle.num_working.proofs.Cases.{by-test}
 use Rattle.num_working.proofs.Sound.{sound, checked-sound, both-sound, cond-sound, orElse-sound, checked-plain}
 use Rattle.num_working.proofs.Workings.{checked-add, checked-sub, checked-mul, checked-div}
 use Rattle.num_powers.proofs.Powers.{checked-power}
-use Rattle.num_exponential.proofs.Sayings.{exponential-sound}
+use Rattle.num_exponential.proofs.Sayings.{answer-is, exponential-sound}
 use Rattle.num_laws.proofs.Orders.{bits-finite}
 use Rattle.num_roots.proofs.Roots.{crossing-below}
 
@@ -69,9 +69,9 @@ checked-refusing f s n i nan = ap (λ (w : Worked). checked (plain w)) n
 checked-refusing f s n i (inf b) = ap (λ (w : Worked). checked (plain w)) (i b)
 checked-refusing f s n i (fin b m e) = checked-plain (f (fin b m e)) (s (fin b m e))
 
-checked-exponential : (x : Float) → checked (plain (answer (exponential x))) ≡ orElse (checked x) Failed (λ y. answer (exponential y))
+checked-exponential : (x : Float) → checked (plain (answerAlone (exponential x))) ≡ orElse (checked x) Failed (λ y. answerAlone (exponential y))
 unfolding exponential steps
-checked-exponential = checked-refusing (λ x. answer (exponential x)) exponential-sound refl (λ s. refl)
+checked-exponential = checked-refusing (λ x. answerAlone (exponential x)) exponential-sound refl (λ s. refl)
 
 either-failed : (b : Bool) → cond b Failed Failed ≡ Failed
 either-failed b = by-test (λ (w : Worked). w ≡ Failed) b Failed Failed (λ _. refl) (λ _. refl)
@@ -118,13 +118,22 @@ once (a ⊘ b) = checked-over (value a) (value b) ∙ of-both _/ᵂ_ (once a) (o
 once (a ^^ n) = checked-power (value a) n ∙ ap (λ (w : Worked). w ^ᵂ n) (once a)
 once (minus a) = checked-neg (value a) ∙ ap (λ (w : Worked). orElse w Failed (λ x. Number (Ieee.neg x))) (once a)
 once (size a) = checked-absolute (value a) ∙ ap (λ (w : Worked). orElse w Failed (λ x. Number (absolute x))) (once a)
-once (e^ a) = checked-exponential (value a) ∙ ap (λ (w : Worked). orElse w Failed (λ x. answer (exponential x))) (once a)
+once (e^ a) = checked-exponential (value a) ∙ ap (λ (w : Worked). orElse w Failed (λ x. answerAlone (exponential x))) (once a)
 once (root e a) = checked-root e (value a) ∙ ap (λ (w : Worked). orElse w Failed (Root.root e)) (once a)
 
+-- an exponential in a formula is the five steps of RULES 4.4: what it says beside is dropped
+pub e^-is : (a : Formula) → work (e^ a) ≡ orElse (work a) Failed steps
+unfolding work
+e^-is a = alone (work a)
+  where
+    alone : (w : Worked) → orElse w Failed (λ x. answerAlone (exponential x)) ≡ orElse w Failed steps
+    alone Failed = refl
+    alone (Number x) = answer-is x
+
 -- an exponential or a root of a formula, as code calls it
-pub once-e^ : (a : Formula) → answer (exponential (value a)) ≡ work (e^ a)
+pub once-e^ : (a : Formula) → answerAlone (exponential (value a)) ≡ work (e^ a)
 unfolding value
-once-e^ a = sym (checked-plain (answer (exponential (value a))) (exponential-sound (value a))) ∙ once (e^ a)
+once-e^ a = sym (checked-plain (answerAlone (exponential (value a))) (exponential-sound (value a))) ∙ once (e^ a)
 
 pub once-root : (e : Exponent) (a : Formula) → Root.root e (value a) ≡ work (root e a)
 unfolding value
@@ -161,5 +170,5 @@ work-sound (a ⊘ b) = both-sound (Ieee.div binary64) (work a) (work b)
 work-sound (a ^^ n) = power-sound (work a) n (work-sound a)
 work-sound (minus a) = neg-sound (work a) (work-sound a)
 work-sound (size a) = size-sound (work a) (work-sound a)
-work-sound (e^ a) = orElse-sound (work a) (λ x. answer (exponential x)) exponential-sound
+work-sound (e^ a) = orElse-sound (work a) (λ x. answerAlone (exponential x)) exponential-sound
 work-sound (root e a) = orElse-sound (work a) (Root.root e) (root-sound e)

@@ -17,7 +17,7 @@ unfolding readings exponential steps falling series squared root searched rootBi
     _-ᵂ_ _*ᵂ_ _/ᵂ_ _^ᵂ_ power Ieee.ofInt Ieee.eq Ieee.lt Ieee.le Ieee.neg Ieee.sub Ieee.mul Ieee.div Ieee.toBits Ieee.ofBits
 all-read = refl
 
-pub all-said : sayings ≡ false ∷ true ∷ true ∷ false ∷ []
+pub all-said : sayings ≡ false ∷ true ∷ true ∷ false ∷ false ∷ []
 unfolding sayings exponential steps falling series squared decimal fraction whole _-ᵂ_ _*ᵂ_ _/ᵂ_ Ieee.ofInt Ieee.round Ieee.lt Ieee.le Ieee.neg Ieee.sub Ieee.mul
     Ieee.div
 all-said = refl

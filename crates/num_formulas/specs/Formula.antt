@@ -7,7 +7,7 @@ use lib.Ieee.{Float, binary64}
 use Rattle.num_working.specs.Number.{whole}
 use Rattle.num_working.specs.Working.{checked, over, plain, orElse, _+ᵂ_, _-ᵂ_, _*ᵂ_, _/ᵂ_}
 use Rattle.num_powers.specs.Power.{power, _^ᵂ_}
-use Rattle.num_exponential.specs.Exponential.{exponential, answer}
+use Rattle.num_exponential.specs.Exponential.{exponential, answerAlone}
 use Rattle.num_roots.specs.Root as Root
 use Rattle.num_working.specs.declared.Worked.{Worked}
 use Rattle.num_working.specs.declared.Worked.the-variants.{Number, Failed}
@@ -44,7 +44,7 @@ work (a ⊘ b) = work a /ᵂ work b
 work (a ^^ n) = work a ^ᵂ n
 work (minus a) = orElse (work a) Failed (λ x. Number (Ieee.neg x))
 work (size a) = orElse (work a) Failed (λ x. Number (absolute x))
-work (e^ a) = orElse (work a) Failed (λ x. answer (exponential x))
+work (e^ a) = orElse (work a) Failed (λ x. answerAlone (exponential x))
 work (root e a) = orElse (work a) Failed (Root.root e)
 
 -- the same in plain f64, tested nowhere: what code works, and tests once at the end (`once`, proofs/Formulas.antt)
@@ -57,5 +57,5 @@ value (a ⊘ b) = over (value a) (value b)
 value (a ^^ n) = power (value a) n
 value (minus a) = Ieee.neg (value a)
 value (size a) = absolute (value a)
-value (e^ a) = plain (answer (exponential (value a)))
+value (e^ a) = plain (answerAlone (exponential (value a)))
 value (root e a) = plain (Root.root e (value a))

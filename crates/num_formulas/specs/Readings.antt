@@ -5,7 +5,7 @@ use lib.Ieee as Ieee
 use lib.Ieee.{Float}
 use Rattle.num_working.specs.Number.{decimal, whole}
 use Rattle.num_powers.specs.Power.{power}
-use Rattle.num_exponential.specs.Exponential.{exponential, answer, fell}
+use Rattle.num_exponential.specs.Exponential.{exponential, answerAlone, fell}
 use Rattle.num_roots.specs.Root.{root}
 use Rattle.num_formulas.specs.Formula.{num, size, work}
 use Rattle.num_working.specs.declared.Worked.{Worked}
@@ -26,18 +26,18 @@ square-root = record { m = 1; k = 2 }
 
 unfoldable pub readings : List Starred
 readings =
-    (answer (exponential (whole 0)) gives Number (whole 1))
-    ∷ (answer (exponential (Ieee.neg (whole 701))) gives Number (whole 0))
+    (answerAlone (exponential (whole 0)) gives Number (whole 1))
+    ∷ (answerAlone (exponential (Ieee.neg (whole 701))) gives Number (whole 0))
     ∷ (Number (power (whole 2) 10) gives Number (whole 1024))
     ∷ (root square-root (whole 0) gives Number (whole 0))
     ∷ (root square-root (whole 1) gives Number (whole 1))
     ∷ []
 
--- what the exponential says at −36, at the next f64 below it and below −700; and above 36, where what 1 is divided by would say yes
+-- what the exponential says at −36, at the next f64 below it and below −700; above 36, where what 1 is divided by would say yes; and where it is refused
 unfoldable pub sayings : List Bool
 sayings =
     map (λ (x : Float). fell (exponential x))
-    (Ieee.neg (whole 36) ∷ Ieee.neg (decimal 3600000000000001 14) ∷ Ieee.neg (whole 701) ∷ whole 37 ∷ [])
+    (Ieee.neg (whole 36) ∷ Ieee.neg (decimal 3600000000000001 14) ∷ Ieee.neg (whole 701) ∷ whole 37 ∷ whole 701 ∷ [])
 
 -- |−1| and |1|, which are no readings of RULES 8.1
 unfoldable pub sizes : List Starred

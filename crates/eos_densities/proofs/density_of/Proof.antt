@@ -15,7 +15,7 @@ returns c =
     let sum = raised .before .before .args .sum in
     let worked = simp (
       c .before .before .before .plain .ensures,
-      c .before .before .before .before .answer .ensures,
+      c .before .before .before .before .answer-alone .ensures,
       raised .exponential .ensures,
       raised .before .span-wagner .ensures,
     ) at (c .before .checked .ensures) in

@@ -15,7 +15,7 @@ returns c =
       c .before .over2 .ensures,
       c .before .before .before .over .ensures,
       worked .plain .ensures,
-      worked .before .answer .ensures,
+      worked .before .answer-alone .ensures,
       worked .before .before .exponential .ensures,
     )
 

@@ -28,7 +28,7 @@ returns c =
     let θ = num (plain (work (theta t))) in
     let worked = simp (
       c .before .before .plain2 .ensures,
-      c .before .before .before .answer .ensures,
+      c .before .before .before .answer-alone .ensures,
       raised .exponential .ensures,
       raised .before .tau-at .ensures,
       raised .before .before .span-wagner .ensures,

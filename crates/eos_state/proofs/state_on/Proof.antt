@@ -33,7 +33,7 @@ returns-3 c =
     c .state-ideal .ensures
     ∙ rw (
       delta-is (n .before .before) ∙ n .delta .given .1,
-      sym (ap (λ (r : Residual). r .sums) (m .residual-part .ensures)) ∙ l .five .given .1,
+      sym (ap (λ (r : Residual). r .sums) (m .residual-part .ensures)) ∙ l .summed .given .1,
       ap (λ (r : Residual). r .fallen) (m .residual-part .ensures),
     )
 

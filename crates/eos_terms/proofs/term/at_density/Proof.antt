@@ -2,7 +2,6 @@
 use mathlib.Core.Path.{_≡_, ap, _∙_}
 use mathlib.Core.Bool.{cond}
 use borrow.Author.Needs.{needs}
-use Rattle.num_exponential.specs.declared.decay.Twelve.{Twelve}
 use Rattle.eos_terms.specs.Term.{point}
 use Rattle.eos_terms.specs.Fallen.{fallenTerms, fallenRows, atDensity}
 use Rattle.eos_terms.proofs.Counts.{counted}

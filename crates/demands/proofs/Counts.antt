@@ -15,7 +15,7 @@ use Rattle.eos_constants.specs.Reduced.{delta}
 use Rattle.eos_isotherm.specs.Isotherm.{isotherm}
 use Rattle.eos_isotherm.specs.declared.Isotherm.{Isotherm}
 use Rattle.eos_brackets.specs.declared.Five.{Five}
-use Rattle.eos_terms.specs.Fallen.{fallenTerms}
+use Rattle.eos_terms.specs.Fallen.{fallenAt, fallenTerms}
 use Rattle.eos_residual.specs.Sum.{fiveSums}
 use Rattle.eos_residual.specs.declared.sum.Sums.{Sums}
 use Rattle.eos_residual.specs.declared.sum.Sums.the-variants.{Summed, Broken}
@@ -70,10 +70,12 @@ module _ (E : Equation) (L : Limits) (lawful : Lawful E) where
       let b = density-answers E L lawful t (x .rho) y f in
       lawful .fallen t (y .phase) (x .rho) y (b .stated) ∙ ap (λ (s : Float). E .fallen s (x .rho)) (sym (a .temperature)) ∙ sym (pressure-counts t p x e)
 
-pub from-pressure-counts : Whatever (from-pressure.Post tt) (λ a r. (x : State) → r ≡ answer.State x → x .fallen ≡ of1996 .fallen (x .t) (x .rho))
+pub from-pressure-counts : Whatever (from-pressure.Post tt) (λ a r. (x : State) → r ≡ answer.State x → x .fallen ≡ fallenAt (x .t) (x .rho))
+unfolding of1996
 from-pressure-counts a r s h x e = pressure-counts of1996 (a .0) lawful (a .1 .0) (a .1 .1 .0) x (sym h ∙ e)
 
-pub from-density-counts : Whatever (from-density.Post tt) (λ a r. (x : State) → r ≡ answer.State x → x .fallen ≡ of1996 .fallen (x .t) (x .rho))
+pub from-density-counts : Whatever (from-density.Post tt) (λ a r. (x : State) → r ≡ answer.State x → x .fallen ≡ fallenAt (x .t) (x .rho))
+unfolding of1996
 from-density-counts a r s h x e = density-counts of1996 (a .0) lawful (a .1 .0) (a .1 .1 .0) x (sym h ∙ e)
 
 pub from-density-same-count : Whatever (from-pressure.Post tt) (λ a r. (x : State) → r ≡ answer.State x

@@ -1,0 +1,35 @@
+-- The formula, operation by operation, each literal the number as printed. Assumes nothing.
+use lib.Ieee.{neg, ofBits, round}
+use Rattle.num_working.specs.Number.{fraction, decimal}
+use Rattle.num_powers.specs.Power.{power}
+use Rattle.num_formulas.specs.Formula.{value}
+use Rattle.eos_conductivity.specs.Conductivity.{dilute}
+use borrow.Author.Needs.{needs}
+use Rattle.eos_conductivity.proofs.dilute_gas.Statement.{statement}
+use Rattle.eos_conductivity.proofs.dilute_gas.Tie as tie
+
+returns : tie.Need-returns
+unfolding dilute value power decimal fraction neg ofBits round
+returns c =
+    let rooted = c .before .before in
+    let third = rooted .before in
+    simp (
+      c .over4 .ensures,
+      c .before .plain .ensures,
+      rooted .root .ensures,
+      third .over3 .ensures,
+      third .before .over2 .ensures,
+      third .before .before .over .ensures,
+    )
+
+pub dilute-gas-spec : {M : Type 1} → statement M
+dilute-gas-spec =
+    tie.close
+    (tie.spec
+    (λ c κs. search needs)
+    (λ c κs. search needs)
+    (λ c κs. search needs)
+    (λ c κs. search needs)
+    (λ c κs. search needs)
+    (λ c κs. search needs)
+    returns)

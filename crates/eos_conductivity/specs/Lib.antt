@@ -1,0 +1,2 @@
+pub mod Conductivity
+pub mod Readings

@@ -6,6 +6,7 @@ pub mod Demands
 pub mod Fluids
 pub mod Before
 pub mod Counts
+pub mod Conductivities
 pub mod Lines
 pub mod Sheets
 pub mod Lengths

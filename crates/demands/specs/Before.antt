@@ -28,6 +28,7 @@ neverSolid E = record {
   pressure = E .pressure;
   state = E .state;
   fallen = E .fallen;
+  conductivity = E .conductivity;
 }
 
 -- an answer, and the one that stood before it, where the melting pressure is w: the same, or solid, or there is no melting pressure

@@ -53,6 +53,7 @@ uncounted E = record {
   pressure = E .pressure;
   state = λ t phase rho. forgottenIn (E .state t phase rho);
   fallen = λ t rho. 0;
+  conductivity = E .conductivity;
 }
 
 -- the state of such a 1996 is, but for the 0, word for word what it was, of definitions below it whose texts are seen to say what they said

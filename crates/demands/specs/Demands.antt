@@ -188,5 +188,5 @@ module _ (E : Equation) (L : Limits) where
   FluidBothWays = (t p : Float) (x : State) → pressureDoor E L t p ≡ answer.State x → densityDoor E L t (x .rho) ≡ answer.Refused 19 → ⊥
 
 -- whatever meets a public function's promise (`Post`, its own `ensures`) has it: called with a it answers r, and s is what a holds afterwards
-abbrev pub Whatever : {A S : Type 0} → (A → Answer → S → Type 0) → (A → Answer → Type 0) → Type 0
-Whatever {A} {S} Post Q = (a : A) (r : Answer) (s : S) → Post a r s → Q a r
+abbrev pub Whatever : {A R S : Type 0} → (A → R → S → Type 0) → (A → R → Type 0) → Type 0
+Whatever {A} {R} {S} Post Q = (a : A) (r : R) (s : S) → Post a r s → Q a r

@@ -4,6 +4,7 @@ use Rattle.num_working.specs.declared.Worked.{Worked}
 use Rattle.num_working.proofs.Unique.{OneAnswer, by-equation}
 use Rattle.eos_state.specs.declared.Stated.{Stated}
 use Rattle.equation.specs.declared.Curve.{Curve}
+use Rattle.equation.proofs.conductivity_at.Reads as conductivity-at
 use Rattle.equation.proofs.critical_temperature.Reads as critical-temperature
 use Rattle.equation.proofs.curve_at.Reads as curve-at
 use Rattle.equation.proofs.liquid_density.Reads as liquid-density
@@ -36,3 +37,6 @@ pressure-on-once a r s x y = by-equation
 
 pub state-on-once : OneAnswer Stated (state-on.Post tt)
 state-on-once a r s x y = by-equation
+
+pub conductivity-at-once : OneAnswer Worked (conductivity-at.Post tt)
+conductivity-at-once a r s x y = by-equation

@@ -19,6 +19,7 @@ use Rattle.eos_state.specs.declared.Phase.{Phase}
 use Rattle.eos_state.specs.declared.State.{State}
 use Rattle.eos_state.specs.declared.Stated.{Stated}
 use Rattle.eos_state.specs.declared.Stated.the-variants.{Known}
+use Rattle.eos_conductivity.specs.Conductivity.{conductivityAt}
 use Rattle.equation.specs.declared.Curve.{Curve}
 
 pub record Equation : Type 0 where
@@ -32,6 +33,7 @@ pub record Equation : Type 0 where
   pub pressure : Float → Float → Worked
   pub state : Float → Phase → Float → Stated
   pub fallen : Float → Float → ℕ
+  pub conductivity : Float → Float → Worked
 
 -- ---- 1996
 
@@ -55,6 +57,7 @@ of1996 = record {
   pressure = λ t. pressureOn (curve t);
   state = λ t. stateOn (curve t);
   fallen = fallenAt;
+  conductivity = conductivityAt;
 }
 
 -- ---- what the doors' theorems take of an equation: its saturated densities have no minus sign; a state is at the temperature and density and of the phase

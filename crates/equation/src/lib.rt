@@ -64,3 +64,10 @@ pub fn state_on(c: Curve, phase: Phase, rho: f64) -> Stated
 {
     eos_state::state_on(c.isotherm, phase, rho)
 }
+
+// Of a state, where it is asked for.
+pub fn conductivity_at(t: f64, rho: f64) -> Worked
+    ensures { λ r. ⌜ r ≡ of1996 .conductivity t rho ⌝ }
+{
+    eos_conductivity::conductivity_at(t, rho)
+}

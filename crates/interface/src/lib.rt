@@ -3,15 +3,21 @@
 // is a pointer and a length.
 ghost use mathlib.Core.Path.{_≡_};
 ghost use Prim.Native.Nat.{_≤_};
-ghost use lib.ListN.{length};
+ghost use lib.ListN.{length, set};
 ghost use Rattle.door_limits.specs.Limits.{document01};
 ghost use Rattle.equation.specs.Equation.{of1996};
 ghost use Rattle.door_pressure.specs.PressureDoor.{pressureDoor};
 ghost use Rattle.door_density.specs.DensityDoor.{densityDoor};
+ghost use Rattle.door_conductivity.specs.Conducted.{withConductivity};
+ghost use Rattle.door_conductivity.specs.declared.Conducted.{Conducted};
 ghost use Rattle.sheet_read.specs.Form.{inForm};
 ghost use Rattle.sheet_score.specs.Score.{report};
-ghost use Rattle.interface.specs.Interface.{phaseNumber, withEight, AnsweredIn, CarriedIn, ReportedIn};
+ghost use Rattle.interface.specs.Interface.{phaseNumber, withEight, asked, AnsweredIn, CarriedIn, CountedIn, ReportedIn};
 use door_answers::Answer;
+use door_conductivity::Carried;
+use door_conductivity::Conducted;
+use door_conductivity::Conductivity;
+use door_conductivity::with_conductivity;
 use door_density::from_density;
 use door_limits::document_01;
 use door_pressure::from_pressure;
@@ -79,19 +85,57 @@ pub extern "C" fn makhroeng_from_density(temperature: f64, density: f64, figures
     put_answer(from_density(document_01(), temperature, density), figures)
 }
 
-// All that a state carries: behind the eight numbers the count of the terms that fell away, where there is room for it.
-fn put_state(a: Answer, figures: &mut [f64]) -> u32
-    ensures { λ r. ⌜ CarriedIn (now (figures .entry)) (now (figures .exit)) a r ⌝ }
+// A figure, where it is lent.
+fn put_at(i: usize, x: f64, figures: &mut [f64])
+    ensures { λ _. ⌜ now (figures .exit) ≡ set (now (figures .entry)) i x ⌝ }
+{
+    if i < figures.len() {
+        figures[i] = x;
+    }
+}
+
+// Behind the eight numbers the count of the terms that fell away.
+fn put_counted(a: Answer, figures: &mut [f64]) -> u32
+    ensures { λ r. ⌜ CountedIn (now (figures .entry)) (now (figures .exit)) a r ⌝ }
 {
     let Answer::State(s) = a else {
         return put_answer(a, figures);
     };
     let fallen = s.fallen as f64;
     let number = put_answer(Answer::State(s), figures);
-    if figures.len() > 8 {
-        figures[8] = fallen;
-    }
+    put_at(8, fallen, figures);
     number
+}
+
+// Behind these what the state carries on request.
+fn put_carried(c: Carried, figures: &mut [f64]) -> u32
+    ensures { λ r. ⌜ CarriedIn (now (figures .entry)) (now (figures .exit)) (Conducted.State c) r ⌝ }
+{
+    let state = c.state;
+    let conductivity = c.conductivity;
+    let number = put_counted(Answer::State(state), figures);
+    let Conductivity::Is(x) = conductivity else {
+        return number;
+    };
+    put_at(9, x, figures);
+    number
+}
+
+fn put_conducted(c: Conducted, figures: &mut [f64]) -> u32
+    ensures { λ r. ⌜ CarriedIn (now (figures .entry)) (now (figures .exit)) c r ⌝ }
+{
+    match c {
+        Conducted::State(x) => put_carried(x, figures),
+        Conducted::Refused(n) => put_counted(Answer::Refused(n), figures),
+    }
+}
+
+// All that a state carries: whoever lends ten asks for the conductivity.
+fn put_state(a: Answer, figures: &mut [f64]) -> u32
+    ensures { λ r. ⌜ CarriedIn (now (figures .entry)) (now (figures .exit)) (withConductivity of1996 (asked (now (figures .entry))) a) r ⌝ }
+{
+    let asked = figures.len() >= 10;
+    put_conducted(with_conductivity(asked, a), figures)
 }
 
 #[no_mangle]
@@ -100,7 +144,7 @@ pub extern "C" fn makhroeng_state_from_pressure(
     pressure: f64,
     figures: &mut [f64],
 ) -> u32
-    ensures { λ r. ⌜ CarriedIn (now (figures .entry)) (now (figures .exit)) (pressureDoor of1996 document01 temperature pressure) r ⌝ }
+    ensures { λ r. ⌜ CarriedIn (now (figures .entry)) (now (figures .exit)) (withConductivity of1996 (asked (now (figures .entry))) (pressureDoor of1996 document01 temperature pressure)) r ⌝ }
 {
     put_state(from_pressure(document_01(), temperature, pressure), figures)
 }
@@ -111,7 +155,7 @@ pub extern "C" fn makhroeng_state_from_density(
     density: f64,
     figures: &mut [f64],
 ) -> u32
-    ensures { λ r. ⌜ CarriedIn (now (figures .entry)) (now (figures .exit)) (densityDoor of1996 document01 temperature density) r ⌝ }
+    ensures { λ r. ⌜ CarriedIn (now (figures .entry)) (now (figures .exit)) (withConductivity of1996 (asked (now (figures .entry))) (densityDoor of1996 document01 temperature density)) r ⌝ }
 {
     put_state(from_density(document_01(), temperature, density), figures)
 }

@@ -1,10 +1,12 @@
-"""The doors worked a second time, by RULES 2.2, 2.3, 3.3 and 5: what the program `run_readings` must print of them, after numerics.py's lines.
+"""The doors worked a second time, by RULES 2.2, 2.3, 3.3 and 5: what the program `run_readings` must print of them, after numerics.py's lines. First those
+that aren't asked for the conductivity, then some that are.
 `python3 numerics.py; python3 doors.py` is all of it.
 """
 import math
 import sys
 
 sys.dont_write_bytecode = True
+import conductivity
 import equation
 import figures
 import numerics
@@ -42,6 +44,15 @@ DENSITIES = [
     (216.592, 1178.6), (216.592, 1178.5), (216.5983, 1178.5025589536633), (216.5984, 1178.5022008008582),
 ]
 INF, NAN = float("inf"), float("nan")
+# asked for the conductivity too: answered, the last two beside the critical box; then refused by 3, 4, 5, 6, 8 and 19
+PRESSURES_ASKED = [
+    (250.0, 5000000.0), (300.0, 5000000.0), (400.0, 5000000.0), (523.0, 30000000.0), (303.12819999999994, 7000000.0), (305.12820000000005, 8000000.0),
+    (NAN, 5000000.0), (216.5919, 5000000.0), (300.0, 9999.0), (303.1282, 7000000.0), (250.0, 1785029.0653665012), (217.0, 5000000.0),
+]
+DENSITIES_ASKED = [
+    (310.0, 400.0), (250.0, 2.0), (250.0, 1058.0), (523.0, 0.2), (305.1282, 350.69999999999993), (305.1282, 584.5000000000001),
+    (300.0, INF), (523.0000000000001, 100.0), (523.0, 1300.0), (305.1282, 584.5), (250.0, 500.0), (217.0, 1186.152),
+]
 
 
 class Refusal(Exception):
@@ -131,15 +142,31 @@ def by_density(t, rho):
     return state(phase, t, rho)
 
 
-def tell(name, door, t, x):
+def asked(door):
+    """The door when it is asked for the conductivity too (RULES 5.5): all its steps, then that of the T and rho of its state."""
+    def steps(t, x):
+        phase, eight, count = door(t, x)
+        return phase, eight, count, worked(conductivity.conductivity, eight[0], eight[2])
+    return steps
+
+
+def told(name, door, t, x):
     where = f"T {numerics.show(t)} and {name} {numerics.show(x)}"
     try:
-        phase, eight, count = door(t, x)
+        phase, eight, count, *carried = door(t, x)
     except Refusal as r:
-        print(f"{where} refused by {r.args[0]}")
-        return
+        return f"{where} refused by {r.args[0]}"
     named = zip(["T", "p", "rho", "u", "h", "cv", "cp", "w"], eight)
-    print(f"{where} {phase} " + " ".join(f"{n} {numerics.show(v)}" for n, v in named) + f" fallen {count}")
+    line = f"{where} {phase} " + " ".join(f"{n} {numerics.show(v)}" for n, v in named) + f" fallen {count}"
+    return line + "".join(f" conductivity {numerics.show(v)}" for v in carried)
+
+
+def tell(name, door, t, x):
+    print(told(name, door, t, x))
+
+
+def tell_asked(name, door, t, x):
+    print(f"asked: {told(name, asked(door), t, x)}")
 
 
 if __name__ == "__main__":
@@ -154,3 +181,9 @@ if __name__ == "__main__":
     # what the pressure door found, asked of the density door: the same eight numbers, and the same count
     for t, p in [(250.0, 5000000.0), (300.0, 5000000.0), (400.0, 5000000.0), (217.0, 2429700.0645423313), (217.6, 5000000.0), (230.0, 20000000.0)]:
         tell("rho", by_density, t, by_pressure(t, p)[1][2])
+    for t, p in PRESSURES_ASKED:
+        tell_asked("p", by_pressure, t, p)
+    for t, rho in DENSITIES_ASKED:
+        tell_asked("rho", by_density, t, rho)
+    # what the pressure door found, asked of the density door: the same conductivity too
+    tell_asked("rho", by_density, 250.0, by_pressure(250.0, 5000000.0)[1][2])

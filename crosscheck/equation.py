@@ -1,5 +1,6 @@
 #!/usr/bin/env python3
-"""The pressure and the state worked a second time, from 004 and docs/ARRANGEMENT.md, sections 2 to 9 and 12: prints what the program `run_figures` must print.
+"""The pressure and the state worked a second time, from 004 and docs/ARRANGEMENT.md, sections 2 to 9 and 12: prints what the program `run_figures` must print,
+with figures.py's lines before its own and conductivity.py's after them.
 
 Each operation is one Python float operation, which is the same f64 operation. Each number is tested as it is worked, where the code tests at the end.
     crosscheck/equation.py | diff - crates/run_figures/stdout
@@ -7,6 +8,7 @@ Each operation is one Python float operation, which is the same f64 operation. E
 import sys
 
 sys.dont_write_bytecode = True
+import conductivity
 import figures
 import numerics
 from figures import DENSITY, TEMPERATURE, Failure, Num, e_said, first, root, second
@@ -181,7 +183,7 @@ def states():
               (304.1282, 467.6), (300.0, 0.0), (300.0, -1.0), (0.0, 100.0), (-300.0, 100.0), (1e-300, 100.0), (300.0, 1e300), (300.0, inf), (inf, 100.0), (nan, 100.0), (300.0, nan)]
     for t, rho in points + FALLEN:
         where = f"at {numerics.show(t)} {numerics.show(rho)} is"
-        print(f"pressure {where} {numerics.tell(figures.worked(lambda _: pressure(t, rho), t))}")
+        print(f"pressure {where} {numerics.tell(figures.worked(pressure, t, rho))}")
         try:
             eight, count = state(t, rho)
             print(f"state {where} {' '.join(numerics.show(x.x) for x in eight)} fallen {count}")
@@ -203,3 +205,4 @@ if __name__ == "__main__":
     figures.main()
     states()
     sharp()
+    conductivity.main()

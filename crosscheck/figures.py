@@ -64,7 +64,8 @@ def e_said(a):
 
 
 def e_to(a):
-    """e to a, for those who drop what the exponential says: the saturation equations and the ideal part (docs/ARRANGEMENT.md, section 12)."""
+    """e to a, for those who drop what the exponential says: the saturation equations, the ideal part and the conductivity (docs/ARRANGEMENT.md, sections 12
+    and 13)."""
     answer, _dropped = e_said(a)
     return answer
 
@@ -130,9 +131,9 @@ def second(x):
     return tau * tau * total
 
 
-def worked(f, x):
+def worked(f, *xs):
     try:
-        return f(x).x
+        return f(*xs).x
     except Failure:
         return None
 

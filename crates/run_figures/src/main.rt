@@ -1,6 +1,6 @@
-// The saturation figures and the melting pressure at temperatures, I₁ and I₂ of the ideal part at values of τ, and
-// pressures and states with the count of the terms that fell away; their bits and counts were worked elsewhere
-// (crosscheck/equation.py). One figure a line.
+// The saturation figures and the melting pressure at temperatures, I₁ and I₂ of the ideal part at values of τ,
+// pressures and states with the count of the terms that fell away, and thermal conductivities; their bits and counts
+// were worked elsewhere (crosscheck/equation.py). One figure a line.
 use eos_brackets::Five;
 use eos_densities::liquid_density;
 use eos_densities::vapour_density;
@@ -15,6 +15,7 @@ use eos_state::Phase;
 use eos_state::State;
 use eos_state::Stated;
 use eos_terms::term::at_density;
+use equation::conductivity_at;
 use equation::curve_at;
 use equation::pressure_on;
 use equation::state_on;
@@ -36,6 +37,11 @@ fn at(name: &[u8], t: f64, rho: f64) {
 fn pressure(t: f64, rho: f64) {
     at(b"pressure at ", t, rho);
     tell(pressure_on(curve_at(t), rho));
+}
+
+fn conductivity(t: f64, rho: f64) {
+    at(b"conductivity at ", t, rho);
+    tell(conductivity_at(t, rho));
 }
 
 // The eight numbers and the count, which don't hang on the phase, or that there is no state.
@@ -373,6 +379,80 @@ fn fallen_states() {
     state(1000.0, -981.96);
 }
 
+// 002's sample points (Table 7), liquid, vapour and supercritical states, and some beside the critical box, at δ = 1 and
+// at ends of the ranges.
+fn conductivities() {
+    conductivity(310.0, 400.0);
+    conductivity(250.0, 0.0);
+    conductivity(250.0, 2.0);
+    conductivity(250.0, 1058.0);
+    conductivity(216.592, 1178.46);
+    conductivity(230.0, 1172.07);
+    conductivity(250.0, 1058.86);
+    conductivity(300.0, 959.7);
+    conductivity(220.0, 15.8);
+    conductivity(250.0, 46.644);
+    conductivity(300.0, 128.4);
+    conductivity(304.1282, 340.0);
+    conductivity(305.1282, 350.6);
+    conductivity(305.1283, 467.6);
+    conductivity(305.1282, 584.6);
+    conductivity(350.0, 614.18);
+    conductivity(400.0, 72.804);
+    conductivity(523.0, 0.1012);
+    conductivity(523.0, 300.0);
+}
+
+// Where another order of operations would show, and between the saturated densities, where e is raised to a number below
+// 0, and at the critical point, where it is raised to 0.
+fn conductivity_orders() {
+    conductivity(454.9, 277.9);
+    conductivity(518.3, 238.2);
+    conductivity(314.8, 346.9);
+    conductivity(319.9, 396.9);
+    conductivity(323.2, 15.3);
+    conductivity(329.2, 185.2);
+    conductivity(385.1, 473.8);
+    conductivity(344.2, 759.6);
+    conductivity(252.0, 530.0);
+    conductivity(254.0, 450.0);
+    conductivity(304.1282, 467.6);
+}
+
+// Temperatures and densities that are no state's.
+fn conductivity_edges() {
+    // neighbouring floats, the second with a divisor of 0: in eq. (10), then in eq. (3)
+    conductivity(272.4, 757.1236308241799);
+    conductivity(272.4, 757.12363082418);
+    conductivity(73.80111870258995, 400.0);
+    conductivity(73.80111870258996, 400.0);
+    // e raised to 700, and to the next number above, which is refused; to one above it by far; below −36; below −700
+    conductivity(24318.763281782292, 467.6);
+    conductivity(24318.763281782296, 467.6);
+    conductivity(300.0, -3300.0);
+    conductivity(300.0, 3273.2);
+    conductivity(300.0, 5611.2);
+    // no temperatures, no densities
+    conductivity(0.0, 400.0);
+    conductivity(-0.0, 400.0);
+    conductivity(-300.0, 400.0);
+    conductivity(1e-300, 400.0);
+    conductivity(1e-110, 400.0);
+    conductivity(1e-100, 400.0);
+    conductivity(1e300, 400.0);
+    conductivity(1.0 / 0.0, 400.0);
+    conductivity(-1.0 / 0.0, 400.0);
+    conductivity(0.0 / 0.0, 400.0);
+    conductivity(300.0, -0.0);
+    conductivity(300.0, -1.0);
+    conductivity(300.0, 1e53);
+    conductivity(300.0, 2e54);
+    conductivity(300.0, 1e300);
+    conductivity(300.0, 1.0 / 0.0);
+    conductivity(300.0, -1.0 / 0.0);
+    conductivity(300.0, 0.0 / 0.0);
+}
+
 fn main() {
     saturations();
     meltings();
@@ -384,4 +464,7 @@ fn main() {
     non_analytic(295.4, 588.8);
     non_analytic(312.2, 580.6);
     non_analytic(290.4, 404.2);
+    conductivities();
+    conductivity_orders();
+    conductivity_edges();
 }

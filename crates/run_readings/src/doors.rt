@@ -1,8 +1,12 @@
 // The doors: the three rows of RULES 8.3, the temperatures and pressures of RULES 8.1, the ends of each range and the
 // floats beside them, both sides of the saturation line, the edges of the critical box, both sides of the melting line
-// (RULES 8.4), the states of docs/ARRANGEMENT.md, section 12, and what is no number. Bits and counts worked elsewhere
-// (crosscheck/doors.py).
+// (RULES 8.4), the states of docs/ARRANGEMENT.md, section 12, and what is no number; then doors that are asked for the
+// thermal conductivity too (RULES 5.5). Bits and counts worked elsewhere (crosscheck/doors.py).
 use door_answers::Answer;
+use door_conductivity::Carried;
+use door_conductivity::Conducted;
+use door_conductivity::Conductivity;
+use door_conductivity::with_conductivity;
 use door_density::from_density;
 use door_limits::document_01;
 use door_pressure::from_pressure;
@@ -38,14 +42,25 @@ fn tell_state(x: State) {
     io::print_decimal(STDOUT_FILENO, x.fallen as u64);
 }
 
-fn tell_answer(a: Answer) {
-    match a {
-        Answer::State(x) => {
-            let phase = x.phase;
-            tell_phase(phase);
-            tell_state(x);
-        }
-        Answer::Refused(n) => {
+fn tell_conductivity(c: Conductivity) {
+    if let Conductivity::Is(x) = c {
+        tell_number(b" conductivity ", x);
+    }
+}
+
+fn tell_carried(c: Carried) {
+    let x = c.state;
+    let phase = x.phase;
+    let conductivity = c.conductivity;
+    tell_phase(phase);
+    tell_state(x);
+    tell_conductivity(conductivity);
+}
+
+fn tell_answer(c: Conducted) {
+    match c {
+        Conducted::State(x) => tell_carried(x),
+        Conducted::Refused(n) => {
             say(b" refused by ");
             io::print_decimal(STDOUT_FILENO, n as u64);
         }
@@ -53,24 +68,39 @@ fn tell_answer(a: Answer) {
     say(b"\n");
 }
 
-fn by_pressure(t: f64, p: f64) {
+fn tell_temperature(asked: bool, t: f64) {
+    if asked {
+        say(b"asked: ");
+    }
     tell_number(b"T ", t);
+}
+
+fn pressure_asked(asked: bool, t: f64, p: f64) {
+    tell_temperature(asked, t);
     tell_number(b" and p ", p);
-    tell_answer(from_pressure(document_01(), t, p));
+    tell_answer(with_conductivity(asked, from_pressure(document_01(), t, p)));
+}
+
+fn density_asked(asked: bool, t: f64, rho: f64) {
+    tell_temperature(asked, t);
+    tell_number(b" and rho ", rho);
+    tell_answer(with_conductivity(asked, from_density(document_01(), t, rho)));
+}
+
+fn by_pressure(t: f64, p: f64) {
+    pressure_asked(false, t, p);
 }
 
 fn by_density(t: f64, rho: f64) {
-    tell_number(b"T ", t);
-    tell_number(b" and rho ", rho);
-    tell_answer(from_density(document_01(), t, rho));
+    density_asked(false, t, rho);
 }
 
 // The density that the pressure door gives, put to the other door.
-fn by_both(t: f64, p: f64) {
+fn by_both(asked: bool, t: f64, p: f64) {
     let Answer::State(x) = from_pressure(document_01(), t, p) else {
         return;
     };
-    by_density(x.t, x.rho);
+    density_asked(asked, x.t, x.rho);
 }
 
 // A temperature and a pressure or a density, one after the other.
@@ -379,14 +409,49 @@ fn no_numbers() {
     by_density(nan, 100.0);
 }
 
+// Asked for the conductivity too: answered, the last two of each door beside the critical box, and refused by 3, 4, 5, 6,
+// 8 and 19.
+fn asked_by_pressure() {
+    pressure_asked(true, 250.0, 5000000.0);
+    pressure_asked(true, 300.0, 5000000.0);
+    pressure_asked(true, 400.0, 5000000.0);
+    pressure_asked(true, 523.0, 30000000.0);
+    pressure_asked(true, 303.12819999999994, 7000000.0);
+    pressure_asked(true, 305.12820000000005, 8000000.0);
+    pressure_asked(true, 0.0 / 0.0, 5000000.0);
+    pressure_asked(true, 216.5919, 5000000.0);
+    pressure_asked(true, 300.0, 9999.0);
+    pressure_asked(true, 303.1282, 7000000.0);
+    pressure_asked(true, 250.0, 1785029.0653665012);
+    pressure_asked(true, 217.0, 5000000.0);
+}
+
+fn asked_by_density() {
+    density_asked(true, 310.0, 400.0);
+    density_asked(true, 250.0, 2.0);
+    density_asked(true, 250.0, 1058.0);
+    density_asked(true, 523.0, 0.2);
+    density_asked(true, 305.1282, 350.69999999999993);
+    density_asked(true, 305.1282, 584.5000000000001);
+    density_asked(true, 300.0, 1.0 / 0.0);
+    density_asked(true, 523.0000000000001, 100.0);
+    density_asked(true, 523.0, 1300.0);
+    density_asked(true, 305.1282, 584.5);
+    density_asked(true, 250.0, 500.0);
+    density_asked(true, 217.0, 1186.152);
+}
+
 pub fn run() {
     pressures();
     densities();
     no_numbers();
-    by_both(250.0, 5000000.0);
-    by_both(300.0, 5000000.0);
-    by_both(400.0, 5000000.0);
-    by_both(217.0, 2429700.0645423313);
-    by_both(217.6, 5000000.0);
-    by_both(230.0, 20000000.0);
+    by_both(false, 250.0, 5000000.0);
+    by_both(false, 300.0, 5000000.0);
+    by_both(false, 400.0, 5000000.0);
+    by_both(false, 217.0, 2429700.0645423313);
+    by_both(false, 217.6, 5000000.0);
+    by_both(false, 230.0, 20000000.0);
+    asked_by_pressure();
+    asked_by_density();
+    by_both(true, 250.0, 5000000.0);
 }

@@ -1,5 +1,6 @@
 //! RULES 3.3 and 5: the doors.
 
+use crate::conductivity::conductivity;
 use crate::equation::{isotherm, pressure, state, Isotherm, State, CRITICAL_TEMPERATURE};
 use crate::melting::melting_pressure;
 use crate::numbers::{halve, Halved};
@@ -117,6 +118,14 @@ pub fn from_density(t: f64, rho: f64) -> Answer {
     }
     not_solid(t, p)?;
     settle(phase, &on, rho)
+}
+
+/// RULES 5.5: the answer of a door that is asked for the conductivity too, from its answer without that.
+pub fn asked(answer: Answer) -> Answer {
+    let (phase, state) = answer?;
+    let [t, _, rho, ..] = state.eight;
+    let conductivity = conductivity(t, rho).ok_or(7u32)?;
+    Ok((phase, State { conductivity: Some(conductivity), ..state }))
 }
 
 #[cfg(test)]

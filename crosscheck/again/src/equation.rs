@@ -161,14 +161,15 @@ fn ideal(tau: f64) -> [f64; 2] {
     [tau * first, (tau * tau) * second]
 }
 
-/// Section 9: T, p, ρ, u, h, cᵥ, cₚ, w. Section 12: the count of the rows that fell away.
+/// Section 9: T, p, ρ, u, h, cᵥ, cₚ, w. Section 12: the count of the rows that fell away. Section 13: the conductivity, where it was asked for.
 #[derive(Clone, Copy, Debug, PartialEq)]
 pub struct State {
     pub eight: [f64; 8],
     pub fallen: u32,
+    pub conductivity: Option<f64>,
 }
 
-/// None where a number on the way is not finite.
+/// The state before it is asked for the conductivity; None where a number on the way is not finite.
 pub fn state(on: &Isotherm, rho: f64) -> Option<State> {
     let finite = |xs: &[f64]| xs.iter().all(|x| x.is_finite());
     let t = on.t;
@@ -188,5 +189,5 @@ pub fn state(on: &Isotherm, rho: f64) -> Option<State> {
     let cp = GAS * ((-z) + (g * g) / k);
     let w = root((GAS * t) * (k - (g * g) / z), 1, 2);
     let eight = [t, p, rho, u, h, cv, cp, w];
-    finite(&eight).then_some(State { eight, fallen })
+    finite(&eight).then_some(State { eight, fallen, conductivity: None })
 }

@@ -10,22 +10,26 @@ extern "C" {
     fn makhroeng_report(text: *const u8, text_len: usize, out: *mut u8, out_len: usize) -> u64;
 }
 
-/// A function that asks a door. One that counts gives the rows that fell away behind the eight numbers.
+/// A function that asks a door, and how many figures it gives where as many are lent: the eight numbers, the count of the rows that fell away,
+/// and the conductivity, which it works where it is asked for so many.
 pub struct Function {
     pub name: &'static str,
     pub call: fn(f64, f64, &mut [u64]) -> u32,
-    pub counts: bool,
+    pub gives: usize,
 }
 
+#[cfg(feature = "counts")]
+const ALL: usize = if cfg!(feature = "conductivity") { 10 } else { 9 };
+
 pub const BY_PRESSURE: &[Function] = &[
-    Function { name: "makhroeng_from_pressure", call: from_pressure, counts: false },
+    Function { name: "makhroeng_from_pressure", call: from_pressure, gives: 8 },
     #[cfg(feature = "counts")]
-    Function { name: "makhroeng_state_from_pressure", call: state_from_pressure, counts: true },
+    Function { name: "makhroeng_state_from_pressure", call: state_from_pressure, gives: ALL },
 ];
 pub const BY_DENSITY: &[Function] = &[
-    Function { name: "makhroeng_from_density", call: from_density, counts: false },
+    Function { name: "makhroeng_from_density", call: from_density, gives: 8 },
     #[cfg(feature = "counts")]
-    Function { name: "makhroeng_state_from_density", call: state_from_density, counts: true },
+    Function { name: "makhroeng_state_from_density", call: state_from_density, gives: ALL },
 ];
 
 /// `figures` are lent as bits, so that no pattern in them is taken for a number on the way.

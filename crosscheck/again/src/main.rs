@@ -2,9 +2,11 @@
 //! bit for bit.
 //!
 //!     again [--states N] [--texts N] [--seed S] [--threads N]    compares with the library it is linked with
-//!     again --ask        reads lines `P T p` or `D T rho`, each number as the hexadecimal digits of its bits, and answers each
+//!     again --ask        reads lines `P T p` or `D T rho`, each number as the hexadecimal digits of its bits, and answers each;
+//!                        `P T p conductivity` or `D T rho conductivity` asks for that too
 //!     again --report     reads a sheet and writes its report
 
+mod conductivity;
 mod doors;
 mod equation;
 mod melting;
@@ -112,9 +114,11 @@ fn ask() -> io::Result<()> {
             ("D", Some(t), Some(rho)) => doors::from_density(t, rho),
             _ => return Err(io::Error::other(format!("not a question: {line}"))),
         };
+        let answer = if parts.get(3) == Some(&"conductivity") { doors::asked(answer) } else { answer };
         match answer {
             Ok((phase, state)) => {
-                writeln!(out, "{phase:?} {} fallen {}", state.eight.map(|x| format!("{:016x}", x.to_bits())).join(" "), state.fallen)?
+                let carried = state.conductivity.map_or(String::new(), |x| format!(" conductivity {:016x}", x.to_bits()));
+                writeln!(out, "{phase:?} {} fallen {}{carried}", state.eight.map(|x| format!("{:016x}", x.to_bits())).join(" "), state.fallen)?
             }
             Err(number) => writeln!(out, "{number}")?,
         }

@@ -265,15 +265,17 @@ fn case_of(rng: &mut Rng, door: Door, kind: usize) -> (f64, f64) {
     }
 }
 
-/// How many are lent: fewer than eight now and then, and more. With the count nine are right, and eight will do.
-fn length(rng: &mut Rng, counts: bool) -> usize {
-    (match (rng.below(20), counts) {
+/// How many are lent: fewer than eight now and then, and more. For all that a state carries it is ten, and eight or nine will do; a library that
+/// gives nine is lent as many.
+fn length(rng: &mut Rng, gives: usize) -> usize {
+    (match (rng.below(20), gives) {
         (0, _) => rng.below(8),
-        (1..=4, false) => rng.between(9, 24),
-        (_, false) => 8,
-        (1..=2, true) => 8,
-        (3..=8, true) => rng.between(10, 12),
-        (_, true) => 9,
+        (1..=4, 8) => rng.between(9, 24),
+        (_, 8) => 8,
+        (1..=2, _) => 8,
+        (3..=6, _) => 9,
+        (7..=10, _) => rng.between(11, 12),
+        _ => 10,
     }) as usize
 }
 
@@ -296,25 +298,32 @@ struct Call {
     len: usize,
     number: u32,
     figures: [u64; ROOM],
+    right: Answer,
     right_number: u32,
     right_figures: [u64; ROOM],
 }
 
 impl Call {
-    fn of(function: &Function, t: f64, x: f64, answer: &Answer, rng: &mut Rng) -> Call {
-        let len = length(rng, function.counts);
+    /// `answer` is the door's where it is not asked for the conductivity (RULES 12 and 5.5).
+    fn of(function: &Function, t: f64, x: f64, answer: Answer, rng: &mut Rng) -> Call {
+        let len = length(rng, function.gives);
         let mut figures = [0u64; ROOM];
         figures.iter_mut().for_each(|figure| *figure = rng.bits());
         let mut right_figures = figures;
-        let answer = if len < 8 { &Err(15) } else { answer };
-        if let Ok((_, state)) = answer {
-            right_figures[GUARD..GUARD + 8].copy_from_slice(&state.eight.map(f64::to_bits));
-            if function.counts && len > 8 {
-                right_figures[GUARD + 8] = f64::from(state.fallen).to_bits();
+        let given = len.min(function.gives);
+        let right = match given {
+            ..=7 => Err(15),
+            8 | 9 => answer,
+            _ => doors::asked(answer),
+        };
+        if let Ok((_, state)) = right {
+            let carried = state.eight.into_iter().chain([f64::from(state.fallen)]).chain(state.conductivity);
+            for (figure, carried) in right_figures[GUARD..GUARD + given].iter_mut().zip(carried) {
+                *figure = carried.to_bits();
             }
         }
         let number = (function.call)(t, x, &mut figures[GUARD..GUARD + len]);
-        Call { name: function.name, len, number, figures, right_number: self::number(answer), right_figures }
+        Call { name: function.name, len, number, figures, right, right_number: self::number(&right), right_figures }
     }
 
     fn is_right(&self) -> bool {
@@ -351,13 +360,20 @@ fn case(seed: u64, index: u64, door: Door, tally: &mut Tally) {
     let kind = kind.expect("the shares are 100 in all");
     let (t, x) = case_of(&mut rng, door, kind);
     let answer = door.ask(t, x);
-    let calls: Vec<Call> = door.functions().iter().map(|function| Call::of(function, t, x, &answer, &mut rng)).collect();
+    let calls: Vec<Call> = door.functions().iter().map(|function| Call::of(function, t, x, answer, &mut rng)).collect();
 
     let column = ANSWERS.iter().position(|&answer| answer == calls[0].right_number).expect("an answer of RULES 3.1 or a phase");
     tally.counts[kind][column] += 1;
     let fallen = answer.ok().map(|(_, state)| state.fallen);
     if let Some(fallen) = fallen {
         *tally.fallen.entry(fallen).or_default() += 1;
+    }
+    for call in &calls {
+        match call.right {
+            Ok((_, state)) => state.conductivity.into_iter().for_each(|x| tally.conductivities.note(x)),
+            Err(7) if answer.is_ok() => tally.conductivities.failed += 1,
+            Err(_) => {}
+        }
     }
     let wrong = || calls.iter().filter(|call| !call.is_right());
     wrong().for_each(|call| tally.change(call.change()));
@@ -381,6 +397,7 @@ pub fn compare(seed: u64, states: u64, threads: usize) -> Vec<(Tally, Duration)>
         );
         let fallen: Vec<String> = tally.fallen.iter().map(|(rows, states)| format!("{rows} in {states}")).collect();
         println!("  rows that fell away: {}", fallen.join(", "));
+        println!("  thermal conductivities: {}", tally.conductivities);
         told.push((tally, took));
     }
     told

@@ -2,9 +2,43 @@
 //! whatever the number of threads.
 
 use std::collections::BTreeMap;
+use std::fmt::{self, Display, Formatter};
 use std::io::{stderr, IsTerminal, Write};
 use std::sync::atomic::{AtomicU64, Ordering::Relaxed};
 use std::time::{Duration, Instant};
+
+/// Those that were asked for where a door answers.
+pub struct Conductivities {
+    pub compared: u64,
+    pub failed: u64,
+    pub least: f64,
+    pub most: f64,
+}
+
+impl Conductivities {
+    const NONE: Conductivities = Conductivities { compared: 0, failed: 0, least: f64::INFINITY, most: f64::NEG_INFINITY };
+
+    pub fn note(&mut self, x: f64) {
+        self.add(Conductivities { compared: 1, failed: 0, least: x, most: x });
+    }
+
+    fn add(&mut self, other: Conductivities) {
+        self.compared += other.compared;
+        self.failed += other.failed;
+        self.least = self.least.min(other.least);
+        self.most = self.most.max(other.most);
+    }
+}
+
+impl Display for Conductivities {
+    fn fmt(&self, f: &mut Formatter<'_>) -> fmt::Result {
+        write!(f, "{} compared", self.compared)?;
+        if self.compared > 0 {
+            write!(f, ", {:.6} to {:.6} W/(m K)", self.least, self.most)?;
+        }
+        write!(f, "; {} failed", self.failed)
+    }
+}
 
 /// How many differing cases are shown.
 const SHOWN: usize = 8;
@@ -21,6 +55,7 @@ pub struct Tally {
     pub changes: BTreeMap<String, u64>,
     /// how many states had each count of rows that fell away
     pub fallen: BTreeMap<u32, u64>,
+    pub conductivities: Conductivities,
 }
 
 /// Adds up by key.
@@ -33,7 +68,16 @@ fn add_up<K: Ord>(mine: &mut BTreeMap<K, u64>, theirs: BTreeMap<K, u64>) {
 impl Tally {
     fn new(kinds: usize, columns: usize) -> Tally {
         let counts = vec![vec![0; columns]; kinds];
-        Tally { counts, compared: 0, differ: 0, digest: 0, first: Vec::new(), changes: BTreeMap::new(), fallen: BTreeMap::new() }
+        Tally {
+            counts,
+            compared: 0,
+            differ: 0,
+            digest: 0,
+            first: Vec::new(),
+            changes: BTreeMap::new(),
+            fallen: BTreeMap::new(),
+            conductivities: Conductivities::NONE,
+        }
     }
 
     pub fn note(&mut self, index: u64, digest: u64, same: bool, tell: impl Fn() -> String) {
@@ -63,6 +107,7 @@ impl Tally {
         self.first.truncate(SHOWN);
         add_up(&mut self.changes, other.changes);
         add_up(&mut self.fallen, other.fallen);
+        self.conductivities.add(other.conductivities);
     }
 
     pub fn print(&self, title: &str, kinds: &[&str], columns: &[String]) {

@@ -3,6 +3,8 @@
 
 #![allow(dead_code)]
 
+#[path = "../src/conductivity.rs"]
+mod conductivity;
 #[path = "../src/doors.rs"]
 mod doors;
 #[path = "../src/equation.rs"]
@@ -66,12 +68,51 @@ fn count(t: f64, state: &equation::State, by_pressure: bool) -> u32 {
     }
 }
 
-/// `counts`: with the count behind the eight numbers, where nine are lent.
+/// Eq. (3) of 002 (docs/ARRANGEMENT.md, section 13), or what a fault takes for it.
+fn dilute_gas(t: f64, r: f64) -> f64 {
+    let of = if fault("root-of-the-temperature") { t } else { r };
+    let each = |k: u32| {
+        let (l, power) = (conductivity::L[k as usize], numbers::whole_power(r, k));
+        if fault("table-3-times-the-powers") {
+            l * power
+        } else {
+            l / power
+        }
+    };
+    numbers::root(of, 1, 2) / (((each(0) + each(1)) + each(2)) + each(3))
+}
+
+/// Eq. (10), likewise.
+fn critical_enhancement(r: f64, delta: f64) -> f64 {
+    let (t, d) = (r - 1.0, delta - 1.0);
+    let square = if fault("d-for-its-square") { d } else { d * d };
+    let cube = (d * d) * d;
+    let mixed = if fault("2.302-times-t-d") { 2.302 * (t * d) } else { (2.302 * t) * d };
+    let three = (8.865 * t + 4.16 * square) + mixed;
+    let (e, _said) = numbers::exponential(if fault("sign-of-the-cube-turned") { three + cube } else { three - cube });
+    (-17.47 - 44.88 * t) / (((0.8563 - e) - 0.4503 * d) - 7.197 * t)
+}
+
+/// Eq. (1), likewise.
+fn conductivity(t: f64, rho: f64) -> Option<f64> {
+    let r = if fault("r-as-one-over-tau") { 1.0 / (equation::CRITICAL_TEMPERATURE / t) } else { t / equation::CRITICAL_TEMPERATURE };
+    let delta = rho / equation::CRITICAL_DENSITY;
+    let residual = conductivity::residual(r, delta);
+    let residual = if fault("table-4-as-milliwatts") { residual / 1000.0 } else { residual };
+    let enhancement = if fault("no-enhancement") { 0.0 } else { critical_enhancement(r, delta) };
+    let sum = (dilute_gas(t, r) / 1000.0 + residual) + enhancement / 1000.0;
+    Some(if fault("conductivity-in-milliwatts") { 1000.0 * sum } else { sum }).filter(|x| x.is_finite())
+}
+
+/// `counts`: with the count behind the eight numbers, where nine are lent, and the conductivity behind it, where ten are.
 fn answer(t: f64, x: f64, door: fn(f64, f64) -> doors::Answer, figures: &mut [f64], counts: bool) -> u32 {
     if fault("refuses-everything") {
         return 7;
     }
     if figures.len() == 8 && counts && fault("15-where-eight-are-lent") {
+        return 15;
+    }
+    if figures.len() == 9 && counts && fault("15-where-nine-are-lent") {
         return 15;
     }
     if figures.len() < 8 {
@@ -86,6 +127,11 @@ fn answer(t: f64, x: f64, door: fn(f64, f64) -> doors::Answer, figures: &mut [f6
         Ok(_) if fault("solid-at-the-melting-pressure") && by_pressure && melting::melting_pressure(t) == Some(x) => 19,
         Ok((phase, state)) => {
             let mut eight = state.eight;
+            let conductivity = conductivity(eight[0], eight[2]);
+            let asked = counts && figures.len() > 9;
+            if asked && conductivity.is_none() {
+                return 7;
+            }
             if fault("sound-speed-one-float-up-in-one-of-4096") && eight[7].to_bits() % 4096 == 7 {
                 eight[7] = f64::from_bits(eight[7].to_bits() + 1);
             }
@@ -95,8 +141,8 @@ fn answer(t: f64, x: f64, door: fn(f64, f64) -> doors::Answer, figures: &mut [f6
             if fault("ninth-number") && figures.len() > 8 && !counts {
                 figures[8] = 0.0;
             }
-            if fault("tenth-number") && figures.len() > 9 && counts {
-                figures[9] = 0.0;
+            if fault("eleventh-number") && figures.len() > 10 && counts {
+                figures[10] = 0.0;
             }
             if fault("sound-speed-one-float-up-beside-the-count") && counts {
                 eight[7] = f64::from_bits(eight[7].to_bits() + 1);
@@ -114,6 +160,18 @@ fn answer(t: f64, x: f64, door: fn(f64, f64) -> doors::Answer, figures: &mut [f6
                 // SAFETY: the comparison keeps numbers there
                 unsafe { *figures.as_mut_ptr().add(8) = f64::from(state.fallen) };
             }
+            if let Some(x) = conductivity {
+                if asked && !fault("no-conductivity") || !counts && figures.len() > 9 && fault("conductivity-beside-the-eight") {
+                    figures[9] = x;
+                }
+                if counts && figures.len() == 9 && fault("conductivity-behind-the-nine-lent") {
+                    // SAFETY: the comparison keeps numbers there
+                    unsafe { *figures.as_mut_ptr().add(9) = x };
+                }
+            }
+            if asked && fault("7-with-figures-in-one-of-64") && eight[7].to_bits() % 64 == 7 {
+                return 7;
+            }
             match phase {
                 doors::Phase::Vapour => 256,
                 doors::Phase::Liquid => 257,
@@ -126,6 +184,9 @@ fn answer(t: f64, x: f64, door: fn(f64, f64) -> doors::Answer, figures: &mut [f6
             }
             if counts && figures.len() > 8 && fault("count-where-refused") {
                 figures[8] = 0.0;
+            }
+            if counts && figures.len() > 9 && fault("conductivity-where-refused") {
+                figures[9] = 0.0;
             }
             match number {
                 5 if fault("19-before-5") && above_the_line => 19,

@@ -1,4 +1,5 @@
 -- The formula, operation by operation, each literal the number as printed. Assumes nothing.
+use mathlib.Core.Path.{refl}
 use lib.Ieee.{neg, ofBits, round}
 use Rattle.num_working.specs.Number.{fraction, decimal}
 use Rattle.num_powers.specs.Power.{power}
@@ -13,14 +14,14 @@ unfolding dilute value power decimal fraction neg ofBits round
 returns c =
     let rooted = c .before .before in
     let third = rooted .before in
-    simp (
+    rw (
       c .over4 .ensures,
       c .before .plain .ensures,
       rooted .root .ensures,
       third .over3 .ensures,
       third .before .over2 .ensures,
       third .before .before .over .ensures,
-    )
+    ) refl
 
 pub dilute-gas-spec : {M : Type 1} → statement M
 dilute-gas-spec =

@@ -1,4 +1,5 @@
 -- The formula, operation by operation, each literal the number as printed. Assumes nothing.
+use mathlib.Core.Path.{refl}
 use lib.Ieee.{neg, ofBits, round}
 use Rattle.num_working.specs.Number.{fraction, decimal}
 use Rattle.num_formulas.specs.Formula.{value}
@@ -11,13 +12,13 @@ returns : tie.Need-returns
 unfolding conductivity.enhancement value decimal fraction neg ofBits round
 returns c =
     let raised = c .before .before .before in
-    simp (
+    rw (
       c .over .ensures,
       c .before .plain .ensures,
       c .before .before .answer-alone .ensures,
       raised .exponential .ensures,
       raised .before .exponent .ensures,
-    )
+    ) refl
 
 pub enhancement-spec : {M : Type 1} → statement M
 enhancement-spec =

@@ -25,11 +25,24 @@ typedef uint32_t door(double, double, double *);
 static uint32_t lib_pressure(double t, double p, double *f) { return makhroeng_from_pressure(t, p, f, 8); }
 static uint32_t lib_density(double t, double r, double *f) { return makhroeng_from_density(t, r, f, 8); }
 
+/* The same with the conductivity, in the tenth place; of C the ninth, the count, is not compared. */
+static uint32_t lib_conducting(double t, double r, double *f) {
+    uint32_t a = makhroeng_state_from_density(t, r, f, 10);
+    f[8] = 0;
+    return a;
+}
+static uint32_t with_conductivity(uint32_t a, double *f, double conductivity(double, double)) {
+    if (a >= 256) f[9] = conductivity(f[0], f[2]);
+    return a;
+}
+static uint32_t twin_conducting(double t, double r, double *f) { return with_conductivity(twin_from_density(t, r, f), f, twin_conductivity); }
+static uint32_t peer_conducting(double t, double r, double *f) { return with_conductivity(peer_from_density(t, r, f), f, peer_conductivity); }
+
 /* The best time of a state, in ns, over the answered points. */
 static double states(door *d, const double *second, int rounds) {
     double best = 1e18;
     for (int k = 0; k < rounds; k++) {
-        double f[8], s = 0, a = now();
+        double f[10], s = 0, a = now();
         for (int i = 0; i < N; i++) { d(T[i], second[i], f); s += f[7]; }
         double t = (now() - a) / N;
         sink = s;
@@ -66,7 +79,7 @@ static void compare(const char *name, door *lib, door *twin, double low, double 
     for (int i = 0; i < COMPARED; i++) {
         double t = 216 + 308 * uniform(), x = low + (high - low) * uniform() * (i % 2 ? 1 : uniform());
         if (i % 8 == 0) t = 302 + 4 * uniform();
-        double f[8] = {0}, g[8] = {0};
+        double f[10] = {0}, g[10] = {0};
         uint32_t a = lib(t, x, f), b = twin(t, x, g);
         if (a != b || memcmp(f, g, sizeof f)) { if (differ++ < 5) printf("differs at %.17g %.17g: %u %u\n", t, x, a, b); }
         if (a < 32) given[a]++; else answered++;
@@ -92,6 +105,7 @@ int main(int argc, char **argv) {
         if (fabs(g[2] / f[2] - 1) > far) far = fabs(g[2] / f[2] - 1);
         i++;
     }
+    compare("with the conductivity", lib_conducting, twin_conducting, 0.09, 1310);
     printf("the peer's densities are within %.1e of the library's\n\n", far);
     twin_worked = peer_worked = 0;
     states(twin_from_pressure, P, 1); states(peer_from_pressure, P, 1);
@@ -101,6 +115,8 @@ int main(int argc, char **argv) {
     printf("%-28s %10.0f %10.0f %6.2f %10.0f %6.2f\n", "a state by the pressure door", a, b, a / b, c, a / c);
     double d = states(lib_density, R, rounds), e = states(twin_from_density, R, rounds), h = states(peer_from_density, R, rounds);
     printf("%-28s %10.0f %10.0f %6.2f %10.0f %6.2f\n", "a state by the density door", d, e, d / e, h, d / h);
+    double l = states(lib_conducting, R, rounds), m = states(twin_conducting, R, rounds), n = states(peer_conducting, R, rounds);
+    printf("%-28s %10.0f %10.0f %6.2f %10.0f %6.2f\n", "the same with conductivity", l, m, l / m, n, l / n);
     printf("(a search works %.1f pressures; the peer's %.1f, with their slopes)\n\n", probes, steps);
 
     printf("%-28s %10s %10s\n", "a sheet by lines", "us", "us a line");

@@ -369,6 +369,21 @@ static double melting_pressure(double t) {
     return 517950.0 * (1.0 + 1955.5390 * y + 2055.4593 * power(y, 2));
 }
 
+/* ---- ARRANGEMENT.md, section 13: the thermal conductivity, in W/(m K) */
+
+double NAME(conductivity)(double t, double rho) {
+    static const double B1[6] = { 1.00128e-2, 5.60488e-2, -8.11620e-2, 6.24337e-2, -2.06336e-2, 2.53248e-3 };
+    static const double B2[6] = { 4.30829e-3, -3.58563e-2, 6.71480e-2, -5.22855e-2, 1.74571e-2, -1.96414e-3 };
+    double r = t / TC, delta = rho / RHOC, r2 = r * r;
+    double dilute = root(r, 1, 2) / (1.51874307e-2 + 2.80674040e-2 / r + 2.28564190e-2 / r2 + -7.41624210e-3 / (r2 * r));
+    double p = delta, residual = (B1[0] + B2[0] * r) * p;
+    for (int i = 1; i < 6; i++) { p = p * delta; residual = residual + (B1[i] + B2[i] * r) * p; }
+    double a = r - 1.0, d = delta - 1.0, d2 = d * d;
+    double e = expo(8.865 * a + 4.16 * d2 + 2.302 * a * d - d2 * d);
+    double enhancement = (-17.47 - 44.88 * a) / (0.8563 - e - 0.4503 * d - 7.197 * a);
+    return dilute / 1000.0 + residual + enhancement / 1000.0;
+}
+
 /* ---- RULES 3.3 and 5: the doors, with what the library's functions for C return where eight figures are lent */
 
 static uint32_t in_range(double t, double x, double low, double high) {

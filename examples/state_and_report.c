@@ -22,10 +22,10 @@ int main(void) {
         printf("220 K and 10 MPa: liquid, %.6f kg/m3, %.0f of the equation's 42 terms fell away\n",
                carried[MAKHROENG_DENSITY], carried[MAKHROENG_FALLEN]);
 
-    /* for the trace heating: lending ten figures asks for the thermal conductivity too */
+    /* liquid agent at -20 C and 25 bar absolute: lending ten figures asks for the thermal conductivity too */
     double heating[10];
-    if (makhroeng_state_from_density(310.0, 400.0, heating, 10) == MAKHROENG_SUPERCRITICAL)
-        printf("310 K and 400 kg/m3: supercritical, %.2f mW/(m K)\n", 1000.0 * heating[MAKHROENG_CONDUCTIVITY]);
+    if (makhroeng_state_from_pressure(253.15, 2.5e6, heating, 10) == MAKHROENG_LIQUID)
+        printf("253.15 K and 2.5 MPa: liquid, %.6f W/(m K)\n", heating[MAKHROENG_CONDUCTIVITY]);
 
     const char *sheet = "N 75000000\n"
                         "C 1 3131500 P 10000000 40000\n"

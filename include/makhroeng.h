@@ -41,7 +41,7 @@ enum {
     MAKHROENG_CP,          /* J/(kg K) */
     MAKHROENG_SOUND,       /* m/s */
     MAKHROENG_FALLEN,      /* how many of the equation's 42 terms fell away: their exponential's argument is below -36 */
-    MAKHROENG_CONDUCTIVITY /* W/(m K), the thermal conductivity, which is worked where ten are lent */
+    MAKHROENG_CONDUCTIVITY /* W/(m K), the thermal conductivity: the two state_ functions work it where ten are lent */
 };
 
 /* The state at a temperature in K and a pressure in Pa, whatever two doubles these are, infinities and NaN included.
@@ -56,10 +56,10 @@ uint32_t makhroeng_from_density(double temperature, double density, double *figu
 /* The state with all that it carries, as far as figures are lent: the eight numbers of makhroeng_from_pressure, bit for
  * bit, in figures[0] to figures[7]; where len is at least 9 the count of the terms that fell away, a whole number from
  * 0 to 35, in figures[8]; and where len is at least 10, which asks for it, the thermal conductivity in figures[9], in
- * W/(m K) (RULES 5.5). It returns the same; but where the conductivity is asked for and its working fails, 7, which no
- * state is known to do. Where it refuses, every figure is as it was; where len is below 8: 15.
+ * W/(m K) (RULES 5.5). It returns the same, but 7 where len is at least 10 and the conductivity's working fails; no such
+ * state is known. Where it refuses, every figure is as it was; where len is below 8: 15.
  * Figures after the last that a state carries are never touched. A later version may carry more, in figures[10] and on.
- * Within 10 K of the critical point the correlation is not held to 5 %, and it does not rise there as it should. */
+ * The correlation's critical enhancement is not vouched for within 10 K of the critical point (README). */
 uint32_t makhroeng_state_from_pressure(double temperature, double pressure, double *figures, size_t len);
 
 /* The same from a temperature in K and a density in kg/m3. */

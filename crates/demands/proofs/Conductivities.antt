@@ -2,9 +2,9 @@
 -- the public functions. Assumes nothing.
 use Prim.Native.Nat.{ℕ}
 use mathlib.Core.Path.{_≡_, refl, sym, ap, _∙_}
-use mathlib.Core.Bool.{Bool, true, false, cond}
+use mathlib.Core.Bool.{Bool, true, false}
 use native.Mathlib.Omega.{arith}
-use lib.Ieee.{Float, binary64, ofBits}
+use lib.Ieee.{Float}
 use Rattle.num_working.specs.Working.{orElse}
 use Rattle.num_working.specs.declared.Worked.{Worked}
 use Rattle.num_working.specs.declared.Worked.the-variants.{Number, Failed}
@@ -16,25 +16,38 @@ use Rattle.equation.proofs.Laws.{lawful}
 use Rattle.door_limits.specs.declared.Limits.{Limits}
 use Rattle.door_answers.specs.declared.Answer.{Answer}
 use Rattle.door_answers.specs.declared.Answer.the-variants as answer
+use Rattle.door_pressure.specs.PressureDoor as pressure
 use Rattle.door_pressure.specs.PressureDoor.{pressureDoor}
+use Rattle.door_pressure.proofs.from_pressure.Reads as from-pressure
+use Rattle.door_density.specs.DensityDoor as density
 use Rattle.door_density.specs.DensityDoor.{densityDoor}
+use Rattle.door_density.proofs.from_density.Reads as from-density
 use Rattle.door_conductivity.specs.Conducted.{carrying, conducting, withConductivity}
 use Rattle.door_conductivity.specs.declared.Carried.{Carried}
 use Rattle.door_conductivity.specs.declared.Conductivity.{Conductivity}
 use Rattle.door_conductivity.specs.declared.Conductivity.the-variants.{NotAsked, Is}
-use Rattle.door_conductivity.specs.declared.Conducted.{Conducted}
 use Rattle.door_conductivity.specs.declared.Conducted.the-variants as conducted
 use Rattle.door_conductivity.proofs.with_conductivity.Reads as with-conductivity
-use Rattle.demands.specs.Demands.{Whatever, Exactly, Settled, given, not-given, Numbered, to-9}
-use Rattle.demands.specs.Conductivities.{unconducted, Unasked, RefusesAsked, by-door, no-conductivity, AnswersAsked, AskedRefusals, AskedAnswers}
+use Rattle.demands.specs.Demands.{Whatever, Exactly, Settled, given, not-given, to-9}
+use Rattle.demands.specs.Conductivities.{withoutConductivity, Unasked, PressureByAny, DensityByAny, RefusesAsked, by-door, no-conductivity, AnswersAsked, AskedRefusals, AskedAnswers}
 use Rattle.demands.specs.Conductivities.{SettledAsked, given-with, given-none, SameConductivity}
 use Rattle.demands.proofs.PressureDoors.{pressure-answers}
 use Rattle.demands.proofs.DensityDoors.{density-answers}
 
 -- ---- not asked for
 pub not-asked : (E : Equation) (a : Answer) → Unasked E a
-not-asked E (answer.Refused n) = record { same = refl; none = λ c e. never (cc); not-worked = λ F. refl }
-not-asked E (answer.State s) = record { same = refl; none = λ c e. cc; not-worked = λ F. refl }
+not-asked E (answer.Refused n) = record { same = refl; none = λ c e. never (cc); by-any = λ F. refl }
+not-asked E (answer.State s) = record { same = refl; none = λ c e. cc; by-any = λ F. refl }
+
+-- no step of a door looks at it
+module _ (E : Equation) (L : Limits) where
+  pub pressure-by-any : PressureByAny E L
+  unfolding pressure.pressureDoor pressure.thawed pressure.unboxed pressure.entered pressure.beneath pressure.vapour pressure.liquid
+  pressure-by-any f t p = refl
+
+  pub density-by-any : DensityByAny E L
+  unfolding density.densityDoor density.unboxed density.entered density.beneath density.inPhase
+  density-by-any f t rho = refl
 
 -- ---- asked for
 module _ (E : Equation) where
@@ -111,7 +124,7 @@ with-conductivity-asked a r s h k =
     let e : r ≡ withConductivity of1996 true (a .1 .0) = rw k at h in
     rw e (asked-refusals of1996 (a .1 .0), asked-answers of1996 (a .1 .0))
 
-pub with-conductivity-unasked : Whatever (with-conductivity.Post tt) (λ a r. a .0 ≡ false → unconducted r ≡ a .1 .0)
+pub with-conductivity-unasked : Whatever (with-conductivity.Post tt) (λ a r. a .0 ≡ false → withoutConductivity r ≡ a .1 .0)
 with-conductivity-unasked a r s h k = rw (h, k) (not-asked of1996 (a .1 .0) .same)
 
 carries : (asked : Bool) (a : Answer) (c : Carried) (x : Float) → withConductivity of1996 asked a ≡ conducted.State c → c .conductivity ≡ Is x
@@ -130,3 +143,12 @@ with-conductivity-carries a r s h c x e k = carries (a .0) (a .1 .0) c x (sym h 
 
 pub with-conductivity-settles : Whatever (with-conductivity.Post tt) (λ a r. Settled (a .1 .0) → SettledAsked r)
 with-conductivity-settles a r s h k = rw h (settles (a .1 .0) k (a .0))
+
+pub from-density-same-conductivity : Whatever (from-pressure.Post tt) (λ a r.
+    Whatever (with-conductivity.Post tt) (λ b q. b .0 ≡ true → b .1 .0 ≡ r → (x : Carried) → q ≡ conducted.State x
+    → Whatever (from-density.Post tt) (λ d u. d .0 ≡ a .0 → d .1 .0 ≡ a .1 .0 → d .1 .1 .0 ≡ x .state .rho
+    → Whatever (with-conductivity.Post tt) (λ e v. e .0 ≡ true → e .1 .0 ≡ u → (y : Carried) → v ≡ conducted.State y → y .conductivity ≡ x .conductivity))))
+from-density-same-conductivity a r s₁ h b q s₂ k b₀ b₁ x i d u s₃ l d₀ d₁ d₂ e v s₄ m e₀ e₁ y j =
+    same-conductivity of1996 (a .0) lawful (a .1 .0) (a .1 .1 .0) x y
+    (rw (← h, ← b₁, ← b₀) (sym k ∙ i))
+    (rw (← d₀, ← d₁, ← d₂, ← l, ← e₁, ← e₀) (sym m ∙ j))

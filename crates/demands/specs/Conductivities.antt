@@ -1,8 +1,9 @@
 -- RULES 5.5: the thermal conductivity, on request, of whatever a door answered, over any equation. Definitions only.
 use Prim.Native.Nat.{ℕ}
 use mathlib.Core.Path.{_≡_}
-use mathlib.Core.Bool.{Bool, true, false}
+use mathlib.Core.Bool.{true, false}
 use lib.Ieee.{Float}
+use Rattle.num_working.specs.declared.Worked.{Worked}
 use Rattle.num_working.specs.declared.Worked.the-variants.{Number, Failed}
 use Rattle.eos_state.specs.declared.State.{State}
 use Rattle.equation.specs.Equation.{Equation}
@@ -19,15 +20,36 @@ use Rattle.door_conductivity.specs.declared.Conducted.the-variants as conducted
 use Rattle.demands.specs.Demands.{Exactly, Numbered}
 
 -- an answer without what it carries on request
-abbrev pub unconducted : Conducted → Answer
-unconducted (conducted.Refused n) = answer.Refused n
-unconducted (conducted.State c) = answer.State (c .state)
+abbrev pub withoutConductivity : Conducted → Answer
+withoutConductivity (conducted.Refused n) = answer.Refused n
+withoutConductivity (conducted.State c) = answer.State (c .state)
 
 -- not asked for: the door's own answer, bit for bit; no conductivity is carried; and nothing hangs on the equation by which it would be worked
 pub record Unasked (E : Equation) (a : Answer) : Type 0 where
-  pub same : unconducted (withConductivity E false a) ≡ a
+  pub same : withoutConductivity (withConductivity E false a) ≡ a
   pub none : (c : Carried) → withConductivity E false a ≡ conducted.State c → c .conductivity ≡ NotAsked
-  pub not-worked : (F : Equation) → withConductivity F false a ≡ withConductivity E false a
+  pub by-any : (F : Equation) → withConductivity F false a ≡ withConductivity E false a
+
+-- nor does the door's own answer hang on it: the same equation with any other conductivity
+abbrev pub conductedBy : (Float → Float → Worked) → Equation → Equation
+conductedBy conductivity E = record {
+  critical = E .critical;
+  vapourPressure = E .vapourPressure;
+  vapourDensity = E .vapourDensity;
+  liquidDensity = E .liquidDensity;
+  meltingPressure = E .meltingPressure;
+  pressure = E .pressure;
+  state = E .state;
+  fallen = E .fallen;
+  conductivity = conductivity;
+}
+
+module _ (E : Equation) (L : Limits) where
+  abbrev pub PressureByAny : Type 0
+  PressureByAny = (f : Float → Float → Worked) (t p : Float) → pressureDoor (conductedBy f E) L t p ≡ pressureDoor E L t p
+
+  abbrev pub DensityByAny : Type 0
+  DensityByAny = (f : Float → Float → Worked) (t rho : Float) → densityDoor (conductedBy f E) L t rho ≡ densityDoor E L t rho
 
 -- asked for: the door's own refusal, or 7 where the working fails at the T and ρ of its state
 pub data RefusesAsked (E : Equation) (a : Answer) : ℕ → Type 0 where

@@ -16,8 +16,8 @@ reduced t = num t ⊘ num (spanWagner .temperature)
 abbrev pub printed : ℕ → ℕ → Formula
 printed digits places = num (decimal digits places)
 
-abbrev pub less : ℕ → ℕ → Formula
-less digits places = num (Ieee.neg (decimal digits places))
+abbrev pub negative : ℕ → ℕ → Formula
+negative digits places = num (Ieee.neg (decimal digits places))
 
 -- ---- the three contributions, with r for T_r
 
@@ -25,7 +25,7 @@ less digits places = num (Ieee.neg (decimal digits places))
 unfoldable pub dilute : Formula → Formula
 dilute r =
     root (record { m = 1; k = 2 }) r
-    ⊘ (printed 151874307 10 ⊕ printed 280674040 10 ⊘ r ⊕ printed 228564190 10 ⊘ r ^^ 2 ⊕ less 741624210 11 ⊘ r ^^ 3)
+    ⊘ (printed 151874307 10 ⊕ printed 280674040 10 ⊘ r ⊕ printed 228564190 10 ⊘ r ^^ 2 ⊕ negative 741624210 11 ⊘ r ^^ 3)
 
 -- eq. (4), Table 4: the residual, in W/(m K), each term by its B₁ᵢ, B₂ᵢ and i
 abbrev pub term : Formula → Formula → Formula → Formula → ℕ → Formula
@@ -34,18 +34,18 @@ term r δ b1 b2 i = (b1 ⊕ b2 ⊗ r) ⊗ δ ^^ i
 unfoldable pub residual : Formula → Formula → Formula
 residual r δ =
     term r δ (printed 100128 7) (printed 430829 8) 1
-    ⊕ term r δ (printed 560488 7) (less 358563 7) 2
-    ⊕ term r δ (less 811620 7) (printed 671480 7) 3
-    ⊕ term r δ (printed 624337 7) (less 522855 7) 4
-    ⊕ term r δ (less 206336 7) (printed 174571 7) 5
-    ⊕ term r δ (printed 253248 8) (less 196414 8) 6
+    ⊕ term r δ (printed 560488 7) (negative 358563 7) 2
+    ⊕ term r δ (negative 811620 7) (printed 671480 7) 3
+    ⊕ term r δ (printed 624337 7) (negative 522855 7) 4
+    ⊕ term r δ (negative 206336 7) (printed 174571 7) 5
+    ⊕ term r δ (printed 253248 8) (negative 196414 8) 6
 
 -- eq. (10): the critical enhancement, in mW/(m K), with t for ΔT_c = T_r − 1 and d for Δρ_c = δ − 1; what its exponential says is dropped
 unfoldable pub exponent : Formula → Formula → Formula
 exponent t d = printed 8865 3 ⊗ t ⊕ printed 416 2 ⊗ d ^^ 2 ⊕ printed 2302 3 ⊗ t ⊗ d ⊖ d ^^ 3
 
 unfoldable pub enhancement : Formula → Formula → Formula
-enhancement t d = (less 1747 2 ⊖ printed 4488 2 ⊗ t) ⊘ (printed 8563 4 ⊖ e^ (exponent t d) ⊖ printed 4503 4 ⊗ d ⊖ printed 7197 3 ⊗ t)
+enhancement t d = (negative 1747 2 ⊖ printed 4488 2 ⊗ t) ⊘ (printed 8563 4 ⊖ e^ (exponent t d) ⊖ printed 4503 4 ⊗ d ⊖ printed 7197 3 ⊗ t)
 
 -- ---- the conductivity, in W/(m K)
 

@@ -23,7 +23,7 @@ fn reduced_at(t: f64) -> f64
 }
 
 // Eq. (3), in mW/(m K).
-fn dilute_gas(r: f64) -> f64
+fn dilute(r: f64) -> f64
     ensures { λ x. ⌜ x ≡ value (dilute (num r)) ⌝ }
 {
     let r2 = r * r;
@@ -67,7 +67,7 @@ fn enhancement(t: f64, d: f64) -> f64
 fn background(r: f64, delta: f64) -> f64
     ensures { λ x. ⌜ x ≡ value (background (num r) (num delta)) ⌝ }
 {
-    dilute_gas(r) / 1000.0 + residual(r, delta)
+    dilute(r) / 1000.0 + residual(r, delta)
 }
 
 // Eq. (1), in W/(m K). The one test at the end stands for all.
@@ -90,5 +90,5 @@ pub fn background_at(t: f64, rho: f64) -> Worked
 pub fn dilute_at(t: f64) -> Worked
     ensures { λ x. ⌜ x ≡ diluteAt t ⌝ }
 {
-    checked(dilute_gas(reduced_at(t)))
+    checked(dilute(reduced_at(t)))
 }

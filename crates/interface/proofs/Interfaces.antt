@@ -2,25 +2,23 @@
 use mathlib.Core.Path.{_≡_, refl, sym, ap, subst, _∙_}
 use mathlib.Core.Bool.{Bool, true, false, cond}
 use mathlib.Core.List.{List, [], _∷_, _++_}
-use Prim.Native.Nat.{ℕ, zero, suc, _≤_, _<_}
+use Prim.Native.Nat.{ℕ, _≤_, _<_}
 use native.Mathlib.Omega.{arith}
 use lib.Dec.{ltb}
-use lib.ListN.{length, getD, take, drop, set}
+use lib.ListN.{length, drop, set}
 use lib.Seq.{take-all, take-nil, set-out}
-use lib.Ieee.{Float, nan}
-use borrow.Author.Tests.{ltb-true, ltb-false, lt-ltb, le-ltb, lt-leb, le-leb}
+use lib.Ieee.{Float}
+use borrow.Author.Tests.{ltb-true, ltb-false, lt-ltb, le-ltb}
 use Rattle.num_working.specs.Number.{whole}
 use Rattle.eos_state.specs.State.{eight}
 use Rattle.eos_state.specs.declared.State.{State}
-use Rattle.equation.specs.Equation.{Equation}
 use Rattle.door_answers.specs.declared.Answer.{Answer}
-use Rattle.door_conductivity.specs.Conducted.{withConductivity}
 use Rattle.door_conductivity.specs.declared.Carried.{Carried}
 use Rattle.door_conductivity.specs.declared.Conducted.{Conducted}
 use Rattle.door_conductivity.specs.declared.Conductivity.the-variants.{NotAsked, Is}
 use Rattle.sheet_report.specs.Report.{ReportIs}
 use Rattle.sheet_report.specs.declared.Written.{Written}
-use Rattle.interface.specs.Interface.{withEight, numberOf, figuresOf, AnsweredIn, laidOver, counted, onRequest, carried, asked, CarriedIn, CountedIn, ReportedIn}
+use Rattle.interface.specs.Interface.{withEight, numberOf, figuresOf, AnsweredIn, laidOver, counted, CarriedIn, CountedIn, ReportedIn}
 
 pub eight-over : (l : List Float) (s : State) → 8 ≤ length l
     → set (set (set (set (set (set (set (set l 0 (s .t)) 1 (s .p)) 2 (s .rho)) 3 (s .u)) 4 (s .h)) 5 (s .cv)) 6 (s .cp)) 7 (s .w) ≡ withEight s l
@@ -58,7 +56,7 @@ behind xs l y true h e = set-out l (length xs) y (omega (arith, ltb-true (length
 behind xs l y false h e = one-more xs l y
 
 -- the eight numbers, where they are lent, are laid over the figures
-eight-laid : (l : List Float) (s : State) (b : Bool) → ltb (length l) 8 ≡ b → cond b l (withEight s l) ≡ cond b l (laidOver (eight s) l)
+pub eight-laid : (l : List Float) (s : State) (b : Bool) → ltb (length l) 8 ≡ b → cond b l (withEight s l) ≡ cond b l (laidOver (eight s) l)
 unfolding withEight laidOver
 eight-laid l s true e = refl
 eight-laid l s false e = ap (λ (r : List Float). r ++ drop 8 l) (sym (take-all (length l) (eight s) (ltb-false (length l) 8 e)))
@@ -87,66 +85,6 @@ asked-in old mid new c x r e p f =
 
 pub refused-in : (old new : List Float) (n r : ℕ) → CountedIn old new (Answer.Refused n) r → CarriedIn old new (Conducted.Refused n) r
 refused-in old new n r p = record { number = p .number; figures = p .figures }
-
--- ---- what a caller may take from it
-
--- of numbers laid over the figures the first are those laid without what comes behind them, and each is lent at its place
-first-laid : (xs ys l : List Float) → take (length xs) (laidOver (xs ++ ys) l) ≡ take (length xs) (laidOver xs l)
-unfolding laidOver
-first-laid [] ys l = refl
-first-laid (x ∷ xs) ys [] = refl
-first-laid (x ∷ xs) ys (z ∷ l) = ap (λ (r : List Float). x ∷ r) (first-laid xs ys l)
-
-at-laid : (xs l : List Float) (i : ℕ) → i < length xs → i < length l → getD (laidOver xs l) i nan ≡ getD xs i nan
-unfolding laidOver
-at-laid [] l i h k = absurd (omega arith)
-at-laid (x ∷ xs) [] i h k = absurd (omega arith)
-at-laid (x ∷ xs) (z ∷ l) zero h k = refl
-at-laid (x ∷ xs) (z ∷ l) (suc i) h k = at-laid xs l i (omega (arith, h)) (omega (arith, k))
-
-first-of : (n : ℕ) (l xs ys : List Float) (b : Bool) → take n xs ≡ take n ys → take n (cond b l xs) ≡ take n (cond b l ys)
-first-of n l xs ys true e = refl
-first-of n l xs ys false e = e
-
--- OF ONE ANSWER OF A DOOR, ITS EIGHT NUMBERS AND ALL THAT ITS STATE CARRIES HAVE THE SAME NUMBER AND THE SAME FIRST EIGHT FIGURES
-pub same-eight : (old new out : List Float) (a : Answer) (r s : ℕ) → CountedIn old new a r → AnsweredIn old out a s → (r ≡ s) × (take 8 new ≡ take 8 out)
-same-eight old new out (Answer.Refused n) r s p q = (p .number ∙ sym (q .number), ap (take 8) (p .figures ∙ sym (q .figures)))
-same-eight old new out (Answer.State x) r s p q = (
-  p .number ∙ sym (q .number),
-  rw (p .figures, q .figures, eight-laid old x (ltb (length old) 8) refl)
-      (first-of 8 old _ _ (ltb (length old) 8) (first-laid (eight x) (whole (x .fallen) ∷ []) old)),
-)
-
--- AND WITH WHAT IT CARRIES ON REQUEST, THE SAME FIRST NINE
-pub same-nine : (old new out : List Float) (c : Carried) (r s : ℕ) → CarriedIn old new (Conducted.State c) r → CountedIn old out (Answer.State (c .state)) s
-    → (r ≡ s) × (take 9 new ≡ take 9 out)
-same-nine old new out c r s p q = (
-  p .number ∙ sym (q .number),
-  rw (p .figures, q .figures) (first-of 9 old _ _ (ltb (length old) 8) (first-laid (counted (c .state)) (onRequest (c .conductivity)) old)),
-)
-
--- WHERE FEWER THAN TEN ARE LENT nothing of the conductivity is worked, and what is handed over is the door's answer with its count
-pub unasked : (E : Equation) (old new : List Float) (a : Answer) (r : ℕ) → length old < 10 → CarriedIn old new (withConductivity E (asked old) a) r
-    → CountedIn old new a r
-unfolding asked
-unasked E old new (Answer.Refused n) r h p = record { number = p .number; figures = p .figures }
-unasked E old new (Answer.State s) r h p =
-    let q = rw (lt-leb 10 (length old) h) at p in
-    record { number = q .number; figures = q .figures }
-
--- WHERE TEN ARE LENT it is asked for
-pub ten-ask : (old : List Float) → 10 ≤ length old → asked old ≡ true
-unfolding asked
-ten-ask old h = le-leb 10 (length old) h
-
--- THE NINTH FIGURE, where it is lent, is how many terms fell away, and THE TENTH, where it is lent and asked for, the conductivity
-pub ninth : (old new : List Float) (c : Carried) (r : ℕ) → CarriedIn old new (Conducted.State c) r → 9 ≤ length old → getD new 8 nan ≡ whole (c .state .fallen)
-ninth old new c r p h = rw (p .figures, le-ltb (length old) 8 (omega (arith, h))) (at-laid (carried c) old 8 (omega arith) (omega (arith, h)))
-
-pub tenth : (old new : List Float) (c : Carried) (x : Float) (r : ℕ) → c .conductivity ≡ Is x → CarriedIn old new (Conducted.State c) r → 10 ≤ length old
-    → getD new 9 nan ≡ x
-tenth old new c x r e p h =
-    rw (p .figures, le-ltb (length old) 8 (omega (arith, h)), e) (at-laid (counted (c .state) ++ (x ∷ [])) old 9 (omega arith) (omega (arith, h)))
 
 -- ---- the report
 

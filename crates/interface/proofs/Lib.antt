@@ -1,2 +1,3 @@
+pub mod Callers
 pub mod Interfaces
 pub mod Unique

@@ -77,7 +77,7 @@ pub record CarriedIn (old new : List Float) (a : Conducted) (r : ℕ) : Type 0 w
   pub number : r ≡ cond (ltb (length old) 8) 15 (conductedNumber a)
   pub figures : new ≡ cond (ltb (length old) 8) old (carriedOf a old)
 
--- the same of a door that isn't asked for the conductivity: what is handed over where fewer than ten are lent (`unasked`, proofs/Interfaces.antt)
+-- the same of a door that isn't asked for the conductivity: what is handed over where fewer than ten are lent (`unasked`, proofs/Callers.antt)
 abbrev pub countedOf : Answer → List Float → List Float
 countedOf (Answer.State s) figures = laidOver (counted s) figures
 countedOf (Answer.Refused n) figures = figures

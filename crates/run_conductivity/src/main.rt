@@ -1,6 +1,7 @@
 // 002's sample points against the library (RULES 8.5), in mW/(m K), each at one unit of its last printed digit: the one
 // that is for the empirical enhancement, by the density door; the one without an enhancement; and of its table of
-// recommended values those where it has none. A line a point, and last points that must not be found right.
+// recommended values those where it has none. A line a point, then points that must not be found right, and last a
+// state whose conductivity fails, which no door gives.
 use door_answers::Answer;
 use door_conductivity::Carried;
 use door_conductivity::Conducted;
@@ -11,6 +12,9 @@ use door_limits::document_01;
 use door_pressure::from_pressure;
 use eos_conductivity::background_at;
 use eos_conductivity::dilute_at;
+use eos_state::Phase;
+use eos_state::State;
+use libc::STDOUT_FILENO;
 use num_working::Worked;
 use run_print::bits::say;
 use run_print::decimal::Cell;
@@ -148,8 +152,43 @@ fn wrong_points() {
     );
 }
 
+// Between the saturated densities, where the divisor of eq. (10) is 0: made up, with no other number.
+fn at_a_pole() -> State {
+    State {
+        t: 272.4,
+        p: 0.0,
+        rho: 757.12363082418,
+        u: 0.0,
+        h: 0.0,
+        cv: 0.0,
+        cp: 0.0,
+        w: 0.0,
+        phase: Phase::Liquid,
+        fallen: 0,
+    }
+}
+
+fn tell_refusal(c: Conducted) {
+    match c {
+        Conducted::State(_) => say(b"answered\n"),
+        Conducted::Refused(n) => {
+            say(b"refused by ");
+            io::print_decimal(STDOUT_FILENO, n as u64);
+            say(b"\n");
+        }
+    }
+}
+
+fn pole() {
+    say(b"a state at a pole of eq. (10), asked for its conductivity: ");
+    tell_refusal(with_conductivity(true, Answer::State(at_a_pole())));
+    say(b"the same, not asked for it: ");
+    tell_refusal(with_conductivity(false, Answer::State(at_a_pole())));
+}
+
 fn main() {
     table_7();
     table_8();
     wrong_points();
+    pole();
 }

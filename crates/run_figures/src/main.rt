@@ -20,7 +20,6 @@ use equation::curve_at;
 use equation::pressure_on;
 use equation::state_on;
 use libc::STDOUT_FILENO;
-use num_working::Worked;
 use num_working::checked;
 use run_print::bits::figure;
 use run_print::bits::say;

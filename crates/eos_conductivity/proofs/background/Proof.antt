@@ -9,7 +9,7 @@ use Rattle.eos_conductivity.proofs.background.Tie as tie
 
 returns : tie.Need-returns
 unfolding value ofBits whole ofInt round
-returns c = rw (c .residual .ensures, c .before .dilute-gas .ensures) refl
+returns c = rw (c .residual .ensures, c .before .dilute .ensures) refl
 
 pub background-spec : {M : Type 1} → statement M
 background-spec = tie.close (tie.spec (λ c κs. search needs) (λ c κs. search needs) returns)

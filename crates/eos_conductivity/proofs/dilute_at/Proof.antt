@@ -11,7 +11,7 @@ returns : tie.Need-returns
 unfolding diluteAt dilute value
 returns c =
     let at = c .before .before in
-    (rw (c .before .dilute-gas .ensures, at .reduced-at .ensures) at (c .checked .ensures)) ∙ once (dilute (reduced (at .before .args .t)))
+    (rw (c .before .dilute .ensures, at .reduced-at .ensures) at (c .checked .ensures)) ∙ once (dilute (reduced (at .before .args .t)))
 
 pub dilute-at-spec : {M : Type 1} → statement M
 dilute-at-spec = tie.close (tie.spec (λ c κs. search needs) (λ c κs. search needs) (λ c κs. search needs) returns)

@@ -1,6 +1,5 @@
 -- The figure is set, or there is none at its place. Assumes nothing.
 use mathlib.Core.Path.{sym}
-use native.Mathlib.Omega.{arith}
 use lib.Seq.{set-out}
 use borrow.Author.Needs.{needs}
 use Rattle.interface.proofs.put_at.Statement.{statement}

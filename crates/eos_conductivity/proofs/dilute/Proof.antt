@@ -4,13 +4,13 @@ use lib.Ieee.{neg, ofBits, round}
 use Rattle.num_working.specs.Number.{fraction, decimal}
 use Rattle.num_powers.specs.Power.{power}
 use Rattle.num_formulas.specs.Formula.{value}
-use Rattle.eos_conductivity.specs.Conductivity.{dilute}
+use Rattle.eos_conductivity.specs.Conductivity as conductivity
 use borrow.Author.Needs.{needs}
-use Rattle.eos_conductivity.proofs.dilute_gas.Statement.{statement}
-use Rattle.eos_conductivity.proofs.dilute_gas.Tie as tie
+use Rattle.eos_conductivity.proofs.dilute.Statement.{statement}
+use Rattle.eos_conductivity.proofs.dilute.Tie as tie
 
 returns : tie.Need-returns
-unfolding dilute value power decimal fraction neg ofBits round
+unfolding conductivity.dilute value power decimal fraction neg ofBits round
 returns c =
     let rooted = c .before .before in
     let third = rooted .before in
@@ -23,8 +23,8 @@ returns c =
       third .before .before .over .ensures,
     ) refl
 
-pub dilute-gas-spec : {M : Type 1} → statement M
-dilute-gas-spec =
+pub dilute-spec : {M : Type 1} → statement M
+dilute-spec =
     tie.close
     (tie.spec
     (λ c κs. search needs)

@@ -114,7 +114,11 @@ fn ask() -> io::Result<()> {
             ("D", Some(t), Some(rho)) => doors::from_density(t, rho),
             _ => return Err(io::Error::other(format!("not a question: {line}"))),
         };
-        let answer = if parts.get(3) == Some(&"conductivity") { doors::asked(answer) } else { answer };
+        let answer = match parts[3..] {
+            [] => answer,
+            ["conductivity"] => doors::asked(answer),
+            _ => return Err(io::Error::other(format!("not a question: {line}"))),
+        };
         match answer {
             Ok((phase, state)) => {
                 let carried = state.conductivity.map_or(String::new(), |x| format!(" conductivity {:016x}", x.to_bits()));

@@ -14,19 +14,23 @@
 extern "C" {
 #endif
 
-/* What a door returns where it answers. Every refusal number is below these. */
-enum { MAKHROENG_VAPOUR = 256, MAKHROENG_LIQUID = 257, MAKHROENG_SUPERCRITICAL = 258 };
+/* This header's version, 1.4.0: 10,000 times the first number, 100 times the second, and the third. A program that is
+ * linked with a shared library may compare it with makhroeng_version(). */
+#define MAKHROENG_VERSION 10400
 
-/* What a door returns where it refuses (RULES 3.1). */
+/* What a door returns where it answers, and what saturation does. Every refusal number is below these. */
+enum { MAKHROENG_VAPOUR = 256, MAKHROENG_LIQUID = 257, MAKHROENG_SUPERCRITICAL = 258, MAKHROENG_SATURATED = 259 };
+
+/* What a door, or saturation, returns where it refuses (RULES 3.1). makhroeng_words has the words of each. */
 enum {
     MAKHROENG_NOT_FINITE = 3,      /* the temperature, or the pressure or density, is infinite or not a number */
-    MAKHROENG_TEMPERATURE_OUT = 4, /* not 216.592 to 523 K */
+    MAKHROENG_TEMPERATURE_OUT = 4, /* not 216.592 to 523 K; for saturation, not 216.592 to below 304.1282 K */
     MAKHROENG_VALUE_OUT = 5,       /* not 10,000 to 30,000,000 Pa, as asked or as worked, or not 0.1 to 1,300 kg/m3 */
     MAKHROENG_CRITICAL_BOX = 6,    /* 303.1282 to 305.1282 K with 7 to 8 MPa, or with 350.7 to 584.5 kg/m3 */
     MAKHROENG_FAILED = 7,          /* a working failed (RULES 4.2), or a saturated density is not above 0 (RULES 5) */
     MAKHROENG_SATURATION = 8,      /* on the saturation line, or strictly between the saturated densities */
     MAKHROENG_NO_CROSSING = 9,     /* the search finds no crossing in its range of densities */
-    MAKHROENG_TOO_SHORT = 15,      /* fewer than eight figures are lent */
+    MAKHROENG_TOO_SHORT = 15,      /* fewer than eight figures are lent; for saturation, fewer than three */
     MAKHROENG_SOLID = 19           /* the pressure, asked or worked, is above the melting pressure: dry ice (RULES 5.4) */
 };
 
@@ -42,6 +46,13 @@ enum {
     MAKHROENG_SOUND,       /* m/s */
     MAKHROENG_FALLEN,      /* how many of the equation's 42 terms fell away: their exponential's argument is below -36 */
     MAKHROENG_CONDUCTIVITY /* W/(m K), the thermal conductivity: the two state_ functions work it where ten are lent */
+};
+
+/* The places in `figures` of saturation. */
+enum {
+    MAKHROENG_VAPOUR_PRESSURE,  /* Pa */
+    MAKHROENG_SATURATED_VAPOUR, /* kg/m3 */
+    MAKHROENG_SATURATED_LIQUID  /* kg/m3 */
 };
 
 /* The state at a temperature in K and a pressure in Pa, whatever two doubles these are, infinities and NaN included.
@@ -65,11 +76,26 @@ uint32_t makhroeng_state_from_pressure(double temperature, double pressure, doub
 /* The same from a temperature in K and a density in kg/m3. */
 uint32_t makhroeng_state_from_density(double temperature, double density, double *figures, size_t len);
 
+/* Where liquid and vapour stand together at a temperature in K, whatever double this is: returns MAKHROENG_SATURATED, with
+ * the vapour pressure, the saturated vapour density and the saturated liquid density in figures[0] to figures[2]; or the
+ * refusal's number, 3, 4 or 7, with every figure as it was. Where len is below 3: 15, whatever the temperature is, with
+ * every figure as it was. Figures after the third are never touched. A cylinder that holds both shows this pressure,
+ * however much it holds. */
+uint32_t makhroeng_saturation(double temperature, double *figures, size_t len);
+
 /* Scores the sheet in text[0] to text[text_len - 1], whatever bytes these are, and writes its report to `out`.
  * Returns the report's length, 13 to 1,512 bytes; bytes of `out` after it are as they were. Where the report is longer
  * than out_len: 0, and every byte of `out` is as it was. 1,512 bytes are enough for any sheet.
  * `text` and `out` must not overlap. */
 uint64_t makhroeng_report(const uint8_t *text, size_t text_len, uint8_t *out, size_t out_len);
+
+/* The words of a refusal, what it says and what to do, in ASCII with no 0 and no line end after them: writes them to `out`
+ * and returns their length; bytes of `out` after them are as they were. 0, with every byte of `out` as it was, where they
+ * are longer than len, or where there is no such refusal. 512 bytes are enough for any. */
+uint64_t makhroeng_words(uint32_t number, uint8_t *out, size_t len);
+
+/* The library's version, as MAKHROENG_VERSION is this header's. */
+uint32_t makhroeng_version(void);
 
 #ifdef __cplusplus
 }

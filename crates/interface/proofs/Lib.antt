@@ -1,3 +1,3 @@
+pub mod Reports
 pub mod Callers
-pub mod Interfaces
 pub mod Unique

@@ -6,9 +6,10 @@ use native.Mathlib.Numerals.{add-one}
 use native.Mathlib.Omega.{arith}
 use lib.ListN.{length, take, drop, set, getD, length-append, length-drop}
 use lib.Seq.{drop-cons, set-append-seam, take-append-seam, drop-append-seam, drop-drop, drop-length, take-suc, take-all}
+use borrow.Author.Tests.{lt-ltb, le-ltb}
 use Rattle.sheet_text.specs.Decimal.{decimal}
 use Rattle.sheet_text.proofs.Decimals.{decimal-small, decimal-large}
-use Rattle.sheet_write.specs.Writing.{overlaid, Wrote}
+use Rattle.sheet_write.specs.Writing.{overlaid, Wrote, Fitted}
 
 module _ (o bs : List ℕ) where
   overlaid-length : length bs ≤ length o → length (overlaid o bs) ≡ length o
@@ -44,6 +45,14 @@ one-digit o n h g = rw (decimal-small n h) (more (48 + n % 10) (nothing o) g)
 pub last-digit : {o out : List ℕ} {k : ℕ} (n : ℕ) → 10 ≤ n → Wrote o out k (decimal (n / 10)) → k < length o
     → Wrote o (set out k (48 + n % 10)) (k + 1) (decimal n)
 last-digit n h w g = rw (decimal-large n h) (more (48 + n % 10) w g)
+
+-- ---- bytes that fit, and bytes that don't
+
+pub fits : {o xs bs : List ℕ} {r : ℕ} → length bs ≤ length o → Wrote o xs r bs → Fitted o xs bs r
+fits {o} {xs} {bs} h w = let e = le-ltb (length o) (length bs) h in record { number = rw e (w .count); bytes = rw e (w .bytes) }
+
+pub stays : {o bs : List ℕ} → length o < length bs → Fitted o o bs 0
+stays {o} {bs} h = let e = lt-ltb (length o) (length bs) h in record { number = rw e refl; bytes = rw e refl }
 
 -- ---- `&mut xs[r..]`: the part of xs that starts at r, and xs with ys in its place
 

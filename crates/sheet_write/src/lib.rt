@@ -1,10 +1,10 @@
 // RULES 7.3: each function writes to the front of out and answers how many bytes it wrote; the bytes after them stay.
-// The bytes fit: a caller knows their number first.
+// The bytes of `put` and `put_number` fit: a caller knows their number first.
 ghost use mathlib.Core.Path.{_≡_};
 ghost use Prim.Native.Nat.{_≤_};
 ghost use lib.ListN.{length};
 ghost use Rattle.sheet_text.specs.Decimal.{decimal};
-ghost use Rattle.sheet_write.specs.Writing.{Wrote};
+ghost use Rattle.sheet_write.specs.Writing.{Wrote, Fitted};
 
 // The bytes of text.
 pub fn put(out: &mut [u8], text: &[u8]) -> usize
@@ -17,6 +17,16 @@ pub fn put(out: &mut [u8], text: &[u8]) -> usize
         i += 1;
     }
     i
+}
+
+// The same where they fit; else 0, and nothing is written.
+pub fn put_whole(out: &mut [u8], text: &[u8]) -> usize
+    ensures { λ r. ⌜ Fitted (now (out .entry)) (now (out .exit)) (now (text .entry)) r ⌝ }
+{
+    if text.len() > out.len() {
+        return 0;
+    }
+    put(out, text)
 }
 
 // How many digits n has: 20 at most.

@@ -120,6 +120,20 @@ pub fn from_density(t: f64, rho: f64) -> Answer {
     settle(phase, &on, rho)
 }
 
+/// RULES 5.6: the vapour pressure and the two saturated densities, of vapour and of liquid.
+pub fn saturation(t: f64) -> Result<[f64; 3], u32> {
+    if !t.is_finite() {
+        return Err(3);
+    }
+    if !within(t, TEMPERATURES) || t >= CRITICAL_TEMPERATURE {
+        return Err(4);
+    }
+    match (vapour_pressure(t), vapour_density(t), liquid_density(t)) {
+        (Some(p), Some(vapour), Some(liquid)) => Ok([p, vapour, liquid]),
+        _ => Err(7),
+    }
+}
+
 /// RULES 5.5: the answer of a door that is asked for the conductivity too, from its answer without that.
 pub fn asked(answer: Answer) -> Answer {
     let (phase, state) = answer?;
@@ -166,6 +180,22 @@ mod tests {
             assert!((enthalpy - u - p / density).abs() < 1e-6);
             assert_eq!(from_density(t, density), from_pressure(t, 5e6));
         }
+    }
+
+    #[test]
+    fn saturation_by_itself() {
+        let refused = |t: f64| saturation(t).err();
+        assert_eq!([f64::NAN, f64::INFINITY, f64::NEG_INFINITY].map(refused), [Some(3); 3]);
+        let beside = |t: f64| [t.to_bits() - 1, t.to_bits(), t.to_bits() + 1].map(f64::from_bits);
+        assert_eq!(beside(216.592).map(refused), [Some(4), None, None]);
+        assert_eq!(beside(CRITICAL_TEMPERATURE).map(refused), [None, Some(4), Some(4)]);
+        assert_eq!([0.0, -250.0, 1e300, 523.0, 523.1].map(refused), [Some(4); 5]);
+        // on the line the pressure door gives 8, and the density door, between the two densities
+        let [p, vapour, liquid] = saturation(293.15).unwrap();
+        assert_eq!(from_pressure(293.15, p), Err(8));
+        let density = |rho: f64| from_density(293.15, rho).map(|(phase, _)| phase);
+        assert_eq!([vapour, liquid].map(density), [Ok(Phase::Vapour), Ok(Phase::Liquid)]);
+        assert_eq!([beside(vapour)[2], beside(liquid)[0]].map(density), [Err(8); 2]);
     }
 
     #[test]

@@ -8,6 +8,12 @@ extern "C" {
     #[cfg(feature = "counts")]
     fn makhroeng_state_from_density(temperature: f64, density: f64, figures: *mut f64, len: usize) -> u32;
     fn makhroeng_report(text: *const u8, text_len: usize, out: *mut u8, out_len: usize) -> u64;
+    #[cfg(feature = "saturation")]
+    fn makhroeng_saturation(temperature: f64, figures: *mut f64, len: usize) -> u32;
+    #[cfg(feature = "saturation")]
+    fn makhroeng_words(number: u32, out: *mut u8, len: usize) -> u64;
+    #[cfg(feature = "saturation")]
+    fn makhroeng_version() -> u32;
 }
 
 /// A function that asks a door, and how many figures it gives where as many are lent: the eight numbers, the count of the rows that fell away,
@@ -58,4 +64,22 @@ fn state_from_density(t: f64, rho: f64, figures: &mut [u64]) -> u32 {
 pub fn report(text: &[u8], out: &mut [u8]) -> u64 {
     // SAFETY: both slices are lent for the call
     unsafe { makhroeng_report(text.as_ptr(), text.len(), out.as_mut_ptr(), out.len()) }
+}
+
+#[cfg(feature = "saturation")]
+pub fn saturation(t: f64, figures: &mut [u64]) -> u32 {
+    // SAFETY: as above
+    unsafe { makhroeng_saturation(t, figures.as_mut_ptr().cast(), figures.len()) }
+}
+
+#[cfg(feature = "saturation")]
+pub fn words(number: u32, out: &mut [u8]) -> u64 {
+    // SAFETY: the slice is lent for the call
+    unsafe { makhroeng_words(number, out.as_mut_ptr(), out.len()) }
+}
+
+#[cfg(feature = "saturation")]
+pub fn version() -> u32 {
+    // SAFETY: it takes nothing
+    unsafe { makhroeng_version() }
 }

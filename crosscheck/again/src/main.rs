@@ -1,9 +1,10 @@
 //! Makhroeng worked a second time, by docs/ (RULES, ARRANGEMENT, READING) and the paper, without the sources, and compared with the library
 //! bit for bit.
 //!
-//!     again [--states N] [--texts N] [--seed S] [--threads N]    compares with the library it is linked with
+//!     again [--states N] [--texts N] [--seed S] [--threads N]    compares with the library it is linked with; saturation at a quarter as many
+//!                        temperatures as there are states, and the words of every refusal
 //!     again --ask        reads lines `P T p` or `D T rho`, each number as the hexadecimal digits of its bits, and answers each;
-//!                        `P T p conductivity` or `D T rho conductivity` asks for that too
+//!                        `P T p conductivity` or `D T rho conductivity` asks for that too; `S T` asks for saturation by itself
 //!     again --report     reads a sheet and writes its report
 
 mod conductivity;
@@ -14,15 +15,21 @@ mod numbers;
 mod saturation;
 mod sheet;
 mod tables;
+#[cfg(any(test, all(linked, feature = "saturation")))]
+mod words;
 
 #[cfg(linked)]
 mod library;
 #[cfg(linked)]
 mod rng;
+#[cfg(all(linked, feature = "saturation"))]
+mod said;
 #[cfg(linked)]
 mod states;
 #[cfg(linked)]
 mod tally;
+#[cfg(all(linked, feature = "saturation"))]
+mod temperatures;
 #[cfg(linked)]
 mod texts;
 
@@ -65,6 +72,8 @@ fn compare(states: u64, texts: u64, seed: u64, threads: usize) -> ExitCode {
     println!("seed {seed}, {threads} threads");
     let mut all = states::compare(seed, states, threads);
     all.push(texts::compare(seed, texts, threads));
+    #[cfg(feature = "saturation")]
+    all.extend([temperatures::compare(seed, states / 4, threads), said::compare(seed, threads)]);
     let mut sums = [0; 2];
     let (mut digest, mut seconds) = (0u64, 0.0);
     for (i, (tally, took)) in all.iter().enumerate() {
@@ -109,6 +118,13 @@ fn ask() -> io::Result<()> {
         let line = line?;
         let parts: Vec<_> = line.split(' ').collect();
         let bits = |i: usize| parts.get(i).and_then(|part| u64::from_str_radix(part, 16).ok()).map(f64::from_bits);
+        if let (["S", _], Some(t)) = (&parts[..], bits(1)) {
+            match doors::saturation(t) {
+                Ok(three) => writeln!(out, "Saturated {}", three.map(|x| format!("{:016x}", x.to_bits())).join(" "))?,
+                Err(number) => writeln!(out, "{number}")?,
+            }
+            continue;
+        }
         let answer = match (parts[0], bits(1), bits(2)) {
             ("P", Some(t), Some(p)) => doors::from_pressure(t, p),
             ("D", Some(t), Some(rho)) => doors::from_density(t, rho),

@@ -19,6 +19,8 @@ mod saturation;
 mod sheet;
 #[path = "../src/tables.rs"]
 mod tables;
+#[path = "../src/words.rs"]
+mod words;
 
 fn fault(name: &str) -> bool {
     option_env!("FAULT") == Some(name)
@@ -198,6 +200,74 @@ fn answer(t: f64, x: f64, door: fn(f64, f64) -> doors::Answer, figures: &mut [f6
     }
 }
 
+/// RULES 5.6, or what a fault takes for it.
+fn saturated(t: f64) -> Result<[f64; 3], u32> {
+    let at_critical = t == equation::CRITICAL_TEMPERATURE;
+    match doors::saturation(t) {
+        Ok(_) if fault("4-at-the-triple-point") && t == 216.592 => Err(4),
+        Ok([p, vapour, liquid]) if fault("saturated-densities-exchanged") => Ok([p, liquid, vapour]),
+        Ok([p, vapour, liquid]) if fault("vapour-pressure-one-float-up-in-one-of-64") && p.to_bits() % 64 == 7 => {
+            Ok([f64::from_bits(p.to_bits() + 1), vapour, liquid])
+        }
+        Err(3) if fault("3-after-4") => Err(4),
+        Err(3) if fault("4-for-an-infinity") && t.is_infinite() => Err(4),
+        // each equation is 1 there, times its critical number
+        Err(4) if fault("critical-temperature-answered") && at_critical => Ok([7377300.0, equation::CRITICAL_DENSITY, equation::CRITICAL_DENSITY]),
+        // the roots of what is below 0 are refused
+        Err(4) if fault("4-above-the-range-alone") && doors::TEMPERATURES[0] <= t && t <= doors::TEMPERATURES[1] && !at_critical => Err(7),
+        answer => answer,
+    }
+}
+
+fn saturation(t: f64, figures: &mut [f64]) -> u32 {
+    let answer = saturated(t);
+    if figures.len() < if fault("two-figures-are-enough") { 2 } else { 3 } {
+        if fault("saturation-where-too-few-are-lent") && !figures.is_empty() {
+            figures[0] = t;
+        }
+        return match answer {
+            Err(3) if fault("15-after-3") => 3,
+            Err(4) if fault("15-after-4") => 4,
+            _ => 15,
+        };
+    }
+    match answer {
+        Ok(three) => {
+            let given = figures.len().min(if fault("third-figure-left-out") { 2 } else { 3 });
+            figures[..given].copy_from_slice(&three[..given]);
+            if fault("fourth-figure") && figures.len() > 3 {
+                figures[3] = 0.0;
+            }
+            if fault("supercritical-where-saturated") {
+                258
+            } else {
+                259
+            }
+        }
+        Err(number) => {
+            if fault("saturation-where-refused") {
+                figures[0] = t;
+            }
+            number
+        }
+    }
+}
+
+/// RULES 14.1, or what a fault takes for it.
+fn words_of(number: u32) -> Option<String> {
+    let number = match number {
+        6 | 8 if fault("words-of-6-and-8-exchanged") => 14 - number,
+        16 if fault("words-of-15-for-16") => 15,
+        _ if fault("words-by-the-lowest-byte") => number % 256,
+        _ => number,
+    };
+    let words = words::words(number)?;
+    match words.split_once(". ") {
+        Some((says, _)) if fault("words-without-what-to-do") => Some(says.to_string()),
+        _ => Some(words),
+    }
+}
+
 /// # Safety
 /// `figures` are `len` numbers.
 #[no_mangle]
@@ -260,4 +330,40 @@ pub unsafe extern "C" fn makhroeng_report(text: *const u8, text_len: usize, out:
         out[report.len()] = 0;
     }
     report.len() as u64
+}
+
+/// # Safety
+/// `figures` are `len` numbers.
+#[no_mangle]
+pub unsafe extern "C" fn makhroeng_saturation(t: f64, figures: *mut f64, len: usize) -> u32 {
+    saturation(t, std::slice::from_raw_parts_mut(figures, len))
+}
+
+/// # Safety
+/// `out` has `len` bytes.
+#[no_mangle]
+pub unsafe extern "C" fn makhroeng_words(number: u32, out: *mut u8, len: usize) -> u64 {
+    let out = std::slice::from_raw_parts_mut(out, len);
+    let Some(words) = words_of(number) else { return 0 };
+    let fits = words.len() < len || words.len() == len && !fault("words-need-a-byte-more");
+    if !fits {
+        if fault("words-as-far-as-they-fit") && words.len() > len {
+            out.copy_from_slice(&words.as_bytes()[..len]);
+        }
+        return if fault("length-of-words-that-do-not-fit") { words.len() as u64 } else { 0 };
+    }
+    out[..words.len()].copy_from_slice(words.as_bytes());
+    if fault("a-zero-after-the-words") && words.len() < len {
+        out[words.len()] = 0;
+    }
+    words.len() as u64
+}
+
+#[no_mangle]
+pub extern "C" fn makhroeng_version() -> u32 {
+    if fault("version-of-before") {
+        words::version() - 100
+    } else {
+        words::version()
+    }
 }

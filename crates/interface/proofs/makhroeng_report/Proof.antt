@@ -1,6 +1,6 @@
 -- The report's length as it was written, or 0 for 15. Assumes nothing.
 use borrow.Author.Needs.{needs}
-use Rattle.interface.proofs.Interfaces.{reported-in}
+use Rattle.interface.proofs.Reports.{reported-in}
 use Rattle.interface.proofs.makhroeng_report.Statement.{statement}
 use Rattle.interface.proofs.makhroeng_report.Tie as tie
 

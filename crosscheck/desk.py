@@ -1,0 +1,234 @@
+"""What is said to a person worked a second time, by RULES 5.6 and 14: what the program `run_desk` must print.
+    python3 crosscheck/desk.py | diff - crates/run_desk/stdout
+
+First the help, as crosscheck/help.txt has it. Then for each text of crates/run_desk/data, and two that are long, its report (sheets.py) and the explanation
+under it. Then saturation by itself at each temperature below. The words of a refusal are read from README.md, which has them letter for letter.
+"""
+import functools
+import math
+import pathlib
+import re
+import sys
+
+sys.dont_write_bytecode = True
+import doors
+import figures
+import numerics
+import sheets
+
+ROOT = pathlib.Path(__file__).parent.parent
+SHEETS = ROOT / "crates" / "run_desk" / "data" / "sheets.txt"
+HELP = ROOT / "crosscheck" / "help.txt"
+TEMPERATURES = [
+    # 216.592, 304.1282 and 523: the float below, itself, the float above
+    "406b12f1a9fbe76c", "406b12f1a9fbe76d", "406b12f1a9fbe76e", "4073020d1b71758d", "4073020d1b71758e", "4073020d1b71758f",
+    "408057ffffffffff", "4080580000000000", "4080580000000001",
+    # 216.6, 220, then every 10 to 300, 303.1282, 304, 304.128, 305.1282
+    "406b133333333333", "406b800000000000", "406cc00000000000", "406e000000000000", "406f400000000000", "4070400000000000", "4070e00000000000",
+    "4071800000000000", "4072200000000000", "4072c00000000000", "4072f20d1b71758e", "4073000000000000", "4073020c49ba5e35", "4073120d1b71758e",
+    # 0, 5, 10, 15, 20, 25 and 29 degrees Celsius, with 273.15 added
+    "4071126666666666", "4071626666666666", "4071b26666666666", "4072026666666666", "4072526666666666", "4072a26666666666", "4072e26666666666",
+    # 0, -0, the least float above 0, -1, -250, 1e300, the infinities, a NaN
+    "0000000000000000", "8000000000000000", "0000000000000001", "bff0000000000000", "c06f400000000000", "7e37e43c8800759c",
+    "7ff0000000000000", "fff0000000000000", "7ff8000000000000",
+]
+# a text is explained from the doors' answers, which its report has asked for already
+doors.by_pressure, doors.by_density = functools.cache(doors.by_pressure), functools.cache(doors.by_density)
+
+
+def words():
+    """RULES 14.1: of each number, what README's table says in its second cell, and what to do in its third."""
+    rows = re.findall(r"^\| (\d+) \| ([^|]+) \| ([^|]+) \|$", (ROOT / "README.md").read_text(encoding="utf-8"), re.M)
+    return {int(number): f"{says}. {do}" for number, says, do in rows}
+
+
+WORDS = words()
+
+
+def saturation(t):
+    """RULES 5.6: the vapour pressure and the saturated densities, of vapour and of liquid."""
+    if not math.isfinite(t):
+        raise doors.Refusal(3)
+    if not 216.592 <= t <= 523.0 or not t < 304.1282:
+        raise doors.Refusal(4)
+    return [doors.worked(figure, t) for figure in (figures.vapour_pressure, figures.vapour_density, figures.liquid_density)]
+
+
+# RULES 14.2: numbers as they are shown
+
+
+def with_places(n, k):
+    return f"{n // 10**k}.{n % 10**k:0{k}}"
+
+
+def shortest(n, k):
+    whole, places = with_places(n, k).split(".")
+    return f"{whole}.{places.rstrip('0') or '0'}"
+
+
+def of_sheet(field, k):
+    return "-" if field == b"-" else shortest(int(field), k)
+
+
+def celsius(field):
+    if field == b"-":
+        return "-"
+    above = int(field) - 2731500
+    return ("-" if above < 0 else "") + shortest(abs(above), 4)
+
+
+def at_or_below(x):
+    """RULES 6.5: the largest whole number not above x; None where it can't be had."""
+    return math.floor(x) if 0.0 <= x < 2.0**53 else None
+
+
+def nearest(x, unit, k):
+    """The whole number at or below x, over the unit to the nearest, a half up."""
+    n = at_or_below(x)
+    return "-" if n is None else with_places((2 * n + unit) // (2 * unit), k)
+
+
+def density(rho):
+    return nearest(rho * 1000.0, 100, 1)
+
+
+def bar(p):
+    return nearest(p, 1000, 2)
+
+
+def down(mg):
+    """What is held or to spare, in kg."""
+    return "-" if mg is None else with_places(mg // 1000, 3)
+
+
+def up(mg):
+    """What is needed or missing, in kg."""
+    return with_places(-(-mg // 1000), 3)
+
+
+# RULES 14.3 and 14.4: the explanation and its warnings
+
+
+def kelvin(temperature):
+    return float(int(temperature)) / 10000.0
+
+
+def of_gauge(_number, temperature, kind, value, volume):
+    """The warning that a line without blanks has where its gauge can't tell, or None."""
+    if not 1 <= int(volume) <= 1000000 or kind != b"P":
+        return None
+    try:
+        p, vapour, liquid = saturation(kelvin(temperature))
+    except doors.Refusal:
+        return None
+    if not -200000.0 <= float(int(value)) - p <= 200000.0:
+        return None
+    held = [down(at_or_below(rho * float(int(volume)))) for rho in (vapour, liquid)]
+    return (f"the gauge can't tell. At {celsius(temperature)} C the vapour pressure is {bar(p)} bar, and {of_sheet(value, 5)} bar is within 2 bar of it: "
+            f"the cylinder holds {held[0]} kg if all is vapour, {held[1]} kg if all is liquid, or anything between. "
+            "Weigh it, or warm it evenly to 40 to 45 C and read again.")
+
+
+def of_cylinder(line, reported):
+    """What stands under the report of one cylinder's line; `reported` is its line there."""
+    number, temperature, kind, value, volume = line
+    _, place, answered, n = reported.split(" ")
+    reading = f"{of_sheet(value, 5)} bar" if kind == b"P" else f"{of_sheet(value, 3)} kg/m3"
+    warnings = [] if b"-" in line else [of_gauge(*line)]
+    if answered == "R":
+        outcome = f"refused by {n}. {WORDS[int(n)]}"
+    else:
+        door, over = (doors.by_pressure, 1.0) if kind == b"P" else (doors.by_density, 1000.0)
+        phase, eight, _count = door(kelvin(temperature), float(int(value)) / over)
+        outcome = f"{down(int(n))} kg, {density(eight[2])} kg/m3, {phase}"
+        if eight[2] > 750.0:
+            warnings.append(f"{density(eight[2])} kg/m3 is more than a cylinder is filled with (750 kg/m3). Check its volume and its reading.")
+    told = [f"{celsius(temperature)} C, {reading}, {of_sheet(volume, 3)} L: {outcome}"] + [warning for warning in warnings if warning]
+    return [f"L {place}, cylinder {number.decode()}: {words}" for words in told]
+
+
+def explanation(text):
+    *reported, ending = sheets.report(text).splitlines()
+    lines = [told for line, of_line in zip(re.findall(sheets.LINE, text), reported) for told in of_cylinder(line, of_line)]
+    first, second, third = ending.split(" ")
+    if first == "TOTAL":
+        held, need = int(second), int(re.match(sheets.NEED, text)[1])
+        margin = f"{down(held - need)} kg to spare" if third == "COVERED" else f"{up(need - held)} kg missing"
+        lines.append(f"Held {down(held)} kg, needed {up(need)} kg: {margin}.")
+    else:
+        need = f"Needed {up(int(re.match(sheets.NEED, text)[1]))} kg. " if third == "13" else ""
+        lines.append(f"{need}Sent back by {third}. {WORDS[int(third)]}")
+    if third == "14":
+        lines.append(where(text))
+    return "".join(line + "\n" for line in lines)
+
+
+# RULES 14.5: where a text stops being in the form
+
+FORMS = (sheets.NEED, b"N 0\n"), (sheets.LINE, b"C 0 0 P 0 0\n")
+DIGITS = b"0123456789"
+EXPECTED = {b"N": "N", b"C": "C", b"DP": "P or D", b" ": "a space", b"\n": "LF", b"-" + DIGITS: "a digit or -", b" " + DIGITS: "a digit or a space",
+            b"\n" + DIGITS: "a digit or LF"}
+NAMED = {b"": "the end of the text", b"\r": "CR", b"\n": "LF", b" ": "a space", b"\t": "a tab"}
+
+
+def begins(front, place):
+    """Whether a line of the form begins so: where one does, there is one that goes on as some end of the shortest does."""
+    form, least = FORMS[place > 1]
+    return any(re.fullmatch(form, front + least[i:]) for i in range(len(least) + 1))
+
+
+def hint(mark, there, expected, front):
+    behind = front.split(b" ")[-1]
+    digit = there != b"" and there in DIGITS
+    hints = [
+        (mark, "Save the text without it."),
+        (there == b"\r", "Lines end in LF alone, not in CR LF."),
+        (there == b"", "Every line ends in LF, the last too."),
+        (there == b"-" and expected == "P or D", "A blank keeps its letter: P - or D -."),
+        (there in (b".", b","), "Every number is whole: scorer --help shows the units."),
+        (digit and behind == b"0", "No number has a 0 in front."),
+        (digit and behind.isdigit() and len(behind) == 10, "No number has more than ten digits."),
+        (there == b"\n" and front == b"", "No line is empty."),
+        (there == b" ", "One space stands between two parts, and none at a line's end."),
+        (True, ""),
+    ]
+    return next(words for holds, words in hints if holds)
+
+
+def where(text):
+    if len(text) > 65536:
+        return "The text has more than 65,536 bytes."
+    lines = re.findall(rb"[^\n]*\n|[^\n]+", text) or [b""]
+    place, line = next((place, line) for place, line in enumerate(lines, 1) if not re.fullmatch(FORMS[place > 1][0], line))
+    size = max(size for size in range(len(line) + 1) if begins(line[:size], place))
+    front, there = line[:size], line[size:size + 1]
+    expected = EXPECTED[bytes(byte for byte in range(256) if begins(front + bytes([byte]), place))]
+    mark = (place, size) == (1, 0) and text.startswith(b"\xef\xbb\xbf")
+    found = "a byte order mark" if mark else NAMED.get(there) or (there.decode() if 33 <= there[0] <= 126 else f"byte {there[0]}")
+    return f"Line {place}, column {size + 1}: {expected} is expected, and there is {found}. {hint(mark, there, expected, front)}".rstrip(" ")
+
+
+def show(title, text):
+    print(f"= {title}\n{sheets.report(text)}{explanation(text)}", end="")
+
+
+def tell(t):
+    try:
+        told = " ".join(map(numerics.show, saturation(t)))
+    except doors.Refusal as r:
+        told = f"refused by {r.args[0]}"
+    print(f"saturation at {numerics.show(t)} is {told}")
+
+
+if __name__ == "__main__":
+    if HELP.exists():
+        sys.stdout.buffer.write(b"= help\n" + HELP.read_bytes())
+        sys.stdout.buffer.flush()
+    for block in SHEETS.read_bytes().split(b"=")[1:]:
+        title, text = block.split(b"\n", 1)
+        show(title.decode().strip(), text)
+    show("65,536 bytes", b"N 1\n" + b"C 1 1 P 1 1\n" * 5461)
+    show("65,537 bytes", b"N 10\n" + b"C 1 1 P 1 1\n" * 5461)
+    for t in TEMPERATURES:
+        tell(numerics.number(int(t, 16)))

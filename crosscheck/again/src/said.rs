@@ -66,6 +66,10 @@ fn case(seed: u64, index: u64, tally: &mut Tally) {
 
 pub fn compare(seed: u64, threads: usize) -> (Tally, Duration) {
     let (tally, took) = run("words", 1 + NUMBERS + OTHERS, threads, [KINDS.len(), COLUMNS.len()], |index, tally| case(seed, index, tally));
-    tally.print(&format!("words of {} numbers in {:.1} s, and the version", NUMBERS + OTHERS, took.as_secs_f64()), &KINDS, &COLUMNS.map(String::from));
+    tally.print(
+        &format!("words of {} numbers in {:.1} s, and the version", NUMBERS + OTHERS, took.as_secs_f64()),
+        &KINDS,
+        &COLUMNS.map(String::from),
+    );
     (tally, took)
 }

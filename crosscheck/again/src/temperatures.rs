@@ -120,6 +120,10 @@ pub fn compare(seed: u64, temperatures: u64, threads: usize) -> (Tally, Duration
     let (tally, took) = run("saturation", temperatures, threads, [KINDS.len(), ANSWERS.len()], |index, tally| case(seed, index, tally));
     let columns = ANSWERS.map(|n| if n == 259 { "saturated".to_string() } else { n.to_string() });
     let seconds = took.as_secs_f64();
-    tally.print(&format!("saturation: {temperatures} temperatures in {seconds:.1} s, {:.0} a second", temperatures as f64 / seconds), &KINDS, &columns);
+    tally.print(
+        &format!("saturation: {temperatures} temperatures in {seconds:.1} s, {:.0} a second", temperatures as f64 / seconds),
+        &KINDS,
+        &columns,
+    );
     (tally, took)
 }

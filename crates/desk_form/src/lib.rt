@@ -1,0 +1,3 @@
+// RULES 14.5: where a text stops being in the form.
+pub mod stop;
+pub mod wrong;

@@ -181,10 +181,9 @@ pub fn put_shown(out: &mut [u8], s: Shown) -> usize
     if shown_len(s) > out.len() {
         return 0;
     }
-    let digits = s.digits;
-    let places = s.places;
+    let whole = front(s.digits, s.places);
     let a = put_sign(out, s.below);
-    let b = a + put_number(&mut out[a..], front(digits, places));
+    let b = a + put_number(&mut out[a..], whole);
     let c = b + put(&mut out[b..], b".");
-    c + put_last(&mut out[c..], digits, places)
+    c + put_last(&mut out[c..], s.digits, s.places)
 }

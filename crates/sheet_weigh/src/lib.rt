@@ -32,7 +32,7 @@ use sheet_read::Sheet;
 use sheet_read::SheetRead;
 use sheet_text::Field;
 
-fn is_volume(v: u64) -> bool
+pub fn is_volume(v: u64) -> bool
     ensures { λ r. ⌜ r ≡ isVolume v ⌝ }
 {
     v >= 1 && v <= 1_000_000

@@ -1,0 +1,4 @@
+pub mod Roundings
+pub mod Digits
+pub mod Samples
+pub mod Unique

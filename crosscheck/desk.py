@@ -205,7 +205,7 @@ def where(text):
     front, there = line[:size], line[size:size + 1]
     expected = EXPECTED[bytes(byte for byte in range(256) if begins(front + bytes([byte]), place))]
     mark = (place, size) == (1, 0) and text.startswith(b"\xef\xbb\xbf")
-    found = "a byte order mark" if mark else NAMED.get(there) or (there.decode() if 33 <= there[0] <= 126 else f"byte {there[0]}")
+    found = "a byte order mark" if mark else NAMED.get(there) or (f"'{there.decode()}'" if 33 <= there[0] <= 126 else f"byte {there[0]}")
     return f"Line {place}, column {size + 1}: {expected} is expected, and there is {found}. {hint(mark, there, expected, front)}".rstrip(" ")
 
 

@@ -76,7 +76,7 @@ fn read_reading(s: &[u8], at: usize, number: Field, temperature: Field) -> Cylin
     CylinderAt::Found(c, next)
 }
 
-pub(crate) fn read_cylinder(s: &[u8], at: usize) -> CylinderAt
+pub fn read_cylinder(s: &[u8], at: usize) -> CylinderAt
     ensures { λ r. ⌜ CylinderIs (now (s .entry)) at (cylinder (drop at (now (s .entry)))) r ⌝ }
 {
     let FieldAt::Found(number, temperature_at) = read_field_after(s, at, b'C', b' ') else {

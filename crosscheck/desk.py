@@ -189,8 +189,9 @@ def hint(mark, there, expected, front):
         (there in (b".", b","), "Every number is whole: scorer --help shows the units."),
         (digit and behind == b"0", "No number has a 0 in front."),
         (digit and behind.isdigit() and len(behind) == 10, "No number has more than ten digits."),
+        (digit and behind == b"-", "No number is below 0: - alone is a blank."),
         (there == b"\n" and front == b"", "No line is empty."),
-        (there == b" ", "One space stands between two parts, and none at a line's end."),
+        (there == b" ", "One space stands between two parts, and none at a line's front or end."),
         (True, ""),
     ]
     return next(words for holds, words in hints if holds)

@@ -1,6 +1,7 @@
 // RULES 14.3: the explanation of a sheet, and its warnings by themselves. What a sheet comes to is worked again from its
 // text, by the functions that the report is made with.
-ghost use Prim.Native.Nat.{_≤_};
+ghost use Prim.Native.Nat.{_≤_, _<_};
+ghost use lib.ListN.{length};
 use crate::form::say_where;
 use crate::line::say_line;
 use crate::line::say_warnings;
@@ -49,7 +50,10 @@ fn say_cylinder(
 }
 
 // The place after the line at a place; the text's end where there is none.
-fn line_after(s: &[u8], at: usize) -> usize {
+fn line_after(s: &[u8], at: usize) -> usize
+    requires { ⌜ at < length (now s) ⌝ }
+    ensures { λ r. ⌜ (at < r) × (r ≤ length (now (s .entry))) ⌝ }
+{
     let LineAt::Found(_, next) = read_line(s, at) else {
         return s.len();
     };

@@ -22,18 +22,35 @@ fn say_expected(p: Paper, e: Expected) -> Paper {
     }
 }
 
+fn wide(b: u8) -> u64 {
+    b as u64
+}
+
+// The bytes 239, 187, 191 at the front.
+fn has_mark(s: &[u8]) -> bool {
+    if s.len() < 3 {
+        return false;
+    }
+    if s[0] != 239 {
+        return false;
+    }
+    if s[1] != 187 {
+        return false;
+    }
+    s[2] == 191
+}
+
 // The byte at a place; 256 past the end, and 257 for a byte order mark at the front.
 fn there(s: &[u8], at: usize) -> u64 {
     if at >= s.len() {
         return 256;
     }
-    let b = s[at];
-    if at == 0 && s.len() >= 3 {
-        if b == 239 && s[1] == 187 && s[2] == 191 {
+    if at == 0 {
+        if has_mark(s) {
             return 257;
         }
     }
-    b as u64
+    wide(s[at])
 }
 
 fn say_byte(p: Paper, b: u64) -> Paper {
@@ -72,6 +89,7 @@ fn digit_hint(p: Paper, b: Behind) -> Paper {
     match b {
         Behind::Zero => say(p, b" No number has a 0 in front."),
         Behind::TenDigits => say(p, b" No number has more than ten digits."),
+        Behind::Blank => say(p, b" No number is below 0: - alone is a blank."),
         Behind::Other => p,
     }
 }
@@ -96,7 +114,7 @@ fn say_hint(p: Paper, b: u64, x: Stop, front: bool) -> Paper {
         44 | 46 => say(p, b" Every number is whole: scorer --help shows the units."),
         32 => say(
             p,
-            b" One space stands between two parts, and none at a line's end.",
+            b" One space stands between two parts, and none at a line's front or end.",
         ),
         _ => p,
     }

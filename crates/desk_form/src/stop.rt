@@ -15,10 +15,11 @@ pub enum Expected {
     DigitOrLineEnd,
 }
 
-// What stands before the place: a 0 in front of a number, its tenth digit, or anything else.
+// What stands before the place: a 0 in front of a number, its tenth digit, `-` in its place, or anything else.
 pub enum Behind {
     Zero,
     TenDigits,
+    Blank,
     Other,
 }
 
@@ -148,12 +149,22 @@ fn over_digits(s: &[u8], at: usize, end: u8) -> Step
     stopped(past, wanted_or_digit(end), Behind::Other)
 }
 
+// `-`, and the form's byte behind it.
+fn over_blank(s: &[u8], at: usize, end: u8) -> Step
+    ensures { λ r. ⌜ StepsOn at r ⌝ }
+{
+    if has(s, at, end) {
+        return Step::To(at);
+    }
+    stopped(at, wanted(end), Behind::Blank)
+}
+
 fn over_number(s: &[u8], at: usize, end: u8) -> Step
     ensures { λ r. ⌜ StepsOn at r ⌝ }
 {
     if at < s.len() {
         if s[at] == b'-' {
-            return Step::To(at + 1);
+            return over_blank(s, at + 1, end);
         }
         if is_digit(s[at]) {
             return over_digits(s, at, end);

@@ -1,9 +1,11 @@
 -- Bytes written to the front of an output: one byte after the other, and more bytes into the part that starts where the former end. Assumes nothing.
 use mathlib.Core.Path.{_≡_, refl, ap, _∙_}
+use mathlib.Core.Bool.{Bool, true, false, cond}
 use mathlib.Core.List.{List, [], _∷_, _++_, append-assoc, append-nil}
 use Prim.Native.Nat.{ℕ, _+_, _-_, _/_, _%_, _≤_, _<_}
 use native.Mathlib.Numerals.{add-one}
 use native.Mathlib.Omega.{arith}
+use lib.Dec.{ltb}
 use lib.ListN.{length, take, drop, set, getD, length-append, length-drop}
 use lib.Seq.{drop-cons, set-append-seam, take-append-seam, drop-append-seam, drop-drop, drop-length, take-suc, take-all}
 use borrow.Author.Tests.{lt-ltb, le-ltb}
@@ -53,6 +55,15 @@ fits {o} {xs} {bs} h w = let e = le-ltb (length o) (length bs) h in record { num
 
 pub stays : {o bs : List ℕ} → length o < length bs → Fitted o o bs 0
 stays {o} {bs} h = let e = lt-ltb (length o) (length bs) h in record { number = rw e refl; bytes = rw e refl }
+
+-- either way no more than the output has
+within-by : (o xs bs : List ℕ) (r : ℕ) (b : Bool) → r ≡ cond b 0 (length bs) → xs ≡ cond b o (overlaid o bs) → r ≤ length xs
+unfolding overlaid
+within-by o xs bs r true n e = omega (arith, n)
+within-by o xs bs r false n e = rw (e, length-append) (omega (arith, n))
+
+pub within : {o xs bs : List ℕ} {r : ℕ} → Fitted o xs bs r → r ≤ length xs
+within {o} {xs} {bs} {r} f = within-by o xs bs r (ltb (length o) (length bs)) (f .number) (f .bytes)
 
 -- ---- `&mut xs[r..]`: the part of xs that starts at r, and xs with ys in its place
 

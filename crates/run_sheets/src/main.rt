@@ -1,97 +1,20 @@
 // Sheets, each by a title and its report: the first example of RULES 7.4, the sheets of RULES 8.2, the refusals that
 // a sheet or a line of one can give, and their order; damaged texts; outputs of several lengths. What it prints is worked
 // elsewhere too (crosscheck/sheets.py).
-ghost use Prim.Native.Nat.{_≤_};
-ghost use lib.ListN.{length};
-ghost use Rattle.io.specs.Counts.{Counts};
 use door_limits::document_01;
 use libc::STDOUT_FILENO;
 use run_print::bits::say;
+use run_print::sheets::each;
+use run_print::sheets::shown;
+use run_print::texts::fill;
+use run_print::texts::load;
 use sheet_report::Written;
 use sheet_score::score;
-use sheet_write::put;
-
-fn load(file: &[u8], space: &mut [u8]) -> usize
-    ensures { λ r. ⌜ Counts r (now (space .exit)) ⌝ }
-{
-    let fd = os::open_read(file);
-    if fd < 0 {
-        os::fail(file);
-        return 0;
-    }
-    let n = io::read_full(fd, space);
-    libc::close(fd);
-    n
-}
-
-// The output holds the longest report.
-fn shown(title: &[u8], text: &[u8]) {
-    let mut out = [0; 1512];
-    say(title);
-    say(b"\n");
-    if let Written::Bytes(n) = score(document_01(), text, &mut out) {
-        say(&out[..n]);
-    }
-}
-
-// The first place of `mark` from `from` on; the end where there is none.
-fn find(text: &[u8], from: usize, mark: u8) -> usize
-    requires { ⌜ from ≤ length (now text) ⌝ }
-    ensures { λ r. ⌜ (from ≤ r) × (r ≤ length (now (text .entry))) ⌝ }
-{
-    let mut i = from;
-    while i < text.len() {
-        if text[i] == mark {
-            return i;
-        }
-        i += 1;
-    }
-    i
-}
-
-// Titles that start with `=` and end with their line, each with a text after it, up to the next `=`.
-fn each(list: &[u8]) {
-    let mut at = 0;
-    while at < list.len() {
-        let end = find(list, at + 1, b'\n');
-        if end >= list.len() {
-            return;
-        }
-        let start = end + 1;
-        let next = find(list, start, b'=');
-        shown(&list[at..end], &list[start..next]);
-        at = next;
-    }
-}
-
-// Bytes at a place of the space, where they fit; answers where they end.
-fn add(space: &mut [u8], at: usize, bytes: &[u8]) -> usize
-    requires { ⌜ at ≤ length (now space) ⌝ }
-    ensures { λ r. ⌜ r ≤ length (now (space .exit)) ⌝ }
-{
-    if bytes.len() > space.len() - at {
-        return at;
-    }
-    at + put(&mut space[at..], bytes)
-}
-
-// A first line, lines so many times, and other lines.
-fn fill(space: &mut [u8], first: &[u8], lines: &[u8], times: usize, others: &[u8]) -> usize
-    ensures { λ r. ⌜ Counts r (now (space .exit)) ⌝ }
-{
-    let mut n = add(space, 0, first);
-    let mut i = 0;
-    while i < times {
-        n = add(space, n, lines);
-        i += 1;
-    }
-    add(space, n, others)
-}
 
 fn built(title: &[u8], first: &[u8], lines: &[u8], times: usize, others: &[u8]) {
     let mut space = [0; 65537];
     let n = fill(&mut space, first, lines, times, others);
-    shown(title, &space[..n]);
+    shown(title, &space[..n], false);
 }
 
 // The example's report, of 29 bytes, into an output of dots: what was answered, and every byte of the output after.
@@ -163,13 +86,14 @@ fn long() {
 fn main() {
     let mut space = io::large_buffer();
     let n = load(b"sheets.txt", &mut space);
-    each(&space[..n]);
+    each(&space[..n], false);
     each(
         b"= CR LF in the first line\nN 1\r\nC 7 3000000 P 5000000 1\n\
         = CR LF in the last line\nN 1\nC 7 3000000 P 5000000 1\r\n\
         = a tab\nN 1\nC 7\t3000000 P 5000000 1\n\
         = a NUL byte\nN 1\nC 7 3000000 P 5000000 1\0\n\
         = a byte above 127\nN 1\nC 7 3000000 P 5000000 \xb1\n",
+        false,
     );
     banks();
     long();

@@ -3,8 +3,8 @@ use mathlib.Core.Path.{sym}
 use lib.Seq.{length-take-le}
 use Rattle.sheet_write.proofs.Writings.{inside}
 use borrow.Author.Needs.{needs}
-use Rattle.run_sheets.proofs.shown.Statement.{statement}
-use Rattle.run_sheets.proofs.shown.Tie as tie
+use Rattle.run_print.proofs.sheets.reported.Statement.{statement}
+use Rattle.run_print.proofs.sheets.reported.Tie as tie
 
 array-share-prefix-out : tie.Need-array-share-prefix-out
 array-share-prefix-out c = let e = rw (c .before .n .given .1) at (c .before .before .before .before .score .ensures) in inside (e .0) (e .1)
@@ -15,8 +15,8 @@ slice-aggregate-say-2 c =
     let e = rw (n .n .given .1) at (n .before .before .before .score .ensures) in
     sym (length-take-le _ _ (inside (e .0) (e .1)))
 
-pub shown-spec : {M : Type 1} → statement M
-shown-spec =
+pub reported-spec : {M : Type 1} → statement M
+reported-spec =
     tie.close
     (tie.spec
     (λ c κs. search needs)

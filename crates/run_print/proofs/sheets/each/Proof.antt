@@ -2,14 +2,14 @@
 use Prim.Native.Nat.{_-_, _≤_}
 use lib.ListN.{length}
 use borrow.Author.Needs.{needs}
-use Rattle.run_sheets.proofs.each.Statement.{statement}
-use Rattle.run_sheets.proofs.each.Tie as tie
+use Rattle.run_print.proofs.sheets.each.Statement.{statement}
+use Rattle.run_print.proofs.sheets.each.Tie as tie
 
 abbrev Inv-loop : tie.InvT-loop
-Inv-loop list at₀ at = at ≤ length list
+Inv-loop list explained at₀ at = at ≤ length list
 
 abbrev μ-loop : tie.MeasureT-loop
-μ-loop list at₀ at = length list - at
+μ-loop list explained at₀ at = length list - at
 
 pub each-spec : {M : Type 1} → statement M
 each-spec =

@@ -27,14 +27,14 @@ use sheet_text::FieldAt;
 use sheet_text::read_field_after;
 use sheet_weigh::weigh_sheet;
 
-// A cylinder line at a place, the i-th, and its warnings; each warning after what stands in front.
+// A cylinder line at a place, the i-th, and its warnings; each warning after the name.
 fn say_cylinder(
     p: Paper,
     limits: Limits,
     s: &[u8],
     at: usize,
     i: usize,
-    front: &[u8],
+    name: &[u8],
     explained: bool,
 ) -> Paper {
     let CylinderAt::Found(c, _) = read_cylinder(s, at) else {
@@ -46,7 +46,7 @@ fn say_cylinder(
     let k = look_at(limits, l);
     let g = gauge_of(limits, l);
     let a = if explained { say_line(p, i, c, k) } else { p };
-    say_warnings(a, front, i, c, k, g)
+    say_warnings(a, name, i, c, k, g)
 }
 
 // The place after the line at a place; the text's end where there is none.
@@ -60,7 +60,7 @@ fn line_after(s: &[u8], at: usize) -> usize
     next
 }
 
-fn say_cylinders(p: Paper, limits: Limits, s: &[u8], front: &[u8], explained: bool) -> Paper {
+fn say_cylinders(p: Paper, limits: Limits, s: &[u8], name: &[u8], explained: bool) -> Paper {
     let FieldAt::Found(_, from) = read_field_after(s, 0, b'N', b'\n') else {
         return p;
     };
@@ -68,7 +68,7 @@ fn say_cylinders(p: Paper, limits: Limits, s: &[u8], front: &[u8], explained: bo
     let mut at = from;
     let mut i: usize = 1;
     while at < s.len() {
-        out = say_cylinder(out, limits, s, at, i, front, explained);
+        out = say_cylinder(out, limits, s, at, i, name, explained);
         at = line_after(s, at);
         i += 1;
     }
@@ -127,15 +127,15 @@ fn say_ending(p: Paper, s: &[u8], need: Field, e: Ending) -> Paper {
     }
 }
 
-// All of it, under a report; or the warnings alone, each after what stands in front.
-fn explain_by(p: Paper, limits: Limits, s: &[u8], front: &[u8], explained: bool) -> Paper {
+// All of it, under a report; or the warnings alone, each after the name.
+fn explain_by(p: Paper, limits: Limits, s: &[u8], name: &[u8], explained: bool) -> Paper {
     let r = read_sheet(s);
     let sheet = r.sheet;
     let need = sheet.need;
     let o = weigh_sheet(limits, r);
     let ending = o.ending;
     let a = if has_lines(ending) {
-        say_cylinders(p, limits, s, front, explained)
+        say_cylinders(p, limits, s, name, explained)
     } else {
         p
     };
@@ -150,6 +150,6 @@ pub fn explain(p: Paper, limits: Limits, s: &[u8]) -> Paper {
     explain_by(p, limits, s, b"", true)
 }
 
-pub fn warn(p: Paper, limits: Limits, s: &[u8], front: &[u8]) -> Paper {
-    explain_by(p, limits, s, front, false)
+pub fn warn(p: Paper, limits: Limits, s: &[u8], name: &[u8]) -> Paper {
+    explain_by(p, limits, s, name, false)
 }

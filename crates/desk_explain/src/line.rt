@@ -129,17 +129,30 @@ fn say_heavy(p: Paper, k: Look) -> Paper {
     )
 }
 
-// Each after what stands in front.
-pub fn say_warnings(p: Paper, front: &[u8], i: usize, c: Cylinder, k: Look, g: Gauge) -> Paper {
+// A file's name and a colon, where there is one.
+fn say_front(p: Paper, name: &[u8]) -> Paper {
+    if name.len() == 0 {
+        return p;
+    }
+    say(say(p, name), b": ")
+}
+
+// Each after the name.
+pub fn say_warnings(p: Paper, name: &[u8], i: usize, c: Cylinder, k: Look, g: Gauge) -> Paper {
     let number = c.number;
     let temperature = c.temperature;
     let value = c.value;
     let mut out = p;
     if let Gauge::Doubts(d) = g {
-        out = say_doubt(say_place(say(out, front), i, number), d, temperature, value);
+        out = say_doubt(
+            say_place(say_front(out, name), i, number),
+            d,
+            temperature,
+            value,
+        );
     }
     if is_heavy(k) {
-        out = say_heavy(say_place(say(out, front), i, number), k);
+        out = say_heavy(say_place(say_front(out, name), i, number), k);
     }
     out
 }

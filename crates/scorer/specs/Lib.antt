@@ -1,1 +1,2 @@
+pub mod Arguments
 pub mod Scorer

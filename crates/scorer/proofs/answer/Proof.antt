@@ -1,4 +1,4 @@
--- A report that was written lies within the output. Assumes nothing.
+-- What was read, and its report, lie within their space. Assumes nothing.
 use mathlib.Core.Path.{sym}
 use lib.Seq.{length-take-le}
 use borrow.Author.Needs.{needs}
@@ -6,22 +6,34 @@ use Rattle.scorer.proofs.answer.Statement.{statement}
 use Rattle.scorer.proofs.answer.Tie as tie
 
 array-share-prefix-out : tie.Need-array-share-prefix-out
-array-share-prefix-out c = (rw (c .before .before .n .given .1) at (c .before .before .before .before .before .score-from .ensures)) .1 .fits
+array-share-prefix-out c =
+    let n = c .before .before in
+    (rw (n .n .given .1) at (n .before .before .before .score-from .ensures)) .1 .fits
 
-slice-aggregate-write-all : tie.Need-slice-aggregate-write-all
-slice-aggregate-write-all c =
+slice-aggregate-say : tie.Need-slice-aggregate-say
+slice-aggregate-say c =
     let n = c .before .before .before in
     sym (length-take-le _ _ ((rw (n .n .given .1) at (n .before .before .before .score-from .ensures)) .1 .fits))
 
-array-share-prefix-out-2 : tie.Need-array-share-prefix-out-2
-array-share-prefix-out-2 c =
+array-share-prefix-space : tie.Need-array-share-prefix-space
+array-share-prefix-space c =
     let n = c .before .before .before .before .before .before in
-    (rw (n .n .given .1) at (n .before .before .before .score-from .ensures)) .1 .fits
+    (rw (n .n .given .1) at (n .before .before .before .score-from .ensures)) .0
 
 slice-aggregate-explain : tie.Need-slice-aggregate-explain
 slice-aggregate-explain c =
     let n = c .before .before .before .before .before .before .before in
-    sym (length-take-le _ _ ((rw (n .n .given .1) at (n .before .before .before .score-from .ensures)) .1 .fits))
+    sym (length-take-le _ _ ((rw (n .n .given .1) at (n .before .before .before .score-from .ensures)) .0))
+
+array-share-prefix-space-2 : tie.Need-array-share-prefix-space-2
+array-share-prefix-space-2 c =
+    let n = c .before .before .before .before .before .before .before in
+    (rw (n .n .given .1) at (n .before .before .before .score-from .ensures)) .0
+
+slice-aggregate-warn-of : tie.Need-slice-aggregate-warn-of
+slice-aggregate-warn-of c =
+    let n = c .before .before .before .before .before .before .before .before in
+    sym (length-take-le _ _ ((rw (n .n .given .1) at (n .before .before .before .score-from .ensures)) .0))
 
 pub answer-spec : {M : Type 1} → statement M
 answer-spec =
@@ -34,16 +46,18 @@ answer-spec =
     (λ c κs. search needs)
     (λ c. search needs)
     (λ c κs. search needs)
-    (λ c. search needs)
-    (λ c κs. search needs)
     array-share-prefix-out
-    slice-aggregate-write-all
+    slice-aggregate-say
     (λ c κs. search needs)
-    (λ c. search needs)
     (λ c κs. search needs)
-    (λ c. search needs)
-    array-share-prefix-out-2
+    array-share-prefix-space
     slice-aggregate-explain
     (λ c κs. search needs)
+    (λ c κs. search needs)
     (λ c. search needs)
+    (λ c κs. search needs)
+    (λ c. search needs)
+    array-share-prefix-space-2
+    slice-aggregate-warn-of
+    (λ c κs. search needs)
     (λ c. search needs))

@@ -7,10 +7,10 @@ use Rattle.desk_explain.proofs.explain.say_cylinders.Statement.{stateme
 use Rattle.desk_explain.proofs.explain.say_cylinders.Tie as tie
 
 abbrev Inv-loop : tie.InvT-loop
-Inv-loop limits s front explained from out₀ at₀ i₀ out at i = (i ≤ at) × (at ≤ length s)
+Inv-loop limits s name explained from out₀ at₀ i₀ out at i = (i ≤ at) × (at ≤ length s)
 
 abbrev μ-loop : tie.MeasureT-loop
-μ-loop limits s front explained from out₀ at₀ i₀ out at i = length s - at
+μ-loop limits s name explained from out₀ at₀ i₀ out at i = length s - at
 
 loop-holds : tie.Need-loop-holds Inv-loop μ-loop
 loop-holds c =

@@ -1,0 +1,15 @@
+-- All else stays. Assumes nothing.
+use mathlib.Core.Path.{refl}
+use borrow.Author.Needs.{needs}
+use Rattle.scorer.proofs.arguments.with_file.Statement.{statement}
+use Rattle.scorer.proofs.arguments.with_file.Tie as tie
+
+returns : tie.Need-returns
+returns c = rw (c .one-more .ensures) refl
+
+pub with-file-spec : {M : Type 1} → statement M
+with-file-spec =
+    tie.close
+    (tie.spec
+    (λ c κs. search needs)
+    returns)

@@ -1,15 +1,13 @@
 // RULES 13: `scorer FILE..`, the report of each sheet on standard output, exactly its bytes, and what has to be said of it
 // on standard error; `--explain` says it under the report. A program has no exit status to choose.
-mod arguments;
-
 ghost use Rattle.scorer.specs.Scorer.{ReadInto, Reports, Scores};
-use arguments::Asked;
-use arguments::Named;
-use arguments::Wish;
-use arguments::Word;
-use arguments::nothing_asked;
-use arguments::take_word;
-use arguments::word_of;
+use desk_arguments::Asked;
+use desk_arguments::Named;
+use desk_arguments::Wish;
+use desk_arguments::Word;
+use desk_arguments::nothing_asked;
+use desk_arguments::take_word;
+use desk_arguments::word_of;
 use desk_explain::explain::explain;
 use desk_explain::explain::warn;
 use desk_explain::help::say_help;

@@ -1,7 +1,7 @@
 -- Each word is taken as the definition has it. Assumes nothing.
 use borrow.Author.Needs.{needs}
-use Rattle.scorer.proofs.arguments.take_word.Statement.{statement}
-use Rattle.scorer.proofs.arguments.take_word.Tie as tie
+use Rattle.desk_arguments.proofs.take_word.Statement.{statement}
+use Rattle.desk_arguments.proofs.take_word.Tie as tie
 
 returns : tie.Need-returns
 returns c = rw (c .before .enum-told .given .1) (c .with-flags .ensures)

@@ -1,8 +1,8 @@
 -- The first byte decides, where there is one. Assumes nothing.
-use Rattle.scorer.proofs.Words.{no-byte, first-byte}
+use Rattle.desk_arguments.proofs.Words.{no-byte, first-byte}
 use borrow.Author.Needs.{needs}
-use Rattle.scorer.proofs.arguments.is_dashed.Statement.{statement}
-use Rattle.scorer.proofs.arguments.is_dashed.Tie as tie
+use Rattle.desk_arguments.proofs.is_dashed.Statement.{statement}
+use Rattle.desk_arguments.proofs.is_dashed.Tie as tie
 
 returns : tie.Need-returns
 returns c = no-byte _ (c .if1 .taken)

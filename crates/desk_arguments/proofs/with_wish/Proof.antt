@@ -1,8 +1,8 @@
 -- All else stays. Assumes nothing.
 use mathlib.Core.Path.{refl}
 use borrow.Author.Needs.{needs}
-use Rattle.scorer.proofs.arguments.with_wish.Statement.{statement}
-use Rattle.scorer.proofs.arguments.with_wish.Tie as tie
+use Rattle.desk_arguments.proofs.with_wish.Statement.{statement}
+use Rattle.desk_arguments.proofs.with_wish.Tie as tie
 
 returns : tie.Need-returns
 returns c = rw (c .first-of .ensures) refl

@@ -1,6 +1,6 @@
 // RULES 13: what the program is asked for, word by word.
 ghost use mathlib.Core.Path.{_≡_};
-ghost use Rattle.scorer.specs.Arguments.{sameBytes, dashed, otherOf, helpOf, flagOf, wordOf, none, firstOf, oneMore, wishing, naming, flagged, taken};
+ghost use Rattle.desk_arguments.specs.Arguments.{sameBytes, dashed, otherOf, helpOf, flagOf, wordOf, none, firstOf, oneMore, wishing, naming, flagged, taken};
 use check::same;
 
 // A word, by itself.

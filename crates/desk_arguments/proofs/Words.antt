@@ -7,7 +7,7 @@ use native.Mathlib.Omega.{arith}
 use lib.Dec.{eqb}
 use lib.ListN.{length, getD}
 use borrow.Author.Tests.{eq-eqb, eqb-true}
-use Rattle.scorer.specs.Arguments.{sameBytes, dashed}
+use Rattle.desk_arguments.specs.Arguments.{sameBytes, dashed}
 
 pub no-byte : (w : List ℕ) → length w ≡ 0 → false ≡ dashed w
 unfolding dashed

@@ -4,10 +4,10 @@ use mathlib.Core.Bool.{Bool, true, false, cond, _&&_}
 use mathlib.Core.List.{List, [], _∷_}
 use lib.Dec.{eqb}
 use Rattle.sheet_write.specs.Writing.{ascii}
-use Rattle.scorer.specs.declared.arguments.Word.{Word}
-use Rattle.scorer.specs.declared.arguments.Wish.{Wish}
-use Rattle.scorer.specs.declared.arguments.Named.{Named}
-use Rattle.scorer.specs.declared.arguments.Asked.{Asked}
+use Rattle.desk_arguments.specs.declared.Word.{Word}
+use Rattle.desk_arguments.specs.declared.Wish.{Wish}
+use Rattle.desk_arguments.specs.declared.Named.{Named}
+use Rattle.desk_arguments.specs.declared.Asked.{Asked}
 
 unfoldable pub sameBytes : List ℕ → List ℕ → Bool
 sameBytes [] [] = true

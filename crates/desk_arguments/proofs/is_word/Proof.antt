@@ -1,8 +1,8 @@
 -- Two words are the same exactly where their bytes are. Assumes nothing.
-use Rattle.scorer.proofs.Words.{told-same}
+use Rattle.desk_arguments.proofs.Words.{told-same}
 use borrow.Author.Needs.{needs}
-use Rattle.scorer.proofs.arguments.is_word.Statement.{statement}
-use Rattle.scorer.proofs.arguments.is_word.Tie as tie
+use Rattle.desk_arguments.proofs.is_word.Statement.{statement}
+use Rattle.desk_arguments.proofs.is_word.Tie as tie
 
 returns : tie.Need-returns
 returns c = told-same _ _ _ (c .same .ensures)

@@ -1,8 +1,8 @@
 -- All else stays. Assumes nothing.
 use mathlib.Core.Path.{refl}
 use borrow.Author.Needs.{needs}
-use Rattle.scorer.proofs.arguments.with_file.Statement.{statement}
-use Rattle.scorer.proofs.arguments.with_file.Tie as tie
+use Rattle.desk_arguments.proofs.with_file.Statement.{statement}
+use Rattle.desk_arguments.proofs.with_file.Tie as tie
 
 returns : tie.Need-returns
 returns c = rw (c .one-more .ensures) refl

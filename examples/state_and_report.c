@@ -27,10 +27,10 @@ int main(void) {
     if (makhroeng_state_from_pressure(253.15, 2.5e6, heating, 10) == MAKHROENG_LIQUID)
         printf("253.15 K and 2.5 MPa: liquid, %.6f W/(m K)\n", heating[MAKHROENG_CONDUCTIVITY]);
 
-    const char *sheet = "N 75000000\n"
-                        "C 1 3131500 P 10000000 40000\n"
-                        "C 2 3101500 P 9600000 40000\n"
-                        "C 3 2981500 D 781800 40000\n";
+    const char *sheet = "N 120000000\n"
+                        "C 1 3131500 P 10600000 67500\n"
+                        "C 2 3151500 P 11200000 67500\n"
+                        "C 3 3146500 D 667000 67500\n";
     uint8_t report[1512];
     uint64_t length = makhroeng_report((const uint8_t *)sheet, strlen(sheet), report, sizeof report);
     fwrite(report, 1, length, stdout);

@@ -25,11 +25,15 @@ dashed (x ∷ xs) = eqb x 45
 unfoldable pub otherOf : List ℕ → Word
 otherOf w = cond (sameBytes w (ascii "--")) Word.End (cond (dashed w) Word.NoFlag Word.File)
 
-unfoldable pub helpOf : List ℕ → Word
-helpOf w = cond (sameBytes w (ascii "-h")) Word.Help (cond (sameBytes w (ascii "--help")) Word.Help (otherOf w))
+unfoldable pub isHelp : List ℕ → Bool
+isHelp w = cond (sameBytes w (ascii "-h")) true (sameBytes w (ascii "--help"))
 
 unfoldable pub flagOf : List ℕ → Word
-flagOf w = cond (sameBytes w (ascii "--explain")) Word.Explain (cond (sameBytes w (ascii "--version")) Word.Version (helpOf w))
+flagOf w =
+    cond (isHelp w) Word.Help
+    (cond (sameBytes w (ascii "--explain")) Word.Explain
+    (cond (sameBytes w (ascii "--version")) Word.Version
+    (otherOf w)))
 
 -- `-` is standard input; behind `--`, which ended the flags, any other is a file's name
 unfoldable pub wordOf : Bool → List ℕ → Word

@@ -1,6 +1,6 @@
 // RULES 13: what the program is asked for, word by word.
 ghost use mathlib.Core.Path.{_≡_};
-ghost use Rattle.desk_arguments.specs.Arguments.{sameBytes, dashed, otherOf, helpOf, flagOf, wordOf, none, firstOf, oneMore, wishing, naming, flagged, taken};
+ghost use Rattle.desk_arguments.specs.Arguments.{sameBytes, dashed, otherOf, isHelp, flagOf, wordOf, none, firstOf, oneMore, wishing, naming, flagged, taken};
 use check::same;
 
 // A word, by itself.
@@ -65,28 +65,28 @@ fn other_of(w: &[u8]) -> Word
     Word::File
 }
 
-fn help_of(w: &[u8]) -> Word
-    ensures { λ r. ⌜ r ≡ helpOf (now (w .entry)) ⌝ }
+fn is_help(w: &[u8]) -> bool
+    ensures { λ r. ⌜ r ≡ isHelp (now (w .entry)) ⌝ }
 {
     if is_word(w, b"-h") {
-        return Word::Help;
+        return true;
     }
-    if is_word(w, b"--help") {
-        return Word::Help;
-    }
-    other_of(w)
+    is_word(w, b"--help")
 }
 
 fn flag_of(w: &[u8]) -> Word
     ensures { λ r. ⌜ r ≡ flagOf (now (w .entry)) ⌝ }
 {
+    if is_help(w) {
+        return Word::Help;
+    }
     if is_word(w, b"--explain") {
         return Word::Explain;
     }
     if is_word(w, b"--version") {
         return Word::Version;
     }
-    help_of(w)
+    other_of(w)
 }
 
 // ended: `--` came before it.

@@ -1,8 +1,8 @@
 -- One turn of the loop that passes the lines of a text: so many were passed and are in the form, and the rest is left. Assumes nothing.
-use mathlib.Core.Path.{_≡_, refl, sym, ap, _∙_}
-use mathlib.Core.Bool.{Bool, true, false, cond}
+use mathlib.Core.Path.{_≡_, refl, ap, _∙_}
+use mathlib.Core.Bool.{Bool, true, false}
 use mathlib.Core.List.{List, [], _∷_, _++_, append-assoc}
-use mathlib.Core.Option.{Option, none, some}
+use mathlib.Core.Option.{none, some}
 use Prim.Native.Nat.{ℕ, _+_, _≤_, _<_}
 use native.Mathlib.Omega.{arith}
 use lib.Dec.{eqb}
@@ -19,7 +19,7 @@ use Rattle.sheet_line.specs.declared.cylinder.Cylinder.{Cylinder}
 use Rattle.sheet_line.specs.declared.line.Line.{Line}
 use Rattle.sheet_line.proofs.Lines.{no-line, of-cylinder}
 use Rattle.sheet_line.proofs.Printed.{cylinder-back, cylinder-says, cylinder-all}
-use Rattle.desk_form.specs.Wrong.{onto, cut, linesOf, isNeed, isCylinder, wrongCylinder, firstWrong}
+use Rattle.desk_form.specs.Wrong.{cut, linesOf, isNeed, isCylinder, wrongCylinder, firstWrong}
 use Rattle.desk_form.proofs.Cuts.{need-line, cylinder-line}
 use Rattle.desk_form.proofs.Wrongs.{cut-off, is-whole, not-whole}
 

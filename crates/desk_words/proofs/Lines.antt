@@ -1,18 +1,15 @@
 -- A line of a text, by where it begins and where it ends; and of lines that were joined, each is had back. Assumes nothing.
 use mathlib.Core.Path.{_≡_, refl, sym, ap, _∙_}
-use mathlib.Core.Bool.{Bool, true, false, cond, _&&_, not}
+use mathlib.Core.Bool.{Bool, true, false, _&&_, not}
 use mathlib.Core.List.{List, [], _∷_, _++_, append-assoc, append-nil}
 use Prim.Native.Nat.{ℕ, zero, suc, _+_, _-_, _≤_, _<_}
 use native.Mathlib.Omega.{arith}
-use native.Mathlib.Numerals.{add-one}
 use borrow.Author.Tests.{ne-eqb, eq-eqb}
 use lib.Dec.{T, eqb}
 use lib.ListN.{length, getD, take, drop, length-drop, drop-of-length-le}
-use lib.Seq.{drop-cons, getD-drop, take-suc}
+use lib.Seq.{getD-drop, take-suc}
+use Rattle.sheet_text.proofs.Parses.{front}
 use Rattle.desk_words.specs.Words.{behindLines, upToLine, UpTo}
-
-front : (s : List ℕ) (i : ℕ) → i < length s → drop i s ≡ getD s i 0 ∷ drop (i + 1) s
-front s i h = rw (add-one, drop-cons s i 0)
 
 -- ---- where line n begins: at place i there are `left` line ends left to pass
 

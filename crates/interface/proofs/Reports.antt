@@ -1,5 +1,5 @@
 -- What a caller is handed of a report, by what its writing comes to. Assumes nothing.
-use mathlib.Core.Path.{_≡_, refl, subst}
+use mathlib.Core.Path.{_≡_, subst}
 use mathlib.Core.List.{List}
 use Prim.Native.Nat.{ℕ}
 use Rattle.sheet_write.proofs.Writings.{fits, stays}

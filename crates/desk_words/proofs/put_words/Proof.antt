@@ -1,5 +1,4 @@
 -- The text is all words, joined, so that line n has those of n. Assumes nothing.
-use mathlib.Core.Path.{refl}
 use borrow.Author.Needs.{needs}
 use Rattle.desk_words.specs.Words.{all, words}
 use Rattle.desk_words.proofs.Lines.{joined, plain, all-plain, had-back}

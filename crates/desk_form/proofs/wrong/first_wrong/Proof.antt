@@ -1,6 +1,5 @@
 -- The lines that were passed are in the form, and the first that can't be read isn't. Assumes nothing.
 use Prim.Native.Nat.{_-_}
-use mathlib.Core.Path.{_≡_}
 use native.Mathlib.Omega.{arith}
 use lib.ListN.{length}
 use borrow.Author.Needs.{needs}

@@ -9,10 +9,10 @@ use door_saturation::saturated_at;
 use libc::STDOUT_FILENO;
 use run_print::bits::say;
 use run_print::bits::show;
-use run_print::sheets::each;
-use run_print::sheets::shown;
-use run_print::texts::fill;
-use run_print::texts::load;
+use run_texts::sheets::each;
+use run_texts::sheets::shown;
+use run_texts::texts::fill;
+use run_texts::texts::load;
 
 // RULES 6.1: a sheet has 65,536 bytes at most.
 fn long(title: &[u8], first: &[u8]) {

@@ -4,10 +4,10 @@
 use door_limits::document_01;
 use libc::STDOUT_FILENO;
 use run_print::bits::say;
-use run_print::sheets::each;
-use run_print::sheets::shown;
-use run_print::texts::fill;
-use run_print::texts::load;
+use run_texts::sheets::each;
+use run_texts::sheets::shown;
+use run_texts::texts::fill;
+use run_texts::texts::load;
 use sheet_report::Written;
 use sheet_score::score;
 

@@ -3,8 +3,8 @@ use mathlib.Core.Path.{sym}
 use lib.Seq.{length-take-le}
 use Rattle.sheet_write.proofs.Writings.{inside}
 use borrow.Author.Needs.{needs}
-use Rattle.run_print.proofs.sheets.reported.Statement.{statement}
-use Rattle.run_print.proofs.sheets.reported.Tie as tie
+use Rattle.run_texts.proofs.sheets.reported.Statement.{statement}
+use Rattle.run_texts.proofs.sheets.reported.Tie as tie
 
 array-share-prefix-out : tie.Need-array-share-prefix-out
 array-share-prefix-out c = let e = rw (c .before .n .given .1) at (c .before .before .before .before .score .ensures) in inside (e .0) (e .1)

@@ -4,8 +4,8 @@ use mathlib.Core.Path.{_≡_, sym}
 use lib.ListN.{length}
 use lib.Seq.{length-take-le}
 use borrow.Author.Needs.{needs}
-use Rattle.run_print.proofs.texts.fill.Statement.{statement}
-use Rattle.run_print.proofs.texts.fill.Tie as tie
+use Rattle.run_texts.proofs.texts.fill.Statement.{statement}
+use Rattle.run_texts.proofs.texts.fill.Tie as tie
 
 abbrev Inv-loop : tie.InvT-loop
 Inv-loop space₀ first lines times others n₀ i₀ space n i = (n ≤ length space) × (i ≤ times) × (length space ≡ length space₀)

@@ -2,8 +2,8 @@
 use Prim.Native.Nat.{_-_, _≤_}
 use lib.ListN.{length}
 use borrow.Author.Needs.{needs}
-use Rattle.run_print.proofs.texts.find.Statement.{statement}
-use Rattle.run_print.proofs.texts.find.Tie as tie
+use Rattle.run_texts.proofs.texts.find.Statement.{statement}
+use Rattle.run_texts.proofs.texts.find.Tie as tie
 
 abbrev Inv-loop : tie.InvT-loop
 Inv-loop text from mark i₀ i = (from ≤ i) × (i ≤ length text)

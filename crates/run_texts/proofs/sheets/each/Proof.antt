@@ -2,8 +2,8 @@
 use Prim.Native.Nat.{_-_, _≤_}
 use lib.ListN.{length}
 use borrow.Author.Needs.{needs}
-use Rattle.run_print.proofs.sheets.each.Statement.{statement}
-use Rattle.run_print.proofs.sheets.each.Tie as tie
+use Rattle.run_texts.proofs.sheets.each.Statement.{statement}
+use Rattle.run_texts.proofs.sheets.each.Tie as tie
 
 abbrev Inv-loop : tie.InvT-loop
 Inv-loop list explained at₀ at = at ≤ length list

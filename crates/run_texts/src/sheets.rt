@@ -1,10 +1,10 @@
 // Sheets by a title and their report, with or without the explanation under it (RULES 7 and 14.3).
-use crate::bits::say;
 use crate::texts::find;
 use desk_explain::explain::explain;
 use desk_explain::paper::paper_on;
 use door_limits::document_01;
 use libc::STDOUT_FILENO;
+use run_print::bits::say;
 use sheet_report::Written;
 use sheet_score::score;
 

@@ -1,8 +1,8 @@
 """What is said to a person worked a second time, by RULES 5.6 and 14: what the program `run_desk` must print.
     python3 crosscheck/desk.py | diff - crates/run_desk/stdout
 
-First the help, as crosscheck/help.txt has it. Then for each text of crates/run_desk/data, and two that are long, its report (sheets.py) and the explanation
-under it. Then saturation by itself at each temperature below. The words of a refusal are read from README.md, which has them letter for letter.
+First the help, as crosscheck/help.txt has it. Then for each text of crates/run_desk/data, and three that are long, its report (sheets.py), the explanation
+under it, and its warnings by themselves, of a file sheet.txt. Then the words of 0 to 31, and saturation by itself at each temperature below. The words of a refusal are read from README.md, which has them letter for letter.
 """
 import functools
 import math
@@ -124,9 +124,9 @@ def of_gauge(_number, temperature, kind, value, volume):
     if not -200000.0 <= float(int(value)) - p <= 200000.0:
         return None
     held = [down(at_or_below(rho * float(int(volume)))) for rho in (vapour, liquid)]
-    return (f"the gauge can't tell. At {celsius(temperature)} C the vapour pressure is {bar(p)} bar, and {of_sheet(value, 5)} bar is within 2 bar of it: "
-            f"the cylinder holds {held[0]} kg if all is vapour, {held[1]} kg if all is liquid, or anything between. "
-            "Weigh it, or warm it evenly to 40 to 45 C and read again.")
+    return (f"the gauge can't tell. At {celsius(temperature)} C the vapour pressure is {bar(p)} bar, and {of_sheet(value, 5)} bar is within 2 bar of it. "
+            f"At the vapour pressure the cylinder holds {held[0]} kg if all is vapour, {held[1]} kg if all is liquid, and anything between if it holds both. "
+            "Weigh it, or warm it evenly to 40 to 45 C, minding its pressure, and read again.")
 
 
 def of_cylinder(line, reported):
@@ -147,14 +147,24 @@ def of_cylinder(line, reported):
     return [f"L {place}, cylinder {number.decode()}: {words}" for words in told]
 
 
+def of_cylinders(text):
+    """Of each line that is reported what stands under it: first itself, then its warnings."""
+    return [of_cylinder(*both) for both in zip(re.findall(sheets.LINE, text), sheets.report(text).splitlines()[:-1])]
+
+
+def warnings(text):
+    return "".join(f"sheet.txt: {warning}\n" for told in of_cylinders(text) for warning in told[1:])
+
+
 def explanation(text):
-    *reported, ending = sheets.report(text).splitlines()
-    lines = [told for line, of_line in zip(re.findall(sheets.LINE, text), reported) for told in of_cylinder(line, of_line)]
+    ending = sheets.report(text).splitlines()[-1]
+    lines = [told for of_line in of_cylinders(text) for told in of_line]
     first, second, third = ending.split(" ")
     if first == "TOTAL":
         held, need = int(second), int(re.match(sheets.NEED, text)[1])
         margin = f"{down(held - need)} kg to spare" if third == "COVERED" else f"{up(need - held)} kg missing"
-        lines.append(f"Held {down(held)} kg, needed {up(need)} kg: {margin}.")
+        doubts = sum("the gauge can't tell" in told for told in lines)
+        lines.append(f"Held {down(held)} kg, needed {up(need)} kg: {margin}." + (f" Gauges that can't tell: {doubts}." if doubts else ""))
     else:
         need = f"Needed {up(int(re.match(sheets.NEED, text)[1]))} kg. " if third == "13" else ""
         lines.append(f"{need}Sent back by {third}. {WORDS[int(third)]}")
@@ -211,7 +221,7 @@ def where(text):
 
 
 def show(title, text):
-    print(f"= {title}\n{sheets.report(text)}{explanation(text)}", end="")
+    print(f"= {title}\n{sheets.report(text)}{explanation(text)}{warnings(text)}", end="")
 
 
 def tell(t):
@@ -231,5 +241,8 @@ if __name__ == "__main__":
         show(title.decode().strip(), text)
     show("65,536 bytes", b"N 1\n" + b"C 1 1 P 1 1\n" * 5461)
     show("65,537 bytes", b"N 10\n" + b"C 1 1 P 1 1\n" * 5461)
+    show("65,536 bytes, the last line damaged", b"N 1\n" + b"C 1 1 P 1 1\n" * 5460 + b"C 1 1 P 1 x\n")
+    for number in range(32):
+        print(f"words of {number} are {WORDS.get(number, 'none')}")
     for t in TEMPERATURES:
         tell(numerics.number(int(t, 16)))

@@ -22,15 +22,15 @@ all =
     -- 3
     ∷ ascii "A number is infinite or no number, which no sheet can give. Mend the program that calls."
     -- 4
-    ∷ ascii "The temperature is not 216.592 to 523 K (-56.55 to 249.85 C). Check the thermometer: (Celsius + 273.15) times 10,000. What was not read is written -, not 0."
+    ∷ ascii "The temperature is not 216.592 to 523 K (-56.55 to 249.85 C), or asked for saturation not below 304.1282 K. Check the thermometer: (Celsius + 273.15) times 10,000. What was not read is written -, not 0."
     -- 5
     ∷ ascii "The pressure, read or worked, is not 0.1 to 300 bar absolute, or the density not 0.1 to 1,300 kg/m3. Check the gauge, its unit and the thermometer. What was not read is written -, not 0."
     -- 6
-    ∷ ascii "Too near the critical point to tell the density. Weigh the cylinder, or warm it evenly to 40 to 45 C and read again: there a bar is about one per cent of a full cylinder's density, at 32.1 C up to half. Mind the pressure: filled to 750 kg/m3 it stands at 175 bar at 50 C."
+    ∷ ascii "Too near the critical point to tell the density. Weigh the cylinder, or warm it evenly to 40 to 45 C and read again: there a bar is about one per cent of a full cylinder's density and up to seven of a half empty one's, at 32.1 C up to half. Mind the pressure: filled to 750 kg/m3 it stands at 175 bar at 50 C."
     -- 7
     ∷ ascii "The working failed, and no reading is known that gives this. Report it with the sheet."
     -- 8
-    ∷ ascii "Liquid and vapour stand together, or the pressure is exactly the vapour pressure. Weigh the cylinder, or warm it evenly to 40 to 45 C and read again: there a bar is about one per cent of a full cylinder's density, at 32.1 C up to half. Mind the pressure: filled to 750 kg/m3 it stands at 175 bar at 50 C."
+    ∷ ascii "Liquid and vapour stand together, or the pressure is exactly the vapour pressure. Weigh the cylinder, or warm it evenly to 40 to 45 C and read again: there a bar is about one per cent of a full cylinder's density and up to seven of a half empty one's, at 32.1 C up to half. Mind the pressure: filled to 750 kg/m3 it stands at 175 bar at 50 C."
     -- 9
     ∷ ascii "No density in the range has this pressure, and no reading is known that gives this. Report it with the sheet."
     -- 10
@@ -42,7 +42,7 @@ all =
     -- 13
     ∷ ascii "Some line was refused, so there is no verdict. See to that line and score again."
     -- 14
-    ∷ ascii "The text is not in the form. Mend the line that is named; scorer --help shows a whole sheet."
+    ∷ ascii "The text is not in the form. scorer --help shows a whole sheet, and --explain where this one stops being in it."
     -- 15
     ∷ ascii "Fewer figures or bytes were lent than the answer has. Lend eight figures for a state, three for saturation, 1,512 bytes for a report."
     -- 16

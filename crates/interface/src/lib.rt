@@ -9,6 +9,7 @@ ghost use Rattle.door_density.specs.DensityDoor.{densityDoor};
 ghost use Rattle.door_conductivity.specs.Conducted.{withConductivity};
 ghost use Rattle.door_saturation.specs.Saturation.{saturated};
 ghost use Rattle.sheet_read.specs.Form.{inForm};
+ghost use Rattle.sheet_write.specs.Writing.{Fitted};
 ghost use Rattle.sheet_score.specs.Score.{report};
 ghost use Rattle.desk_words.specs.Words.{version, words};
 ghost use Rattle.interface_figures.specs.Figures.{asked, AnsweredIn, CarriedIn, SaturatedIn};
@@ -84,7 +85,7 @@ pub extern "C" fn makhroeng_report(text: &[u8], out: &mut [u8]) -> u64
 
 #[no_mangle]
 pub extern "C" fn makhroeng_words(number: u32, out: &mut [u8]) -> u64
-    ensures { λ r. ⌜ ReportedIn (now (out .entry)) (now (out .exit)) (words number) r ⌝ }
+    ensures { λ r. ⌜ Fitted (now (out .entry)) (now (out .exit)) (words number) r ⌝ }
 {
     put_words(number, out) as u64
 }

@@ -1,8 +1,10 @@
-// What is said to a person (RULES 14): the help; sheets, good and damaged, each with its report and its explanation; and
-// saturation by itself (RULES 5.6), numbers as the sixteen hexadecimal digits of their bits. What it prints is worked
+// What is said to a person (RULES 14): the help; sheets, good and damaged, each with its report, its explanation and its
+// warnings; the words of each refusal; and saturation by itself (RULES 5.6), numbers as the sixteen hexadecimal digits of
+// their bits. What it prints is worked
 // elsewhere too (crosscheck/desk.py).
-use desk_explain::help::say_help;
-use desk_explain::paper::paper_on;
+use desk_paper::help::say_help;
+use desk_paper::paper::paper_on;
+use desk_words::put_words;
 use door_limits::document_01;
 use door_saturation::Saturated;
 use door_saturation::saturated_at;
@@ -15,10 +17,24 @@ use run_texts::texts::fill;
 use run_texts::texts::load;
 
 // RULES 6.1: a sheet has 65,536 bytes at most.
-fn long(title: &[u8], first: &[u8]) {
+fn long(title: &[u8], first: &[u8], last: &[u8]) {
     let mut space = [0; 65537];
-    let n = fill(&mut space, first, b"C 1 1 P 1 1\n", 5461, b"");
+    let n = fill(&mut space, first, b"C 1 1 P 1 1\n", 5460, last);
     shown(title, &space[..n], true);
+}
+
+// RULES 14.1
+fn words_of(number: u32) {
+    let mut space = [0; 512];
+    let n = put_words(number, &mut space);
+    say(b"words of ");
+    io::print_decimal(STDOUT_FILENO, number as u64);
+    say(b" are ");
+    if n == 0 {
+        say(b"none");
+    }
+    say(&space[..n]);
+    say(b"\n");
 }
 
 fn saturation_at(t: f64) {
@@ -90,7 +106,15 @@ fn main() {
     say(b"= help\n");
     say_help(paper_on(STDOUT_FILENO));
     each(&space[..n], true);
-    long(b"= 65,536 bytes", b"N 1\n");
-    long(b"= 65,537 bytes", b"N 10\n");
+    long(b"= 65,536 bytes", b"N 1\n", b"C 1 1 P 1 1\n");
+    long(b"= 65,537 bytes", b"N 10\n", b"C 1 1 P 1 1\n");
+    long(
+        b"= 65,536 bytes, the last line damaged",
+        b"N 1\n",
+        b"C 1 1 P 1 x\n",
+    );
+    for number in 0..32 {
+        words_of(number);
+    }
     saturations();
 }

@@ -1,7 +1,9 @@
-// Sheets by a title and their report, with or without the explanation under it (RULES 7 and 14.3).
+// Sheets by a title and their report, with or without the explanation under it, and the warnings by themselves (RULES 7,
+// 14.3 and 14.4).
 use crate::texts::find;
-use desk_explain::explain::explain;
-use desk_explain::paper::paper_on;
+use desk_explain::explain;
+use desk_explain::warn;
+use desk_paper::paper::paper_on;
 use door_limits::document_01;
 use libc::STDOUT_FILENO;
 use run_print::bits::say;
@@ -21,7 +23,8 @@ fn reported(title: &[u8], text: &[u8]) {
 pub fn shown(title: &[u8], text: &[u8], explained: bool) {
     reported(title, text);
     if explained {
-        explain(paper_on(STDOUT_FILENO), document_01(), text);
+        let p = explain(paper_on(STDOUT_FILENO), document_01(), text);
+        warn(p, document_01(), text, b"sheet.txt");
     }
 }
 

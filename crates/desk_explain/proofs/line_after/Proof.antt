@@ -1,7 +1,7 @@
 -- A line has a byte at least, and lies within the text. Assumes nothing.
 use borrow.Author.Needs.{needs}
-use Rattle.desk_explain.proofs.explain.line_after.Statement.{statement}
-use Rattle.desk_explain.proofs.explain.line_after.Tie as tie
+use Rattle.desk_explain.proofs.line_after.Statement.{statement}
+use Rattle.desk_explain.proofs.line_after.Tie as tie
 
 returns-2 : tie.Need-returns-2
 returns-2 c =

@@ -1,25 +1,24 @@
--- Each turn comes further in the text, and no more lines are counted than bytes passed. Assumes nothing.
+-- Each turn comes further in the text, and no more are counted than bytes passed. Assumes nothing.
 use Prim.Native.Nat.{_-_, _≤_}
-use native.Mathlib.Omega.{arith}
 use lib.ListN.{length}
 use borrow.Author.Needs.{needs}
-use Rattle.desk_explain.proofs.explain.say_cylinders.Statement.{statement}
-use Rattle.desk_explain.proofs.explain.say_cylinders.Tie as tie
+use Rattle.desk_explain.proofs.count_doubts.Statement.{statement}
+use Rattle.desk_explain.proofs.count_doubts.Tie as tie
 
 abbrev Inv-loop : tie.InvT-loop
-Inv-loop limits s name explained from out₀ at₀ i₀ out at i = (i ≤ at) × (at ≤ length s)
+Inv-loop limits s from n₀ at₀ n at = (n ≤ at) × (at ≤ length s)
 
 abbrev μ-loop : tie.MeasureT-loop
-μ-loop limits s name explained from out₀ at₀ i₀ out at i = length s - at
+μ-loop limits s from n₀ at₀ n at = length s - at
 
 loop-holds : tie.Need-loop-holds Inv-loop μ-loop
 loop-holds c =
     let k = c .before in
     let e = rw (k .from .given .1) at (k .before .before .read-field-after .ensures) in
-    (omega (arith, e .1), e .2)
+    (search needs, e .2)
 
-pub say-cylinders-spec : {M : Type 1} → statement M
-say-cylinders-spec =
+pub count-doubts-spec : {M : Type 1} → statement M
+count-doubts-spec =
     tie.close
     (tie.spec
     Inv-loop
@@ -30,8 +29,8 @@ say-cylinders-spec =
     (λ c. search needs)
     loop-holds
     (λ c κs. search needs)
-    (λ c κs. search needs)
     (λ c. search needs)
+    (λ c κs. search needs)
     (λ c. search needs)
     (λ c. search needs)
     (λ c. search needs))

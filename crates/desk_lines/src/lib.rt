@@ -1,16 +1,16 @@
 // RULES 14.3 and 14.4: a cylinder's line and its warnings.
-use crate::paper::Paper;
-use crate::paper::say;
-use crate::paper::say_figure;
-use crate::paper::say_mass;
-use crate::paper::say_number;
-use crate::paper::say_refusal;
-use crate::paper::say_shown;
 use desk_look::gauge::Doubt;
 use desk_look::gauge::Gauge;
 use desk_look::held::Held;
 use desk_look::held::Look;
 use desk_look::held::is_heavy;
+use desk_paper::paper::Paper;
+use desk_paper::paper::say;
+use desk_paper::paper::say_figure;
+use desk_paper::paper::say_mass;
+use desk_paper::paper::say_number;
+use desk_paper::paper::say_refusal;
+use desk_paper::paper::say_shown;
 use desk_units::bar;
 use desk_units::celsius;
 use desk_units::density;
@@ -109,13 +109,16 @@ fn say_doubt(p: Paper, d: Doubt, temperature: Field, value: Field) -> Paper {
     let b = say_figure(say(a, b" the vapour pressure is "), pressure(d.pressure));
     let c = say_bar(say(b, b" bar, and "), value);
     let e = say_mass(
-        say(c, b" is within 2 bar of it: the cylinder holds "),
+        say(
+            c,
+            b" is within 2 bar of it. At the vapour pressure the cylinder holds ",
+        ),
         vapour,
     );
     let f = say_mass(say(e, b" kg if all is vapour, "), liquid);
     say(
         f,
-        b" kg if all is liquid, or anything between. Weigh it, or warm it evenly to 40 to 45 C and read again.\n",
+        b" kg if all is liquid, and anything between if it holds both. Weigh it, or warm it evenly to 40 to 45 C, minding its pressure, and read again.\n",
     )
 }
 

@@ -3,8 +3,8 @@ use mathlib.Core.Path.{sym}
 use lib.Seq.{length-take-le}
 use borrow.Author.Needs.{needs}
 use Rattle.sheet_write.proofs.Writings.{within}
-use Rattle.desk_explain.proofs.paper.say_refusal.Statement.{statement}
-use Rattle.desk_explain.proofs.paper.say_refusal.Tie as tie
+use Rattle.desk_paper.proofs.paper.say_refusal.Statement.{statement}
+use Rattle.desk_paper.proofs.paper.say_refusal.Tie as tie
 
 array-share-prefix-space : tie.Need-array-share-prefix-space
 array-share-prefix-space c = within (c .before .before .before .before .put-words .ensures)

@@ -1,13 +1,14 @@
 // RULES 14.5: where a text stops being in the form, what is expected there, what there is, and a hint.
-use crate::paper::Paper;
-use crate::paper::say;
-use crate::paper::say_number;
+ghost use Prim.Native.Nat.{_≤_};
 use desk_form::stop::Behind;
 use desk_form::stop::Expected;
 use desk_form::stop::Stop;
 use desk_form::stop::stop_in;
 use desk_form::wrong::Wrong;
 use desk_form::wrong::first_wrong;
+use desk_paper::paper::Paper;
+use desk_paper::paper::say;
+use desk_paper::paper::say_number;
 
 fn say_expected(p: Paper, e: Expected) -> Paper {
     match e {
@@ -20,10 +21,6 @@ fn say_expected(p: Paper, e: Expected) -> Paper {
         Expected::DigitOrSpace => say(p, b"a digit or a space"),
         Expected::DigitOrLineEnd => say(p, b"a digit or LF"),
     }
-}
-
-fn wide(b: u8) -> u64 {
-    b as u64
 }
 
 // The bytes 239, 187, 191 at the front.
@@ -40,41 +37,46 @@ fn has_mark(s: &[u8]) -> bool {
     s[2] == 191
 }
 
-// The byte at a place; 256 past the end, and 257 for a byte order mark at the front.
-fn there(s: &[u8], at: usize) -> u64 {
+// What stands at a place.
+enum Found {
+    End,
+    Mark,
+    Byte(u8),
+}
+
+fn found_at(s: &[u8], at: usize) -> Found {
     if at >= s.len() {
-        return 256;
+        return Found::End;
     }
     if at == 0 {
         if has_mark(s) {
-            return 257;
+            return Found::Mark;
         }
     }
-    wide(s[at])
+    Found::Byte(s[at])
 }
 
-fn say_byte(p: Paper, b: u64) -> Paper {
-    if b > 32 && b < 127 {
-        let a = say(p, b"'");
-        return say(say(a, &[b as u8]), b"'");
-    }
-    say_number(say(p, b"byte "), b)
-}
-
-fn say_there(p: Paper, b: u64) -> Paper {
+fn say_byte(p: Paper, b: u8) -> Paper {
     match b {
-        256 => say(p, b"the end of the text"),
-        257 => say(p, b"a byte order mark"),
-        13 => say(p, b"CR"),
-        10 => say(p, b"LF"),
-        32 => say(p, b"a space"),
-        9 => say(p, b"a tab"),
-        _ => say_byte(p, b),
+        b'\r' => say(p, b"CR"),
+        b'\n' => say(p, b"LF"),
+        b' ' => say(p, b"a space"),
+        b'\t' => say(p, b"a tab"),
+        33..=126 => say(say(say(p, b"'"), &[b]), b"'"),
+        _ => say_number(say(p, b"byte "), b as u64),
     }
 }
 
-fn is_digit(b: u64) -> bool {
-    b >= 48 && b <= 57
+fn say_there(p: Paper, t: Found) -> Paper {
+    match t {
+        Found::End => say(p, b"the end of the text"),
+        Found::Mark => say(p, b"a byte order mark"),
+        Found::Byte(b) => say_byte(p, b),
+    }
+}
+
+fn is_digit(b: u8) -> bool {
+    b >= b'0' && b <= b'9'
 }
 
 fn is_letter(e: Expected) -> bool {
@@ -94,25 +96,23 @@ fn digit_hint(p: Paper, b: Behind) -> Paper {
     }
 }
 
-// By what is there; front: the place is a line's front.
-fn say_hint(p: Paper, b: u64, x: Stop, front: bool) -> Paper {
+// Of a byte; front: its place is a line's front.
+fn byte_hint(p: Paper, b: u8, x: Stop, front: bool) -> Paper {
     let expected = x.expected;
     let behind = x.behind;
     if is_digit(b) {
         return digit_hint(p, behind);
     }
-    if b == 45 && is_letter(expected) {
+    if b == b'-' && is_letter(expected) {
         return say(p, b" A blank keeps its letter: P - or D -.");
     }
-    if b == 10 && front {
+    if b == b'\n' && front {
         return say(p, b" No line is empty.");
     }
     match b {
-        257 => say(p, b" Save the text without it."),
-        13 => say(p, b" Lines end in LF alone, not in CR LF."),
-        256 => say(p, b" Every line ends in LF, the last too."),
-        44 | 46 => say(p, b" Every number is whole: scorer --help shows the units."),
-        32 => say(
+        b'\r' => say(p, b" Lines end in LF alone, not in CR LF."),
+        b',' | b'.' => say(p, b" Every number is whole: scorer --help shows the units."),
+        b' ' => say(
             p,
             b" One space stands between two parts, and none at a line's front or end.",
         ),
@@ -120,30 +120,35 @@ fn say_hint(p: Paper, b: u64, x: Stop, front: bool) -> Paper {
     }
 }
 
+fn say_hint(p: Paper, t: Found, x: Stop, front: bool) -> Paper {
+    match t {
+        Found::End => say(p, b" Every line ends in LF, the last too."),
+        Found::Mark => say(p, b" Save the text without it."),
+        Found::Byte(b) => byte_hint(p, b, x, front),
+    }
+}
+
+// The first byte of a line has 1.
+fn say_column(p: Paper, from: usize, at: usize) -> Paper
+    requires { ⌜ from ≤ at ⌝ }
+{
+    if at - from < 65536 {
+        return say_number(p, (at - from + 1) as u64);
+    }
+    p
+}
+
 fn say_stop(p: Paper, s: &[u8], line: usize, from: usize) -> Paper {
     let x = stop_in(s, line, from);
     let expected = x.expected;
     let at = x.at;
-    let b = there(s, at);
+    let t = found_at(s, at);
     let a = say_number(say(p, b"Line "), line as u64);
-    let c = say_number(say(a, b", column "), column(from, at));
-    let d = say_expected(say(c, b": "), expected);
-    let e = say_there(say(d, b" is expected, and there is "), b);
-    let f = say_hint(say(e, b"."), b, x, at == from);
-    say(f, b"\n")
-}
-
-// The first byte of a line has 1.
-fn column(from: usize, at: usize) -> u64 {
-    if at < from {
-        return 1;
-    }
-    let before = (at - from) as u64;
-    if before == u64::MAX {
-        before
-    } else {
-        before + 1
-    }
+    let b = say_column(say(a, b", column "), from, at);
+    let c = say_expected(say(b, b": "), expected);
+    let d = say_there(say(c, b" is expected, and there is "), t);
+    let e = say_hint(say(d, b"."), t, x, at == from);
+    say(e, b"\n")
 }
 
 pub fn say_where(p: Paper, s: &[u8]) -> Paper {

@@ -37,6 +37,14 @@ fn words_of(number: u32) {
     say(b"\n");
 }
 
+fn all_words() {
+    let mut number = 0;
+    while number < 32 {
+        words_of(number);
+        number += 1;
+    }
+}
+
 fn saturation_at(t: f64) {
     say(b"saturation at ");
     show(t);
@@ -113,8 +121,6 @@ fn main() {
         b"N 1\n",
         b"C 1 1 P 1 x\n",
     );
-    for number in 0..32 {
-        words_of(number);
-    }
+    all_words();
     saturations();
 }

@@ -3,10 +3,11 @@
 const README: &str = include_str!("../../../README.md");
 const HEADER: &str = include_str!("../../../include/makhroeng.h");
 
-/// What the table says in a number's second cell, and what to do in the third.
+/// What the table of refusals says in a number's second cell, and what to do in the third.
 pub fn words(number: u32) -> Option<String> {
     let front = format!("| {number} | ");
-    let (says, instruction) = README.lines().find_map(|line| line.strip_prefix(&front)?.strip_suffix(" |")?.split_once(" | "))?;
+    let table = README.lines().skip_while(|&line| line != "| No | It says | Do |").take_while(|line| line.starts_with('|'));
+    let (says, instruction) = table.into_iter().find_map(|line| line.strip_prefix(&front)?.strip_suffix(" |")?.split_once(" | "))?;
     Some(format!("{says}. {instruction}"))
 }
 

@@ -1,6 +1,6 @@
 -- The decimal digits of a number: the two equations that define them, and how many there are.
 use mathlib.Core.Path.{_≡_, refl, ap, _∙_}
-use mathlib.Core.List.{List, [], _∷_, _++_}
+use mathlib.Core.List.{List, [], _∷_, _++_, append-assoc}
 use Prim.Native.Nat.{ℕ, zero, suc, _+_, _/_, _%_, _^_, _≤_, _<_}
 use native.Mathlib.Nat.{pow-suc, div-lt-iff-lt-mul}
 use native.Mathlib.Decide.{decLt}
@@ -43,5 +43,22 @@ digits-most (suc k) n h =
 pub length-small : (n : ℕ) → n < 10 → length (decimal n) ≡ 1
 length-small n h = rw (decimal-small n h)
 
-pub length-large : (n : ℕ) → 10 ≤ n → length (decimal n) ≡ length (decimal (n / 10)) + 1
-length-large n h = rw (decimal-large n h, length-append)
+-- ---- two digits at a time
+
+pub decimal-pair : (n : ℕ) → 10 ≤ n → n < 100 → decimal n ≡ (48 + n / 10) ∷ (48 + n % 10) ∷ []
+decimal-pair n h g =
+    let e : n / 10 % 10 ≡ n / 10 = omega arith in
+    rw (decimal-large n h, decimal-small (n / 10) (omega arith), e)
+
+pub decimal-pairs : (n : ℕ) → 100 ≤ n → decimal n ≡ decimal (n / 100) ++ ((48 + n % 100 / 10) ∷ (48 + n % 100 % 10) ∷ [])
+decimal-pairs n h =
+    let front : n / 10 / 10 ≡ n / 100 = omega arith in
+    let tens : n / 10 % 10 ≡ n % 100 / 10 = omega arith in
+    let ones : n % 10 ≡ n % 100 % 10 = omega arith in
+    rw (decimal-large n (omega arith), decimal-large (n / 10) (omega arith), front, tens, ones, append-assoc)
+
+pub length-pair : (n : ℕ) → 10 ≤ n → n < 100 → length (decimal n) ≡ 2
+length-pair n h g = rw (decimal-pair n h g)
+
+pub length-pairs : (n : ℕ) → 100 ≤ n → length (decimal n) ≡ length (decimal (n / 100)) + 2
+length-pairs n h = rw (decimal-pairs n h, length-append)

@@ -1,2 +1,4 @@
 pub mod Writings
+pub mod Pairs
+pub mod Backward
 pub mod Unique

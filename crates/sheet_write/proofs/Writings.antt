@@ -2,7 +2,7 @@
 use mathlib.Core.Path.{_≡_, refl, ap, _∙_}
 use mathlib.Core.Bool.{Bool, true, false, cond}
 use mathlib.Core.List.{List, [], _∷_, _++_, append-assoc, append-nil}
-use Prim.Native.Nat.{ℕ, _+_, _-_, _/_, _%_, _≤_, _<_}
+use Prim.Native.Nat.{ℕ, _+_, _-_, _%_, _≤_, _<_}
 use native.Mathlib.Numerals.{add-one}
 use native.Mathlib.Omega.{arith}
 use lib.Dec.{ltb}
@@ -10,7 +10,7 @@ use lib.ListN.{length, take, drop, set, getD, length-append, length-drop}
 use lib.Seq.{drop-cons, set-append-seam, take-append-seam, drop-append-seam, drop-drop, drop-length, take-suc, take-all}
 use borrow.Author.Tests.{lt-ltb, le-ltb}
 use Rattle.sheet_text.specs.Decimal.{decimal}
-use Rattle.sheet_text.proofs.Decimals.{decimal-small, decimal-large}
+use Rattle.sheet_text.proofs.Decimals.{decimal-small}
 use Rattle.sheet_write.specs.Writing.{overlaid, Wrote, Fitted}
 
 module _ (o bs : List ℕ) where
@@ -41,12 +41,10 @@ next-byte {o} {out} {i} text w h g =
     let e : take (i + 1) text ≡ take i text ++ (getD text i 0 ∷ []) = rw (add-one, take-suc text i 0 h) in
     rw e (more (getD text i 0) w g)
 
-pub one-digit : (o : List ℕ) (n : ℕ) → n < 10 → 0 < length o → Wrote o (set o 0 (48 + n % 10)) 1 (decimal n)
-one-digit o n h g = rw (decimal-small n h) (more (48 + n % 10) (nothing o) g)
-
-pub last-digit : {o out : List ℕ} {k : ℕ} (n : ℕ) → 10 ≤ n → Wrote o out k (decimal (n / 10)) → k < length o
-    → Wrote o (set out k (48 + n % 10)) (k + 1) (decimal n)
-last-digit n h w g = rw (decimal-large n h) (more (48 + n % 10) w g)
+pub one-digit : (o : List ℕ) (n : ℕ) → n < 10 → 0 < length o → Wrote o (set o 0 (48 + n)) 1 (decimal n)
+one-digit o n h g =
+    let e : n % 10 ≡ n = omega arith in
+    rw (decimal-small n h, e) (more (48 + n) (nothing o) g)
 
 -- ---- bytes that fit, and bytes that don't
 

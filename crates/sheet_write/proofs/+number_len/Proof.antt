@@ -1,11 +1,11 @@
--- Below 10 there is one digit, and otherwise one more than n / 10 has; the measure is n. Assumes nothing.
+-- From 100 on there are two digits more than n / 100 has, and below one or two; the measure is n. Assumes nothing.
 use Prim.Native.Nat.{ℕ, _<_}
 use mathlib.Core.Path.{sym}
 use native.Mathlib.Omega.{arith}
 use borrow.Author.Needs.{needs}
 use borrow.Fn.Kinds.{In}
 use borrow.Fn.PlainCycle.{Measures, is, falls, and}
-use Rattle.sheet_text.proofs.Decimals.{length-small, length-large, digits-most}
+use Rattle.sheet_text.proofs.Decimals.{length-small, length-pair, length-pairs, digits-most}
 use Rattle.sheet_write.proofs.number_len.Reads as reads
 use Rattle.sheet_write.proofs.number_len.Kinds as kinds
 use Rattle.sheet_write.proofs.+number_len.Lts-number_len as lts
@@ -29,13 +29,17 @@ module _ (t : ℕ) where
   add-result c = search needs
 
   returns : lts.Need-returns calls here reads.Post
-  returns c = (sym (length-small _ (c .if1 .taken)), omega arith)
+  returns c =
+      let many = c .before in
+      let n = many .before .args .n in
+      let l = length-pairs n (many .if1 .taken) in
+      (omega arith, omega (arith, digits-most 19 n (omega arith)))
 
   returns-2 : lts.Need-returns-2 calls here reads.Post
-  returns-2 c =
-      let n = c .before .before .args .n in
-      let l = length-large n (c .before .if1 .left) in
-      (omega arith, omega (arith, digits-most 19 n (omega (arith, c .before .before .fits .n))))
+  returns-2 c = (sym (length-small _ (c .if2 .taken)), omega arith)
+
+  returns-3 : lts.Need-returns-3 calls here reads.Post
+  returns-3 c = (sym (length-pair _ (c .if2 .left) (c .before .if1 .left)), omega arith)
 
 pub +number-len-spec : {M : Type 1} → statement M
-+number-len-spec = close μ λ t. lts.spec (calls t) (here t) reads.Post (number-len-requires t) (add-result t) (returns t) (returns-2 t)
++number-len-spec = close μ λ t. lts.spec (calls t) (here t) reads.Post (number-len-requires t) (add-result t) (returns t) (returns-2 t) (returns-3 t)

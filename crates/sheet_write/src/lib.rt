@@ -34,10 +34,13 @@ pub fn put_whole(out: &mut [u8], text: &[u8]) -> usize
 pub fn number_len(n: u64) -> usize
     ensures { λ r. ⌜ (r ≡ length (decimal n)) × (r ≤ 20) ⌝ }
 {
-    if n >= 100 {
-        return number_len(n / 100) + 2;
+    if n < 10 {
+        return 1;
     }
-    if n < 10 { 1 } else { 2 }
+    if n < 100 {
+        return 2;
+    }
+    number_len(n / 100) + 2
 }
 
 // The two digits of r, a number below 100, at a place of out: in the table they stand at 2 r.
@@ -100,9 +103,9 @@ pub fn put_number(out: &mut [u8], n: u64) -> usize
     requires { ⌜ length (decimal n) ≤ length (now out) ⌝ }
     ensures { λ r. ⌜ Wrote (now (out .entry)) (now (out .exit)) r (decimal n) ⌝ }
 {
-    if n < 10 {
-        out[0] = b'0' + n as u8;
-        return 1;
+    if n >= 10 {
+        return put_by_table(out, n);
     }
-    put_by_table(out, n)
+    out[0] = b'0' + n as u8;
+    1
 }

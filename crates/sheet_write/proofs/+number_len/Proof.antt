@@ -1,4 +1,4 @@
--- From 100 on there are two digits more than n / 100 has, and below one or two; the measure is n. Assumes nothing.
+-- Below 10 there is one digit, below 100 there are two, and otherwise two more than n / 100 has; the measure is n. Assumes nothing.
 use Prim.Native.Nat.{ℕ, _<_}
 use mathlib.Core.Path.{sym}
 use native.Mathlib.Omega.{arith}
@@ -22,24 +22,24 @@ module _ (t : ℕ) where
   abbrev calls : lts.Claims
   calls = (and 0 kinds.ps (falls 0 kinds.ps _<_ μ t) reads.Pre, reads.Post)
 
+  returns : lts.Need-returns calls here reads.Post
+  returns c = (sym (length-small _ (c .if1 .taken)), omega arith)
+
+  returns-2 : lts.Need-returns-2 calls here reads.Post
+  returns-2 c = (sym (length-pair _ (c .before .if1 .left) (c .if2 .taken)), omega arith)
+
   number-len-requires : lts.Need-number-len-requires calls here reads.Post
   number-len-requires c κs = (omega arith, tt)
 
   add-result : lts.Need-add-result calls here reads.Post
   add-result c = search needs
 
-  returns : lts.Need-returns calls here reads.Post
-  returns c =
+  returns-3 : lts.Need-returns-3 calls here reads.Post
+  returns-3 c =
       let many = c .before in
-      let n = many .before .args .n in
-      let l = length-pairs n (many .if1 .taken) in
+      let n = many .before .before .args .n in
+      let l = length-pairs n (many .if2 .left) in
       (omega arith, omega (arith, digits-most 19 n (omega arith)))
 
-  returns-2 : lts.Need-returns-2 calls here reads.Post
-  returns-2 c = (sym (length-small _ (c .if2 .taken)), omega arith)
-
-  returns-3 : lts.Need-returns-3 calls here reads.Post
-  returns-3 c = (sym (length-pair _ (c .if2 .left) (c .before .if1 .left)), omega arith)
-
 pub +number-len-spec : {M : Type 1} → statement M
-+number-len-spec = close μ λ t. lts.spec (calls t) (here t) reads.Post (number-len-requires t) (add-result t) (returns t) (returns-2 t) (returns-3 t)
++number-len-spec = close μ λ t. lts.spec (calls t) (here t) reads.Post (returns t) (returns-2 t) (number-len-requires t) (add-result t) (returns-3 t)

@@ -23,20 +23,34 @@ size_t plain_number(uint8_t *out, size_t room, uint64_t n) {
 
 static size_t put(uint8_t *out, const char *text, size_t len) { memcpy(out, text, len); return len; }
 
-size_t plain_report(uint8_t *out, size_t room, uint64_t mg, uint64_t total) {
-    uint64_t marks[32];
-    for (int i = 0; i < 32; i++) marks[i] = mg;
-    size_t long_ = plain_len(total) + 15;
-    for (int i = 0; i < 32; i++) long_ += plain_len((uint64_t)i + 1) + plain_len(marks[i]) + 6;
-    if (long_ > room) return 0;
-    size_t at = 0;
-    for (int i = 0; i < 32; i++) {
-        at += put(out + at, "L ", 2);
-        at += plain_number(out + at, room - at, (uint64_t)i + 1);
+/* What came of a line: its milligrams, or the number of its refusal. */
+typedef struct { uint8_t kind; uint64_t value; } mark;
+enum { MASS, REFUSED };
+
+static size_t line_len(uint64_t i, mark m) {
+    return plain_len(i) + 6 + (m.kind == MASS ? plain_len(m.value) : plain_len(m.value & 255));
+}
+
+static size_t put_line(uint8_t *out, size_t room, uint64_t i, mark m) {
+    size_t at = put(out, "L ", 2);
+    at += plain_number(out + at, room - at, i);
+    if (m.kind == MASS) {
         at += put(out + at, " M ", 3);
-        at += plain_number(out + at, room - at, marks[i]);
-        at += put(out + at, "\n", 1);
+        at += plain_number(out + at, room - at, m.value);
+    } else {
+        at += put(out + at, " R ", 3);
+        at += plain_number(out + at, room - at, m.value & 255);
     }
+    return at + put(out + at, "\n", 1);
+}
+
+size_t plain_report(uint8_t *out, size_t room, uint64_t mg, uint64_t total) {
+    mark marks[32];
+    for (int i = 0; i < 32; i++) marks[i] = (mark){ MASS, mg };
+    size_t needed = plain_len(total) + 15, at = 0;
+    for (int i = 0; i < 32; i++) needed += line_len((uint64_t)i + 1, marks[i]);
+    if (needed > room) return 0;
+    for (int i = 0; i < 32; i++) at += put_line(out + at, room - at, (uint64_t)i + 1, marks[i]);
     at += put(out + at, "TOTAL ", 6);
     at += plain_number(out + at, room - at, total);
     return at + put(out + at, " COVERED\n", 9);

@@ -1,5 +1,6 @@
 /* writing [rounds]: numbers and reports as they were written before, as they are now, in plain C and by snprintf. Compares first,
-   byte for byte, then times; the best of the rounds, on one core. bench/writing builds and links it. */
+   byte for byte, then times; the best of the rounds, on one core. snprintf works no report's length first, and lays no marks
+   out. bench/writing builds and links it. */
 #define _GNU_SOURCE
 #include <inttypes.h>
 #include <stdio.h>
@@ -17,7 +18,7 @@ static volatile size_t sink;
 
 static uint64_t seed = 88172645463325252ull;
 static uint64_t random64(void) { seed ^= seed << 13; seed ^= seed >> 7; seed ^= seed << 17; return seed; }
-static double now(void) { struct timespec t; clock_gettime(CLOCK_THREAD_CPUTIME_ID, &t); return t.tv_sec * 1e9 + t.tv_nsec; }
+static double now(void) { struct timespec t; clock_gettime(CLOCK_MONOTONIC, &t); return t.tv_sec * 1e9 + t.tv_nsec; }
 
 static size_t printed_len(uint64_t n) { return (size_t)snprintf(NULL, 0, "%" PRIu64, n); }
 static size_t printed_number(uint8_t *to, size_t room, uint64_t n) { return (size_t)snprintf((char *)to, room, "%" PRIu64, n); }
@@ -31,43 +32,61 @@ static len_of *const LENS[WAYS] = { before_len, after_len, plain_len, printed_le
 static number_to *const PUTS[WAYS] = { before_number, after_number, plain_number, printed_number };
 static report_to *const REPORTS[WAYS] = { before_report, after_report, plain_report, printed_report };
 
-/* The least and the most number of d digits. */
-static uint64_t least(int d) { uint64_t n = 1; while (--d > 0) n *= 10; return n == 1 ? 0 : n; }
+/* The smallest and the largest number of d digits. */
+static uint64_t least(int d) { uint64_t n = 1; for (; d > 1; d--) n *= 10; return n == 1 ? 0 : n; }
 static uint64_t most(int d) { return d == 20 ? UINT64_MAX : least(d + 1) - 1; }
 static void draw(int d) { for (int i = 0; i < N; i++) numbers[i] = least(d) + random64() % (most(d) - least(d) + 1); }
 
 static long compared;
 static void differs(const char *what, int way, uint64_t n) { printf("%s: %s differs at %" PRIu64 "\n", what, NAMES[way], n); exit(1); }
 
-/* Each way writes what snprintf does and nothing behind it; where it fits exactly too. */
+/* Each way writes what snprintf does and changes no other byte, where it just fits and where there is room. */
 static void compare_number(uint64_t n) {
     uint8_t want[40], got[40];
     memset(want, '#', sizeof want);
     size_t len = (size_t)sprintf((char *)want, "%" PRIu64, n);
     want[len] = '#';
     for (int w = 0; w < 3; w++) {
-        memset(got, '#', sizeof got);
         if (LENS[w](n) != len) differs("the length", w, n);
-        if (PUTS[w](got, len, n) != len || memcmp(got, want, sizeof got)) differs("the number", w, n);
-        compared += 2;
+        for (int roomy = 0; roomy < 2; roomy++) {
+            memset(got, '#', sizeof got);
+            if (PUTS[w](got, roomy ? sizeof got : len, n) != len || memcmp(got, want, sizeof got)) differs("the number", w, n);
+        }
+        compared += 3;
     }
 }
 
+/* The same of a report; and one that does not fit changes nothing. */
 static void compare_report(uint64_t mg, uint64_t total) {
-    static uint8_t want[2048], got[2048];
+    static uint8_t want[2048], got[2048], none[2048];
+    memset(want, '#', sizeof want);
+    memset(none, '#', sizeof none);
     size_t len = printed_report(want, sizeof want, mg, total);
+    want[len] = '#';
     for (int w = 0; w < 3; w++) {
+        for (int roomy = 0; roomy < 2; roomy++) {
+            memset(got, '#', sizeof got);
+            if (REPORTS[w](got, roomy ? sizeof got : len, mg, total) != len || memcmp(got, want, sizeof got)) differs("the report", w, mg);
+        }
         memset(got, '#', sizeof got);
-        if (REPORTS[w](got, len, mg, total) != len || memcmp(got, want, len) || got[len] != '#') differs("the report", w, mg);
-        memset(got, '#', sizeof got);
-        if (REPORTS[w](got, len - 1, mg, total) != 0 || got[0] != '#') differs("the report that does not fit", w, mg);
-        compared += 2;
+        if (REPORTS[w](got, len - 1, mg, total) != 0 || memcmp(got, none, sizeof got)) differs("the report that does not fit", w, mg);
+        compared += 3;
     }
 }
 
+/* The best time of one call, in ns, over the numbers; i is the place of the one at hand. */
 static double best;
-#define TIMED(rounds, each, work) do { best = 1e18; for (int k = 0; k < (rounds); k++) { size_t s = 0; double a = now(); \
-    for (int i = 0; i < (each); i++) s += (work); double t = (now() - a) / (each); sink = s; if (t < best) best = t; } } while (0)
+#define TIMED(rounds, call) do { \
+        best = 1e18; \
+        for (int k = 0; k < (rounds); k++) { \
+            size_t s = 0; \
+            double a = now(); \
+            for (int i = 0; i < N; i++) s += (call); \
+            double t = (now() - a) / N; \
+            sink = s; \
+            if (t < best) best = t; \
+        } \
+    } while (0)
 
 static void row(const char *name, const double *t) {
     printf("%-26s %8.1f %8.1f %8.1f %8.1f   %5.2f %5.2f %6.2f\n", name, t[0], t[1], t[2], t[3], t[0] / t[1], t[2] / t[1], t[3] / t[1]);
@@ -88,19 +107,19 @@ int main(int argc, char **argv) {
     printf("%-26s %8s %8s %8s %8s   %5s %5s %6s\n", "ns", "before", "after", "C", "snprintf", "bef.", "C", "snpr.");
     for (int d = 1; d <= 20; d++) {
         draw(d);
-        for (int w = 0; w < WAYS; w++) { TIMED(rounds, N, PUTS[w](out, sizeof out, numbers[i])); t[w] = best; }
+        for (int w = 0; w < WAYS; w++) { TIMED(rounds, PUTS[w](out, sizeof out, numbers[i])); t[w] = best; }
         sprintf(name, "a number of %d digit%s", d, d == 1 ? "" : "s");
         row(name, t);
     }
     for (int d = 1; d <= 20; d += d == 1 ? 7 : 12) {
         draw(d);
-        for (int w = 0; w < WAYS; w++) { TIMED(rounds, N, LENS[w](numbers[i])); t[w] = best; }
+        for (int w = 0; w < WAYS; w++) { TIMED(rounds, LENS[w](numbers[i])); t[w] = best; }
         sprintf(name, "how long one of %d is", d);
         row(name, t);
     }
     for (int d = 1; d <= 8; d += 7) {
         draw(d);
-        for (int w = 0; w < WAYS; w++) { TIMED(rounds / 10 + 1, N, REPORTS[w](out, sizeof out, numbers[i], numbers[i] * 32)); t[w] = best; }
+        for (int w = 0; w < WAYS; w++) { TIMED(rounds / 10 + 1, REPORTS[w](out, sizeof out, numbers[i], numbers[i] * 32)); t[w] = best; }
         sprintf(name, "a report of 32, %d digit%s", d, d == 1 ? "" : "s");
         row(name, t);
     }

@@ -30,8 +30,8 @@ pub record Behind (o : List ℕ) (n : ℕ) (xs : List ℕ) (at left : ℕ) : Typ
 pub none-yet : (o : List ℕ) (n at : ℕ) → at ≡ length (decimal n) → Behind o n o at n
 none-yet o n at e = record { digits = []; split = rw append-nil; place = e; bytes = refl }
 
-pub inside : {o xs : List ℕ} {n at left : ℕ} → Behind o n xs at left → at ≤ length (decimal n)
-inside b = rw (b .split, length-append) (omega (arith, b .place))
+pub at-most : {o xs : List ℕ} {n at left : ℕ} → Behind o n xs at left → at ≤ length (decimal n)
+at-most b = rw (b .split, length-append) (omega (arith, b .place))
 
 -- the last two digits of those that are left
 pub two-more : {o xs : List ℕ} {n at left : ℕ} → Behind o n xs at left → 100 ≤ left

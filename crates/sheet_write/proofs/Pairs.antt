@@ -25,6 +25,6 @@ pub stand : (t : List ℕ) (r : ℕ) → t ≡ pairs → r < 100 → Stand t r r
 unfolding pairs
 stand t r e h = rw e (rw zero-add at (stand-from 100 0 r h))
 
-pub long : (t : List ℕ) → t ≡ pairs → length t ≡ 200
+pub two-hundred : (t : List ℕ) → t ≡ pairs → length t ≡ 200
 unfolding pairs pairsFrom
-long t e = rw e refl
+two-hundred t e = rw e refl

@@ -1,4 +1,5 @@
--- The table that numbers are written by, which code inside asks for: the two digits of 0, of 1, and so on to 99. Definitions only.
+-- What code inside asks for, and no public promise speaks of: the table that numbers are written by, the two digits of 0, of 1, and so on to 99.
+-- Definitions only.
 use Prim.Native.Nat.{ℕ, zero, suc, _+_, _/_, _%_}
 use mathlib.Core.List.{List, [], _∷_}
 

@@ -76,7 +76,7 @@ fn put_pairs(out: &mut [u8], table: &[u8], n: u64) -> usize
     len
 }
 
-// The same by the table, which is laid out anew for each number.
+// The digits of n by the table, which is laid out anew for each number: so it stands outside of the loop, and a digit alone has none.
 fn put_by_table(out: &mut [u8], n: u64) -> usize
     requires { ⌜ length (decimal n) ≤ length (now out) ⌝ }
     ensures { λ r. ⌜ Wrote (now (out .entry)) (now (out .exit)) r (decimal n) ⌝ }
@@ -98,7 +98,7 @@ fn put_by_table(out: &mut [u8], n: u64) -> usize
     )
 }
 
-// The digits of n. One that stands alone needs no table.
+// The digits of n.
 pub fn put_number(out: &mut [u8], n: u64) -> usize
     requires { ⌜ length (decimal n) ≤ length (now out) ⌝ }
     ensures { λ r. ⌜ Wrote (now (out .entry)) (now (out .exit)) r (decimal n) ⌝ }

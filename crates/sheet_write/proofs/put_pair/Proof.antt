@@ -2,15 +2,15 @@
 use native.Mathlib.Omega.{arith}
 use lib.ListN.{length-set}
 use borrow.Author.Needs.{needs}
-use Rattle.sheet_write.proofs.Pairs.{stand, long}
+use Rattle.sheet_write.proofs.Pairs.{stand, two-hundred}
 use Rattle.sheet_write.proofs.put_pair.Statement.{statement}
 use Rattle.sheet_write.proofs.put_pair.Tie as tie
 
 shared-slice-read-tens : tie.Need-shared-slice-read-tens
-shared-slice-read-tens c = omega (arith, long _ (c .before .pre .0))
+shared-slice-read-tens c = omega (arith, two-hundred _ (c .before .pre .0))
 
 shared-slice-read-ones : tie.Need-shared-slice-read-ones
-shared-slice-read-ones c = omega (arith, long _ (c .before .before .pre .0))
+shared-slice-read-ones c = omega (arith, two-hundred _ (c .before .before .pre .0))
 
 slice-write-out-2 : tie.Need-slice-write-out-2
 slice-write-out-2 c = rw length-set (omega arith)

@@ -4,7 +4,7 @@ use native.Mathlib.Omega.{arith}
 use lib.ListN.{length, length-set}
 use borrow.Author.Needs.{needs}
 use Rattle.sheet_text.proofs.Decimals.{length-small, length-pair, length-pairs}
-use Rattle.sheet_write.proofs.Backward.{Behind, none-yet, inside, two-more, first, first-two}
+use Rattle.sheet_write.proofs.Backward.{Behind, none-yet, at-most, two-more, first, first-two}
 use Rattle.sheet_write.proofs.put_pairs.Statement.{statement}
 use Rattle.sheet_write.proofs.put_pairs.Tie as tie
 
@@ -24,7 +24,7 @@ put-pair-requires : tie.Need-put-pair-requires Inv-loop μ-loop
 put-pair-requires c κs =
     let l = c .before .before .loop in
     let p = l .inv .1 .place in
-    (c .before .before .before .before .before .before .pre .0, omega arith, omega (arith, p, length-pairs (l .left) (c .before .loop-test .taken), inside (l .inv .1)))
+    (c .before .before .before .before .before .before .pre .0, omega arith, omega (arith, p, length-pairs (l .left) (c .before .loop-test .taken), at-most (l .inv .1)))
 
 loop-again : tie.Need-loop-again Inv-loop μ-loop
 loop-again c =
@@ -35,14 +35,14 @@ loop-again c =
 slice-write-out : tie.Need-slice-write-out Inv-loop μ-loop
 slice-write-out c =
     let l = c .before .before .loop in
-    omega (arith, l .inv .1 .place, length-small (l .left) (c .if1 .taken), inside (l .inv .1))
+    omega (arith, l .inv .1 .place, length-small (l .left) (c .if1 .taken), at-most (l .inv .1))
 
 put-pair-requires-2 : tie.Need-put-pair-requires-2 Inv-loop μ-loop
 put-pair-requires-2 c κs =
     let t = c .before in
     let l = t .before .before .loop in
     let p = length-pair (l .left) (t .if1 .left) (t .before .loop-test .left) in
-    (t .before .before .before .before .before .before .pre .0, t .before .loop-test .left, omega (arith, p, l .inv .1 .place, inside (l .inv .1)))
+    (t .before .before .before .before .before .before .pre .0, t .before .loop-test .left, omega (arith, p, l .inv .1 .place, at-most (l .inv .1)))
 
 returns : tie.Need-returns Inv-loop μ-loop
 returns c =

@@ -1,4 +1,4 @@
-"""The thermal conductivity worked a second time, from 002 and docs/ARRANGEMENT.md, section 13: the last part of what the program `run_figures` must print.
+"""The thermal conductivity worked a second time, from 002 and docs/ARRANGEMENT.md, section 13: a part of what the program `run_figures` must print.
 It is equation.py that prints it, after its own.
 
 Each operation is one Python float operation, which is the same f64 operation. Each number is tested as it is worked.

@@ -1,8 +1,9 @@
-"""What is said to a person worked a second time, by RULES 5.6 and 14: what the program `run_desk` must print.
+"""What is said to a person worked a second time, by RULES 14: what the program `run_desk` must print.
     python3 crosscheck/desk.py | diff - crates/run_desk/stdout
 
 First the help, as crosscheck/help.txt has it. Then for each text of crates/run_desk/data, and three that are long, its report (sheets.py), the explanation
-under it, and its warnings by themselves, of a file sheet.txt. Then the words of 0 to 31, and saturation by itself at each temperature below. The words of a refusal are read from README.md, which has them letter for letter.
+under it, and its warnings by themselves, of a file sheet.txt. Then the words of 0 to 31, read from README.md, which has
+those of each refusal letter for letter.
 """
 import functools
 import math
@@ -12,26 +13,12 @@ import sys
 
 sys.dont_write_bytecode = True
 import doors
-import figures
-import numerics
+import saturation
 import sheets
 
 ROOT = pathlib.Path(__file__).parent.parent
 SHEETS = ROOT / "crates" / "run_desk" / "data" / "sheets.txt"
 HELP = ROOT / "crosscheck" / "help.txt"
-TEMPERATURES = [
-    # 216.592, 304.1282 and 523: the float below, itself, the float above
-    "406b12f1a9fbe76c", "406b12f1a9fbe76d", "406b12f1a9fbe76e", "4073020d1b71758d", "4073020d1b71758e", "4073020d1b71758f",
-    "408057ffffffffff", "4080580000000000", "4080580000000001",
-    # 216.6, 220, then every 10 to 300, 303.1282, 304, 304.128, 305.1282
-    "406b133333333333", "406b800000000000", "406cc00000000000", "406e000000000000", "406f400000000000", "4070400000000000", "4070e00000000000",
-    "4071800000000000", "4072200000000000", "4072c00000000000", "4072f20d1b71758e", "4073000000000000", "4073020c49ba5e35", "4073120d1b71758e",
-    # 0, 5, 10, 15, 20, 25 and 29 degrees Celsius, with 273.15 added
-    "4071126666666666", "4071626666666666", "4071b26666666666", "4072026666666666", "4072526666666666", "4072a26666666666", "4072e26666666666",
-    # 0, -0, the least float above 0, -1, -250, 1e300, the infinities, a NaN
-    "0000000000000000", "8000000000000000", "0000000000000001", "bff0000000000000", "c06f400000000000", "7e37e43c8800759c",
-    "7ff0000000000000", "fff0000000000000", "7ff8000000000000",
-]
 # a text is explained from the doors' answers, which its report has asked for already
 doors.by_pressure, doors.by_density = functools.cache(doors.by_pressure), functools.cache(doors.by_density)
 
@@ -43,15 +30,6 @@ def words():
 
 
 WORDS = words()
-
-
-def saturation(t):
-    """RULES 5.6: the vapour pressure and the saturated densities, of vapour and of liquid."""
-    if not math.isfinite(t):
-        raise doors.Refusal(3)
-    if not 216.592 <= t <= 523.0 or not t < 304.1282:
-        raise doors.Refusal(4)
-    return [doors.worked(figure, t) for figure in (figures.vapour_pressure, figures.vapour_density, figures.liquid_density)]
 
 
 # RULES 14.2: numbers as they are shown
@@ -118,7 +96,7 @@ def of_gauge(_number, temperature, kind, value, volume):
     if not 1 <= int(volume) <= 1000000 or kind != b"P":
         return None
     try:
-        p, vapour, liquid = saturation(kelvin(temperature))
+        p, vapour, liquid = saturation.at(kelvin(temperature))
     except doors.Refusal:
         return None
     if not -200000.0 <= float(int(value)) - p <= 200000.0:
@@ -224,14 +202,6 @@ def show(title, text):
     print(f"= {title}\n{sheets.report(text)}{explanation(text)}{warnings(text)}", end="")
 
 
-def tell(t):
-    try:
-        told = " ".join(map(numerics.show, saturation(t)))
-    except doors.Refusal as r:
-        told = f"refused by {r.args[0]}"
-    print(f"saturation at {numerics.show(t)} is {told}")
-
-
 if __name__ == "__main__":
     if HELP.exists():
         sys.stdout.buffer.write(b"= help\n" + HELP.read_bytes())
@@ -244,5 +214,3 @@ if __name__ == "__main__":
     show("65,536 bytes, the last line damaged", b"N 1\n" + b"C 1 1 P 1 1\n" * 5460 + b"C 1 1 P 1 x\n")
     for number in range(32):
         print(f"words of {number} are {WORDS.get(number, 'none')}")
-    for t in TEMPERATURES:
-        tell(numerics.number(int(t, 16)))

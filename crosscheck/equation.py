@@ -1,9 +1,9 @@
 #!/usr/bin/env python3
 """The pressure and the state worked a second time, from 004 and docs/ARRANGEMENT.md, sections 2 to 9 and 12: prints what the program `run_figures` must print,
-with figures.py's lines before its own and conductivity.py's after them.
+with figures.py's lines before its own and conductivity.py's after them. saturation.py has what comes last.
 
 Each operation is one Python float operation, which is the same f64 operation. Each number is tested as it is worked, where the code tests at the end.
-    crosscheck/equation.py | diff - crates/run_figures/stdout
+    (crosscheck/equation.py; python3 crosscheck/saturation.py) | diff - crates/run_figures/stdout
 """
 import sys
 

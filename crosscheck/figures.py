@@ -1,5 +1,5 @@
 """Saturation, melting and the ideal part worked a second time, from 004, RULES 4.7 and docs/ARRANGEMENT.md, sections 8, 10 and 11: the first part of what the
-program `run_figures` must print. The rest, and all of it together, is equation.py's.
+program `run_figures` must print. equation.py prints it, before its own.
 
 Each operation is one Python float operation, which is the same f64 operation. Each number is tested as it is worked, where the code tests at the end.
 """

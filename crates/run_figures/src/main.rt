@@ -1,6 +1,9 @@
 // The saturation figures and the melting pressure at temperatures, I₁ and I₂ of the ideal part at values of τ,
-// pressures and states with the count of the terms that fell away, and thermal conductivities; their bits and counts
-// were worked elsewhere (crosscheck/equation.py). One figure a line.
+// pressures and states with the count of the terms that fell away, thermal conductivities, and saturation by itself; their
+// bits and counts were worked elsewhere (crosscheck/equation.py, crosscheck/saturation.py). One figure a line.
+use door_limits::document_01;
+use door_saturation::Saturated;
+use door_saturation::saturated_at;
 use eos_brackets::Five;
 use eos_densities::liquid_density;
 use eos_densities::vapour_density;
@@ -87,11 +90,31 @@ fn ideal_gas(tau: f64) {
     figure(b"I2 at ", tau, second);
 }
 
+// Saturation by itself (RULES 5.6).
+fn saturation_at(t: f64) {
+    say(b"saturation at ");
+    show(t);
+    say(b" is ");
+    match saturated_at(document_01(), t) {
+        Saturated::Is(s) => {
+            show(s.pressure);
+            also(s.vapour);
+            also(s.liquid);
+        }
+        Saturated::Refused(n) => {
+            say(b"refused by ");
+            io::print_decimal(STDOUT_FILENO, n as u64);
+        }
+    }
+    say(b"\n");
+}
+
 // What is worked at each number of a list.
 enum Of {
     Saturation,
     Melting,
     Ideal,
+    Alone,
 }
 
 fn figures_of(of: Of, x: f64) {
@@ -99,6 +122,7 @@ fn figures_of(of: Of, x: f64) {
         Of::Saturation => saturated(x),
         Of::Melting => figure(b"melting pressure at ", x, melting_pressure(x)),
         Of::Ideal => ideal_gas(x),
+        Of::Alone => saturation_at(x),
     }
 }
 
@@ -452,6 +476,54 @@ fn conductivity_edges() {
     conductivity(300.0, 0.0 / 0.0);
 }
 
+// The ends of the range, 304.1282 and 523, each with the floats beside it; a spread; 0 to 29 C; and what is no temperature.
+fn saturations_alone() {
+    each(
+        Of::Alone,
+        &[
+            216.59199999999998,
+            216.592,
+            216.59200000000004,
+            304.12819999999994,
+            304.1282,
+            304.12820000000005,
+            522.9999999999999,
+            523.0,
+            523.0000000000001,
+            216.6,
+            220.0,
+            230.0,
+            240.0,
+            250.0,
+            260.0,
+            270.0,
+            280.0,
+            290.0,
+            300.0,
+            303.1282,
+            304.0,
+            304.128,
+            305.1282,
+            273.15,
+            278.15,
+            283.15,
+            288.15,
+            293.15,
+            298.15,
+            302.15,
+            0.0,
+            -0.0,
+            5e-324,
+            -1.0,
+            -250.0,
+            1e300,
+            1.0 / 0.0,
+            -1.0 / 0.0,
+            0.0 / 0.0,
+        ],
+    );
+}
+
 fn main() {
     saturations();
     meltings();
@@ -466,4 +538,5 @@ fn main() {
     conductivities();
     conductivity_orders();
     conductivity_edges();
+    saturations_alone();
 }

@@ -5,7 +5,7 @@ use door_limits::document_01;
 use libc::STDOUT_FILENO;
 use run_print::bits::say;
 use run_texts::sheets::each;
-use run_texts::sheets::shown;
+use run_texts::sheets::reported;
 use run_texts::texts::fill;
 use run_texts::texts::load;
 use sheet_report::Written;
@@ -14,7 +14,7 @@ use sheet_score::score;
 fn built(title: &[u8], first: &[u8], lines: &[u8], times: usize, others: &[u8]) {
     let mut space = [0; 65537];
     let n = fill(&mut space, first, lines, times, others);
-    shown(title, &space[..n], false);
+    reported(title, &space[..n]);
 }
 
 // The example's report, of 29 bytes, into an output of dots: what was answered, and every byte of the output after.
@@ -86,14 +86,13 @@ fn long() {
 fn main() {
     let mut space = io::large_buffer();
     let n = load(b"sheets.txt", &mut space);
-    each(&space[..n], false);
+    each(&space[..n]);
     each(
         b"= CR LF in the first line\nN 1\r\nC 7 3000000 P 5000000 1\n\
         = CR LF in the last line\nN 1\nC 7 3000000 P 5000000 1\r\n\
         = a tab\nN 1\nC 7\t3000000 P 5000000 1\n\
         = a NUL byte\nN 1\nC 7 3000000 P 5000000 1\0\n\
         = a byte above 127\nN 1\nC 7 3000000 P 5000000 \xb1\n",
-        false,
     );
     banks();
     long();

@@ -1,5 +1,5 @@
 // Texts that a program is run on: from a file, found in a list, or made of lines.
-ghost use Prim.Native.Nat.{_≤_};
+ghost use Prim.Native.Nat.{_<_, _≤_};
 ghost use lib.ListN.{length};
 ghost use Rattle.io.specs.Counts.{Counts};
 use sheet_write::put;
@@ -31,6 +31,34 @@ pub fn find(text: &[u8], from: usize, mark: u8) -> usize
         i += 1;
     }
     i
+}
+
+// A title and a text in a list: where the title ends, and where the text starts and the next title.
+pub struct Places {
+    pub end: usize,
+    pub start: usize,
+    pub next: usize,
+}
+
+// The title starts with `=` at a place of the list and ends with its line; the text goes up to the next `=`.
+pub fn titled(list: &[u8], at: usize) -> Places
+    requires { ⌜ at < length (now list) ⌝ }
+    ensures { λ r. ⌜ (at < r .end) × (r .end ≤ r .start) × (r .start ≤ r .next) × (r .next ≤ length (now (list .entry))) ⌝ }
+{
+    let end = find(list, at + 1, b'\n');
+    if end >= list.len() {
+        return Places {
+            end,
+            start: end,
+            next: end,
+        };
+    }
+    let start = end + 1;
+    Places {
+        end,
+        start,
+        next: find(list, start, b'='),
+    }
 }
 
 // Bytes at a place of the space, where they fit; answers where they end.

@@ -6,10 +6,10 @@ use Rattle.run_texts.proofs.sheets.each.Statement.{statement}
 use Rattle.run_texts.proofs.sheets.each.Tie as tie
 
 abbrev Inv-loop : tie.InvT-loop
-Inv-loop list explained at₀ at = at ≤ length list
+Inv-loop list at₀ at = at ≤ length list
 
 abbrev μ-loop : tie.MeasureT-loop
-μ-loop list explained at₀ at = length list - at
+μ-loop list at₀ at = length list - at
 
 pub each-spec : {M : Type 1} → statement M
 each-spec =
@@ -17,10 +17,6 @@ each-spec =
     (tie.spec
     Inv-loop
     μ-loop
-    (λ c. search needs)
-    (λ c. search needs)
-    (λ c κs. search needs)
-    (λ c. search needs)
     (λ c. search needs)
     (λ c κs. search needs)
     (λ c. search needs)

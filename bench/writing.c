@@ -10,8 +10,8 @@
 #include "writing.h"
 
 #define N 256
-#define WAYS 4
-static const char *const NAMES[WAYS] = { "before", "after", "C", "snprintf" };
+enum { CALL, BEFORE, AFTER, PLAIN, PRINTED, WAYS };
+static const char *const NAMES[WAYS] = { "a call", "before", "after", "C", "snprintf" };
 static uint64_t numbers[N];
 static uint8_t out[2048];
 static volatile size_t sink;
@@ -19,6 +19,11 @@ static volatile size_t sink;
 static uint64_t seed = 88172645463325252ull;
 static uint64_t random64(void) { seed ^= seed << 13; seed ^= seed >> 7; seed ^= seed << 17; return seed; }
 static double now(void) { struct timespec t; clock_gettime(CLOCK_MONOTONIC, &t); return t.tv_sec * 1e9 + t.tv_nsec; }
+
+/* What a call takes that does nothing. */
+static __attribute__((noipa)) size_t called_len(uint64_t n) { return n > 0; }
+static __attribute__((noipa)) size_t called_number(uint8_t *to, size_t room, uint64_t n) { (void)to; return room > n; }
+static __attribute__((noipa)) size_t called_report(uint8_t *to, size_t room, uint64_t mg, uint64_t total) { (void)to; (void)total; return room > mg; }
 
 static size_t printed_len(uint64_t n) { return (size_t)snprintf(NULL, 0, "%" PRIu64, n); }
 static size_t printed_number(uint8_t *to, size_t room, uint64_t n) { return (size_t)snprintf((char *)to, room, "%" PRIu64, n); }
@@ -28,9 +33,9 @@ static size_t printed_report(uint8_t *to, size_t room, uint64_t mg, uint64_t tot
     return at + (size_t)snprintf((char *)to + at, room - at, "TOTAL %" PRIu64 " COVERED\n", total);
 }
 
-static len_of *const LENS[WAYS] = { before_len, after_len, plain_len, printed_len };
-static number_to *const PUTS[WAYS] = { before_number, after_number, plain_number, printed_number };
-static report_to *const REPORTS[WAYS] = { before_report, after_report, plain_report, printed_report };
+static len_of *const LENS[WAYS] = { called_len, before_len, after_len, plain_len, printed_len };
+static number_to *const PUTS[WAYS] = { called_number, before_number, after_number, plain_number, printed_number };
+static report_to *const REPORTS[WAYS] = { called_report, before_report, after_report, plain_report, printed_report };
 
 /* The smallest and the largest number of d digits. */
 static uint64_t least(int d) { uint64_t n = 1; for (; d > 1; d--) n *= 10; return n == 1 ? 0 : n; }
@@ -46,7 +51,7 @@ static void compare_number(uint64_t n) {
     memset(want, '#', sizeof want);
     size_t len = (size_t)sprintf((char *)want, "%" PRIu64, n);
     want[len] = '#';
-    for (int w = 0; w < 3; w++) {
+    for (int w = BEFORE; w <= PLAIN; w++) {
         if (LENS[w](n) != len) differs("the length", w, n);
         for (int roomy = 0; roomy < 2; roomy++) {
             memset(got, '#', sizeof got);
@@ -63,7 +68,7 @@ static void compare_report(uint64_t mg, uint64_t total) {
     memset(none, '#', sizeof none);
     size_t len = printed_report(want, sizeof want, mg, total);
     want[len] = '#';
-    for (int w = 0; w < 3; w++) {
+    for (int w = BEFORE; w <= PLAIN; w++) {
         for (int roomy = 0; roomy < 2; roomy++) {
             memset(got, '#', sizeof got);
             if (REPORTS[w](got, roomy ? sizeof got : len, mg, total) != len || memcmp(got, want, sizeof got)) differs("the report", w, mg);
@@ -74,22 +79,44 @@ static void compare_report(uint64_t mg, uint64_t total) {
     }
 }
 
-/* The best time of one call, in ns, over the numbers; i is the place of the one at hand. */
-static double best;
-#define TIMED(rounds, call) do { \
-        best = 1e18; \
-        for (int k = 0; k < (rounds); k++) { \
-            size_t s = 0; \
-            double a = now(); \
-            for (int i = 0; i < N; i++) s += (call); \
-            double t = (now() - a) / N; \
-            sink = s; \
-            if (t < best) best = t; \
-        } \
+/* One round over the numbers, in ns a call: one loop for all the ways, so that none lies better than another. */
+static __attribute__((noipa)) double len_round(len_of *len) {
+    size_t s = 0;
+    double a = now();
+    for (int i = 0; i < N; i++) s += len(numbers[i]);
+    double b = now();
+    sink = s;
+    return (b - a) / N;
+}
+static __attribute__((noipa)) double number_round(number_to *put) {
+    size_t s = 0;
+    double a = now();
+    for (int i = 0; i < N; i++) s += put(out, sizeof out, numbers[i]);
+    double b = now();
+    sink = s;
+    return (b - a) / N;
+}
+static __attribute__((noipa)) double report_round(report_to *put) {
+    size_t s = 0;
+    double a = now();
+    for (int i = 0; i < N; i++) s += put(out, sizeof out, numbers[i], numbers[i] * 32);
+    double b = now();
+    sink = s;
+    return (b - a) / N;
+}
+
+/* The best of the rounds for each way; the ways take turns. */
+static double t[WAYS];
+#define TIMED(rounds, round) do { \
+        for (int w = 0; w < WAYS; w++) t[w] = 1e18; \
+        for (int k = 0; k < (rounds); k++) \
+            for (int w = 0; w < WAYS; w++) { double took = (round); if (took < t[w]) t[w] = took; } \
     } while (0)
 
-static void row(const char *name, const double *t) {
-    printf("%-26s %8.1f %8.1f %8.1f %8.1f   %5.2f %5.2f %6.2f\n", name, t[0], t[1], t[2], t[3], t[0] / t[1], t[2] / t[1], t[3] / t[1]);
+static void row(const char *name) {
+    printf("%-26s", name);
+    for (int w = 0; w < WAYS; w++) printf(" %8.1f", t[w]);
+    printf("   %5.2f %5.2f %6.2f\n", t[BEFORE] / t[AFTER], t[PLAIN] / t[AFTER], t[PRINTED] / t[AFTER]);
 }
 
 int main(int argc, char **argv) {
@@ -102,26 +129,27 @@ int main(int argc, char **argv) {
     for (int d = 1; d <= 20; d++) { draw(d); for (int i = 0; i < N; i++) compare_report(numbers[i], numbers[N - 1 - i]); }
     printf("%ld compared with snprintf, 0 differ\n\n", compared);
 
-    double t[WAYS];
     char name[32];
-    printf("%-26s %8s %8s %8s %8s   %5s %5s %6s\n", "ns", "before", "after", "C", "snprintf", "bef.", "C", "snpr.");
+    printf("%-26s", "ns");
+    for (int w = 0; w < WAYS; w++) printf(" %8s", NAMES[w]);
+    printf("   %5s %5s %6s\n", "bef.", "C", "snpr.");
     for (int d = 1; d <= 20; d++) {
         draw(d);
-        for (int w = 0; w < WAYS; w++) { TIMED(rounds, PUTS[w](out, sizeof out, numbers[i])); t[w] = best; }
+        TIMED(rounds, number_round(PUTS[w]));
         sprintf(name, "a number of %d digit%s", d, d == 1 ? "" : "s");
-        row(name, t);
+        row(name);
     }
     for (int d = 1; d <= 20; d += d == 1 ? 7 : 12) {
         draw(d);
-        for (int w = 0; w < WAYS; w++) { TIMED(rounds, LENS[w](numbers[i])); t[w] = best; }
+        TIMED(rounds, len_round(LENS[w]));
         sprintf(name, "how long one of %d is", d);
-        row(name, t);
+        row(name);
     }
     for (int d = 1; d <= 8; d += 7) {
         draw(d);
-        for (int w = 0; w < WAYS; w++) { TIMED(rounds / 10 + 1, REPORTS[w](out, sizeof out, numbers[i], numbers[i] * 32)); t[w] = best; }
+        TIMED(rounds / 10 + 1, report_round(REPORTS[w]));
         sprintf(name, "a report of 32, %d digit%s", d, d == 1 ? "" : "s");
-        row(name, t);
+        row(name);
     }
     return 0;
 }

@@ -6,7 +6,7 @@ use crate::sheet::{score, Ending, Outcome};
 use crate::tally::{digest, run, Tally};
 use std::time::Duration;
 
-const KINDS: [&str; 12] = [
+const KINDS: [&str; 13] = [
     "good, 1 to 32 lines",
     "need is the total",
     "need is the total and one",
@@ -19,9 +19,10 @@ const KINDS: [&str; 12] = [
     "damaged in one to three places",
     "any bytes of the form's",
     "any bytes",
+    "totals of 10 and 11 digits",
 ];
 /// Out of 100.
-const SHARES: [u64; 12] = [14, 8, 8, 12, 12, 8, 8, 6, 1, 16, 4, 3];
+const SHARES: [u64; 13] = [14, 8, 8, 12, 12, 8, 8, 6, 1, 15, 4, 3, 1];
 /// The ending that is asked for, whether or not it fits; then what did not fit; then lines, answered and by refusal.
 const COLUMNS: [&str; 21] = [
     "COVERED",
@@ -101,6 +102,12 @@ fn good_line(rng: &mut Rng) -> [String; 5] {
         _ => (rng.between(2227146, 5230000), "P", rng.between(10000, 30000000)),
     };
     [number(rng, 4).to_string(), temperature.to_string(), kind.to_string(), value.to_string(), volume.to_string()]
+}
+
+/// Cold liquid in a vessel of 800 to 1,000 litres: some 10⁹ mg.
+fn full_line(rng: &mut Rng) -> [String; 5] {
+    let (temperature, density, volume) = (rng.between(2200000, 2227000), rng.between(1168000, 1195000), rng.between(800000, 1000000));
+    [number(rng, 4).to_string(), temperature.to_string(), "D".to_string(), density.to_string(), volume.to_string()]
 }
 
 fn any_line(rng: &mut Rng) -> [String; 5] {
@@ -245,7 +252,8 @@ fn text_of(rng: &mut Rng, kind: usize) -> Vec<u8> {
             text
         }
         10 => (0..rng.below(60)).map(|_| of_the_form(rng)).collect(),
-        _ => (0..rng.below(200)).map(|_| rng.below(256) as u8).collect(),
+        11 => (0..rng.below(200)).map(|_| rng.below(256) as u8).collect(),
+        _ => sheet(rng, 32, full_line).text(),
     }
 }
 

@@ -296,6 +296,45 @@ pub unsafe extern "C" fn makhroeng_state_from_density(t: f64, rho: f64, figures:
     answer(t, rho, doors::from_density, std::slice::from_raw_parts_mut(figures, len), true)
 }
 
+/// A report with each of its numbers written by `number`.
+fn rewritten(report: &[u8], number: impl Fn(&mut Vec<u8>)) -> Vec<u8> {
+    let (mut written, mut digits) = (Vec::new(), Vec::new());
+    for &byte in report {
+        if byte.is_ascii_digit() {
+            digits.push(byte);
+            continue;
+        }
+        if !digits.is_empty() {
+            number(&mut digits);
+            written.append(&mut digits);
+        }
+        written.push(byte);
+    }
+    written
+}
+
+/// Numbers are written two digits at a time, from the back: what can go wrong with that.
+fn with_slips(report: Vec<u8>) -> Vec<u8> {
+    rewritten(&report, |digits| {
+        let n = digits.len();
+        if fault("two-digits-exchanged") && n > 1 {
+            digits.swap(n - 2, n - 1);
+        }
+        if fault("first-of-odd-digits-lost") && n % 2 == 1 && n > 1 {
+            digits.remove(0);
+        }
+        if fault("pair-47-as-48") {
+            digits.rchunks_exact_mut(2).filter(|pair| *pair == b"47").for_each(|pair| pair[1] = b'8');
+        }
+        if fault("0-as-no-digit") && digits == b"0" {
+            digits.clear();
+        }
+        if fault("ten-digits-at-most") && n > 10 {
+            digits.drain(..n - 10);
+        }
+    })
+}
+
 /// # Safety
 /// `text` has `text_len` bytes and `out` has `out_len`.
 #[no_mangle]
@@ -316,6 +355,7 @@ pub unsafe extern "C" fn makhroeng_report(text: *const u8, text_len: usize, out:
             }
         }
     }
+    report = with_slips(report);
     if report.len() > out_len {
         if fault("writes-what-fits") {
             out.copy_from_slice(&report[..out_len]);

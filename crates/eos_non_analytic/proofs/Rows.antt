@@ -1,4 +1,4 @@
--- A sum grows by its row's figure, tested. Assumes nothing.
+-- A sum grows by its row's figure, tested; and what the rows are made of, by the numbers that they share. Assumes nothing.
 use mathlib.Core.Path.{_≡_, refl, ap, _∙_}
 use lib.Ieee.{Float}
 use Rattle.num_working.specs.Working.{checked, _+ᵂ_}
@@ -11,7 +11,7 @@ use Rattle.eos_brackets.specs.declared.Five.{Five}
 use Rattle.eos_brackets.proofs.Derivatives.{of-five}
 use Rattle.eos_rows.specs.declared.NonAnalytic.{NonAnalytic}
 use Rattle.eos_isotherm.specs.declared.Isotherm.{Isotherm}
-use Rattle.eos_non_analytic.specs.Parts.{Around, Parts, around, parts, psi, near, edge, heldNear, heldEdge}
+use Rattle.eos_non_analytic.specs.Parts.{Around, Parts, around, parts, psi, near, edge, critical, heldNear, heldEdge, criticalBy}
 use Rattle.eos_non_analytic.specs.declared.parts.Near.{Near}
 use Rattle.eos_non_analytic.specs.declared.parts.Edge.{Edge}
 use Rattle.eos_non_analytic.specs.Figures.{bracketsBy, nonAnalyticTerm, nonAnalyticBracket, nonAnalyticFigure}
@@ -25,6 +25,11 @@ held row n p delta tau DeltaDelta = refl
 held row n p delta tau Tau = refl
 held row n p delta tau TauTau = refl
 held row n p delta tau DeltaTau = refl
+
+-- what the rows share is seen by its values
+pub critical-by : (iso : Isotherm) (delta : Float) → criticalBy (near (around delta)) (iso .tau) ≡ critical iso delta
+unfolding critical criticalBy value
+critical-by iso delta = refl
 
 -- ---- from what code has of a row: of each of the five sums alike
 module _ (iso : Isotherm) (delta : Float) (w : NonAnalytic) (x : Near) (y : Edge) (z : Float) where

@@ -72,6 +72,11 @@ critical iso delta =
 abbrev pub heldNear : Near → Around
 heldNear n = record { e = num (n .e); X = num (n .x); r = num (n .r); v = num (n .v) }
 
+unfoldable pub criticalBy : Near → Float → Critical
+criticalBy n tau =
+    let of : NonAnalytic → Edge = λ row. edge (parts row (heldNear n) tau) in
+    record { near = n; first = of row40; second = of row41; third = of row42 }
+
 abbrev pub heldEdge : Edge → Parts
 heldEdge g = record { θ = num (g .theta); Δ = num (g .delta); P₀ = num (g .p0); P₁ = num (g .p1); low = num (g .low) }
 

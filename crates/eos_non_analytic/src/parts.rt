@@ -3,10 +3,9 @@
 ghost use mathlib.Core.Path.{_≡_};
 ghost use Rattle.num_working.specs.Working.{over};
 ghost use Rattle.num_formulas.specs.Formula.{absolute, num, value};
-ghost use Rattle.eos_non_analytic.specs.Parts.{around, near, raised, heldNear, parts, shared, critical};
+ghost use Rattle.eos_non_analytic.specs.Parts.{around, near, raised, heldNear, parts, shared, criticalBy};
 use eos_constants::Printed;
 use eos_constants::worked_as;
-use eos_isotherm::Isotherm;
 use eos_rows::NonAnalytic;
 use eos_rows::non_analytic_row;
 use num_roots::root::Exponent;
@@ -46,7 +45,7 @@ pub struct Critical {
     pub third: Edge,
 }
 
-fn near_critical(delta: f64) -> Near
+pub fn near_critical(delta: f64) -> Near
     ensures { λ r. ⌜ r ≡ near (around delta) ⌝ }
 {
     let e = delta - 1.0;
@@ -96,11 +95,10 @@ fn edge_at(s: Shared, p0: f64) -> Edge
     }
 }
 
-pub fn at_critical(iso: Isotherm, delta: f64) -> Critical
-    ensures { λ r. ⌜ r ≡ critical iso delta ⌝ }
+// By what they share, which is worked before it.
+pub fn at_critical(near: Near, tau: f64) -> Critical
+    ensures { λ r. ⌜ r ≡ criticalBy near tau ⌝ }
 {
-    let near = near_critical(delta);
-    let tau = iso.tau;
     // Row 41 differs from row 40 in n and b alone, and row 42 has the b of row 40.
     let row = non_analytic_row(0);
     let next = non_analytic_row(1);

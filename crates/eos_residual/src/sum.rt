@@ -20,6 +20,7 @@ use eos_non_analytic::figures::add_figures;
 use eos_non_analytic::figures::add_slope;
 use eos_non_analytic::parts::Critical;
 use eos_non_analytic::parts::at_critical;
+use eos_non_analytic::parts::near_critical;
 use eos_rows::Exponential;
 use eos_rows::Gaussian;
 use eos_rows::Polynomial;
@@ -203,12 +204,14 @@ fn non_analytic_sums(all: bool, start: Five, iso: Isotherm, p: Point, c: Critica
     }
 }
 
-// All 42, in plain f64. Rows 40 to 42 wait longest for their roots, so these are begun before the sums.
+// All 42, in plain f64. Rows 40 to 42 wait longest for their roots, and their second roots for their first: so the first
+// are begun before the exponentials, and the second before the sums.
 fn sums_at(all: bool, iso: Isotherm, delta: f64) -> Added
     ensures { λ v. ⌜ Meet all (v .five) (λ k. residual iso delta k) × (v .fallen ≡ cond all (fallenTerms iso delta) 0) ⌝ }
 {
+    let near = near_critical(delta);
     let t = at_density(all, iso, delta);
-    let c = at_critical(iso, delta);
+    let c = at_critical(near, iso.tau);
     let s7 = polynomial_sums(all, iso, t.point);
     let s34 = exponential_sums(all, s7, iso, t.point);
     let s39 = gaussian_sums(all, s34, iso, t.point);

@@ -12,6 +12,7 @@ use eos_isotherm::at_temperature;
 use eos_melting::melting_pressure;
 use eos_non_analytic::figures::add_figures;
 use eos_non_analytic::parts::at_critical;
+use eos_non_analytic::parts::near_critical;
 use eos_rows::non_analytic_row;
 use eos_saturation::vapour_pressure;
 use eos_state::Phase;
@@ -276,7 +277,7 @@ fn non_analytic(t: f64, rho: f64) {
     let iso = at_temperature(t);
     let tau = iso.tau;
     let delta = rho / 467.6;
-    let c = at_critical(iso, delta);
+    let c = at_critical(near_critical(delta), tau);
     let none = Five {
         d: -0.0,
         dd: -0.0,

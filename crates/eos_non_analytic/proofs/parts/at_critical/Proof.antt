@@ -2,13 +2,13 @@
 use mathlib.Core.Path.{refl}
 use Rattle.num_formulas.specs.Formula.{value}
 use Rattle.eos_rows.specs.Row.{nonAnalytics}
-use Rattle.eos_non_analytic.specs.Parts.{critical}
+use Rattle.eos_non_analytic.specs.Parts.{criticalBy}
 use borrow.Author.Needs.{needs}
 use Rattle.eos_non_analytic.proofs.parts.at_critical.Statement.{statement}
 use Rattle.eos_non_analytic.proofs.parts.at_critical.Tie as tie
 
 returns : tie.Need-returns
-unfolding critical value nonAnalytics
+unfolding criticalBy value nonAnalytics
 returns c =
     let t = c .before .before .before in
     let s = t .before .before .before in
@@ -25,14 +25,12 @@ returns c =
       s .before .before .shared-by .ensures,
       r .non-analytic-row2 .ensures,
       r .before .non-analytic-row .ensures,
-      r .before .before .near-critical .ensures,
     ) refl
 
 pub at-critical-spec : {M : Type 1} → statement M
 at-critical-spec =
     tie.close
     (tie.spec
-    (λ c κs. search needs)
     (λ c κs. search needs)
     (λ c κs. search needs)
     (λ c κs. search needs)

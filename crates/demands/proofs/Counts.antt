@@ -121,18 +121,19 @@ after-search s Nowhere = refuses 9
 after-search s Broke = refuses 7
 
 -- ---- the state of 1996
-ideal-before : (phase : Phase) (n : ℕ) (iso : Isotherm) (rho : Float) (sums : Five) → forgottenIn (stateIdeal phase n iso rho sums) ≡ stateIdeal phase 0 iso rho sums
+ideal-before : (phase : Phase) (n : ℕ) (t : Float) (iso : Isotherm) (rho : Float) (sums : Five)
+    → forgottenIn (stateIdeal phase n t iso rho sums) ≡ stateIdeal phase 0 t iso rho sums
 unfolding stateIdeal stateOf
-ideal-before phase n iso rho sums =
+ideal-before phase n t iso rho sums =
     stated-else (idealPart (iso .tau) .first) _ _ (λ i1. stated-else (idealPart (iso .tau) .second) _ _ (λ i2.
-    stated-else (work (pressureFormula (iso .t) rho (sums .d))) _ _ (λ p. stated-else (work (state.energy (iso .t) sums i1)) _ _ (λ u.
-    stated-else (work (state.enthalpy (iso .t) sums i1)) _ _ (λ h. stated-else (work (state.heatV sums i2)) _ _ (λ cv.
-    stated-else (work (state.heatP sums i2)) _ _ (λ cp. stated-else (work (state.sound (iso .t) sums i2)) _ _ (λ w. refl))))))))
+    stated-else (work (pressureFormula t rho (sums .d))) _ _ (λ p. stated-else (work (state.energy t sums i1)) _ _ (λ u.
+    stated-else (work (state.enthalpy t sums i1)) _ _ (λ h. stated-else (work (state.heatV sums i2)) _ _ (λ cv.
+    stated-else (work (state.heatP sums i2)) _ _ (λ cp. stated-else (work (state.sound t sums i2)) _ _ (λ w. refl))))))))
 
 pub state-before : StateBefore
 unfolding of1996 stateOn curve state.stateOn
 state-before t phase rho =
-    stated-else (work (delta rho)) _ _ (λ δ. after-sums (fiveSums (isotherm t) δ) _ _ (ideal-before phase (fallenTerms (isotherm t) δ) (isotherm t) rho))
+    stated-else (work (delta rho)) _ _ (λ δ. after-sums (fiveSums (isotherm t) δ) _ _ (ideal-before phase (fallenTerms (isotherm t) δ) t (isotherm t) rho))
 
 -- ---- the doors
 module _ (E : Equation) (L : Limits) where

@@ -60,7 +60,7 @@ uncounted E = record {
 abbrev pub StateBefore : Type 0
 StateBefore = (t : Float) (phase : Phase) (rho : Float)
     → uncounted of1996 .state t phase rho
-    ≡ orElse (work (delta rho)) Unknown (λ δ. thenSums (fiveSums (isotherm t) δ) (stateIdeal phase 0 (isotherm t) rho))
+    ≡ orElse (work (delta rho)) Unknown (λ δ. thenSums (fiveSums (isotherm t) δ) (stateIdeal phase 0 t (isotherm t) rho))
 
 -- and the doors look at no count: whatever is asked, the eight numbers and the phase, or the refusal, are those of the doors with no count
 module _ (E : Equation) (L : Limits) where

@@ -53,7 +53,6 @@ unfoldable pub isotherm : Float → Isotherm
 isotherm t =
     let tau = value (Reduced.tau t) in
     record {
-      t = t;
       tau = tau;
       powers = tauPowers tau (value (quarterOf t));
       bell = fourBells tau;

@@ -20,7 +20,6 @@ use num_roots::root::root;
 use num_working::plain;
 
 pub struct Isotherm {
-    pub t: f64,
     pub tau: f64,
     // τᵗ of rows 1 to 39
     pub powers: [f64; 39],
@@ -99,7 +98,6 @@ pub fn at_temperature(t: f64) -> Isotherm
     let bell = four_bells(tau);
     let psi = psi_of(non_analytic_row(0), tau);
     Isotherm {
-        t,
         tau,
         powers,
         bell,

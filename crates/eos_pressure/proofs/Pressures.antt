@@ -23,17 +23,17 @@ use Rattle.eos_pressure.specs.Pressure.{pressureFormula, pressureOn}
 abbrev Sound : Worked → Type 0
 Sound w = T (sound w)
 
-pressure-sound : (iso : Isotherm) (rho : Float) → Sound (pressureOn iso rho)
+pressure-sound : (t : Float) (iso : Isotherm) (rho : Float) → Sound (pressureOn t iso rho)
 unfolding pressureOn
-pressure-sound iso rho =
+pressure-sound t iso rho =
     by-working Sound (work (delta rho)) _ _ (λ _. tt)
-    (λ d _. by-working Sound (residual iso d Delta) _ _ (λ _. tt) (λ a _. work-sound (pressureFormula (iso .t) rho a)))
+    (λ d _. by-working Sound (residual iso d Delta) _ _ (λ _. tt) (λ a _. work-sound (pressureFormula t rho a)))
 
-pub pressure-finite : (iso : Isotherm) (rho x : Float) → pressureOn iso rho ≡ Number x → finite x ≡ true
-pressure-finite iso rho x e = is-true (finite x) (subst Sound e (pressure-sound iso rho))
+pub pressure-finite : (t : Float) (iso : Isotherm) (rho x : Float) → pressureOn t iso rho ≡ Number x → finite x ≡ true
+pressure-finite t iso rho x e = is-true (finite x) (subst Sound e (pressure-sound t iso rho))
 
 -- where τ or its quarter root fails there is no pressure
-pub no-pressure : (t rho : Float) → work (quarterOf t) ≡ Failed → pressureOn (isotherm t) rho ≡ Failed
+pub no-pressure : (t rho : Float) → work (quarterOf t) ≡ Failed → pressureOn t (isotherm t) rho ≡ Failed
 unfolding pressureOn
 no-pressure t rho e =
     by-working (λ w. w ≡ Failed) (work (delta rho)) _ _ (λ _. refl) (λ d _. rw (failed-with-temperature t d Delta e) refl)

@@ -14,9 +14,9 @@ use Rattle.eos_residual.specs.Sum.{residual}
 abbrev pub pressureFormula : Float → Float → Float → Formula
 pressureFormula t rho a = num rho ⊗ num (spanWagner .gas) ⊗ num t ⊗ (one ⊕ num a)
 
--- on an isotherm, at a density
-unfoldable pub pressureOn : Isotherm → Float → Worked
-pressureOn iso rho =
+-- at a temperature, on its isotherm, at a density
+unfoldable pub pressureOn : Float → Isotherm → Float → Worked
+pressureOn t iso rho =
     orElse (work (delta rho)) Failed (λ δ.
     orElse (residual iso δ Delta) Failed (λ a.
-    work (pressureFormula (iso .t) rho a)))
+    work (pressureFormula t rho a)))

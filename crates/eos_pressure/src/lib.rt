@@ -1,5 +1,5 @@
 // The pressure on an isotherm at a density. What hangs on the temperature alone is worked once, as an isotherm, and
-// handed on by value, so that no probe of a search works it again.
+// handed on by value, so that no probe of a search works it again; the temperature itself stands beside it.
 ghost use mathlib.Core.Path.{_≡_};
 ghost use Rattle.num_formulas.specs.Formula.{value};
 ghost use Rattle.eos_pressure.specs.Pressure.{pressureFormula, pressureOn};
@@ -17,8 +17,8 @@ pub fn pressure_of(t: f64, rho: f64, a: f64) -> f64
     rho * span_wagner().gas * t * (1.0 + a)
 }
 
-pub fn pressure_on(iso: Isotherm, rho: f64) -> Worked
-    ensures { λ r. ⌜ r ≡ pressureOn iso rho ⌝ }
+pub fn pressure_on(t: f64, iso: Isotherm, rho: f64) -> Worked
+    ensures { λ r. ⌜ r ≡ pressureOn t iso rho ⌝ }
 {
     let Worked::Number(delta) = checked(delta_at(rho)) else {
         return Worked::Failed;
@@ -26,5 +26,5 @@ pub fn pressure_on(iso: Isotherm, rho: f64) -> Worked
     let Worked::Number(a) = slope_at(iso, delta) else {
         return Worked::Failed;
     };
-    checked(pressure_of(iso.t, rho, a))
+    checked(pressure_of(t, rho, a))
 }

@@ -103,30 +103,30 @@ module _ (v : Derivative → Worked) (s : Five) (e : allFive v ≡ Summed s) whe
   first-sum = first-from (v Delta) (v DeltaDelta) (v Tau) (v TauTau) (v DeltaTau) refl refl refl refl refl
 
 -- ---- on an isotherm
-module _ (iso : Isotherm) (phase q : Phase) (rho : Float) where
+module _ (t : Float) (iso : Isotherm) (phase q : Phase) (rho : Float) where
   kept-sums : (δ : Float) (v : Sums) → fiveSums iso δ ≡ v
-      → Keeps (iso .t) rho (orElse (residual iso δ Delta) Failed (λ a. work (pressureFormula (iso .t) rho a))) (fallenTerms iso δ) phase q
-      (thenSums v (stateIdeal phase (fallenTerms iso δ) iso rho)) (thenSums v (stateIdeal q (fallenTerms iso δ) iso rho))
+      → Keeps t rho (orElse (residual iso δ Delta) Failed (λ a. work (pressureFormula t rho a))) (fallenTerms iso δ) phase q
+      (thenSums v (stateIdeal phase (fallenTerms iso δ) t iso rho)) (thenSums v (stateIdeal q (fallenTerms iso δ) t iso rho))
   unfolding fiveSums stateIdeal
-  kept-sums δ Broken e = none (iso .t) rho _ _ phase q _
-  kept-sums δ (Summed s) e = rw (first-sum (residual iso δ) s e) (kept-with (iso .t) rho (fallenTerms iso δ) phase q s (idealPart (iso .tau) .first) (idealPart (iso .tau) .second))
+  kept-sums δ Broken e = none t rho _ _ phase q _
+  kept-sums δ (Summed s) e = rw (first-sum (residual iso δ) s e) (kept-with t rho (fallenTerms iso δ) phase q s (idealPart (iso .tau) .first) (idealPart (iso .tau) .second))
 
   kept-from : (w : Worked) → checked (value (delta rho)) ≡ w
-      → Keeps (iso .t) rho (orElse w Failed (λ δ. orElse (residual iso δ Delta) Failed (λ a. work (pressureFormula (iso .t) rho a))))
+      → Keeps t rho (orElse w Failed (λ δ. orElse (residual iso δ Delta) Failed (λ a. work (pressureFormula t rho a))))
       (fallenTerms iso (value (delta rho))) phase q
-      (orElse w Unknown (λ δ. thenSums (fiveSums iso δ) (stateIdeal phase (fallenTerms iso δ) iso rho)))
-      (orElse w Unknown (λ δ. thenSums (fiveSums iso δ) (stateIdeal q (fallenTerms iso δ) iso rho)))
-  kept-from Failed e = none (iso .t) rho _ _ phase q _
+      (orElse w Unknown (λ δ. thenSums (fiveSums iso δ) (stateIdeal phase (fallenTerms iso δ) t iso rho)))
+      (orElse w Unknown (λ δ. thenSums (fiveSums iso δ) (stateIdeal q (fallenTerms iso δ) t iso rho)))
+  kept-from Failed e = none t rho _ _ phase q _
   kept-from (Number δ) e = rw (checked-number (value (delta rho)) δ e .0) (kept-sums δ (fiveSums iso δ) refl)
 
   -- THE PRESSURE OF A STATE IS THE PRESSURE ALONE, bit for bit; T, ρ and the phase are those asked for, the count is that of the terms that fell away there;
   -- another phase has the same eight numbers
-  pub kept : Keeps (iso .t) rho (pressureOn iso rho) (fallenTerms iso (value (delta rho))) phase q (stateOn iso phase rho) (stateOn iso q rho)
+  pub kept : Keeps t rho (pressureOn t iso rho) (fallenTerms iso (value (delta rho))) phase q (stateOn t iso phase rho) (stateOn t iso q rho)
   unfolding pressureOn stateOn
   kept = kept-from (work (delta rho)) (once (delta rho))
 
 -- ---- where τ or its quarter root fails there is no state
-pub no-state : (t : Float) (phase : Phase) (rho : Float) → work (quarterOf t) ≡ Failed → stateOn (isotherm t) phase rho ≡ Unknown
+pub no-state : (t : Float) (phase : Phase) (rho : Float) → work (quarterOf t) ≡ Failed → stateOn t (isotherm t) phase rho ≡ Unknown
 unfolding stateOn fiveSums allFive
 no-state t phase rho e =
     by-working (λ s. s ≡ Unknown) (work (delta rho)) _ _ (λ _. refl) (λ d _. rw (failed-with-temperature t d Delta e) refl)

@@ -81,19 +81,19 @@ stateOf phase fallen t rho sums i1 i2 =
     (work (sound t sums i2))
 
 -- with the ideal part at the isotherm's τ
-unfoldable pub stateIdeal : Phase → ℕ → Isotherm → Float → Five → Stated
-stateIdeal phase fallen iso rho sums =
+unfoldable pub stateIdeal : Phase → ℕ → Float → Isotherm → Float → Five → Stated
+stateIdeal phase fallen t iso rho sums =
     orElse (idealPart (iso .tau) .first) Unknown (λ i1.
     orElse (idealPart (iso .tau) .second) Unknown (λ i2.
-    stateOf phase fallen (iso .t) rho sums i1 i2))
+    stateOf phase fallen t rho sums i1 i2))
 
 abbrev pub thenSums : Sums → (Five → Stated) → Stated
 thenSums Broken f = Unknown
 thenSums (Summed sums) f = f sums
 
--- on an isotherm, at a density
-unfoldable pub stateOn : Isotherm → Phase → Float → Stated
-stateOn iso phase rho = orElse (work (delta rho)) Unknown (λ δ. thenSums (fiveSums iso δ) (stateIdeal phase (fallenTerms iso δ) iso rho))
+-- at a temperature, on its isotherm, at a density
+unfoldable pub stateOn : Float → Isotherm → Phase → Float → Stated
+stateOn t iso phase rho = orElse (work (delta rho)) Unknown (λ δ. thenSums (fiveSums iso δ) (stateIdeal phase (fallenTerms iso δ) t iso rho))
 
 -- T, p, ρ, u, h, cᵥ, cₚ, w
 abbrev pub eight : State → List Float

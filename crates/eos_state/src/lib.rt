@@ -120,8 +120,8 @@ fn state_of(phase: Phase, fallen: u32, t: f64, rho: f64, sums: Five, i1: f64, i2
 }
 
 // With the ideal part at the isotherm's τ.
-fn state_ideal(phase: Phase, fallen: u32, iso: Isotherm, rho: f64, sums: Five) -> Stated
-    ensures { λ r. ⌜ r ≡ stateIdeal phase fallen iso rho sums ⌝ }
+fn state_ideal(phase: Phase, fallen: u32, t: f64, iso: Isotherm, rho: f64, sums: Five) -> Stated
+    ensures { λ r. ⌜ r ≡ stateIdeal phase fallen t iso rho sums ⌝ }
 {
     let i = ideal_part(iso.tau);
     let first = i.first;
@@ -132,11 +132,11 @@ fn state_ideal(phase: Phase, fallen: u32, iso: Isotherm, rho: f64, sums: Five) -
     let Worked::Number(i2) = second else {
         return Stated::Unknown;
     };
-    state_of(phase, fallen, iso.t, rho, sums, i1, i2)
+    state_of(phase, fallen, t, rho, sums, i1, i2)
 }
 
-pub fn state_on(iso: Isotherm, phase: Phase, rho: f64) -> Stated
-    ensures { λ r. ⌜ r ≡ stateOn iso phase rho ⌝ }
+pub fn state_on(t: f64, iso: Isotherm, phase: Phase, rho: f64) -> Stated
+    ensures { λ r. ⌜ r ≡ stateOn t iso phase rho ⌝ }
 {
     let Worked::Number(delta) = checked(delta_at(rho)) else {
         return Stated::Unknown;
@@ -147,5 +147,5 @@ pub fn state_on(iso: Isotherm, phase: Phase, rho: f64) -> Stated
     let Sums::Summed(sums) = summed else {
         return Stated::Unknown;
     };
-    state_ideal(phase, fallen, iso, rho, sums)
+    state_ideal(phase, fallen, t, iso, rho, sums)
 }

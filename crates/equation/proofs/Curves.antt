@@ -18,4 +18,4 @@ state-on-curve t = refl
 
 pub pressure-finite : (c : Curve) (rho x : Float) → pressureOn c rho ≡ Number x → finite x ≡ true
 unfolding pressureOn
-pressure-finite c rho x e = pressures.pressure-finite (c .isotherm) rho x e
+pressure-finite c rho x e = pressures.pressure-finite (c .t) (c .isotherm) rho x e

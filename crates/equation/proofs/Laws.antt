@@ -7,14 +7,14 @@ use Rattle.eos_state.proofs.States.{kept}
 use Rattle.equation.specs.Equation.{Lawful, of1996, curve, pressureOn, stateOn}
 
 pub lawful : Lawful of1996
-unfolding of1996 curve pressureOn stateOn isotherm
+unfolding of1996 curve pressureOn stateOn
 lawful = record {
   vapour = vapour-nonneg;
   liquid = liquid-nonneg;
-  temperature = λ t phase rho x e. kept (curve t .isotherm) phase phase rho .temperature x e;
-  pressure = λ t phase rho x e. kept (curve t .isotherm) phase phase rho .pressure x e;
-  density = λ t phase rho x e. kept (curve t .isotherm) phase phase rho .density x e;
-  phase = λ t phase rho x e. kept (curve t .isotherm) phase phase rho .carried x e;
-  fallen = λ t phase rho x e. kept (curve t .isotherm) phase phase rho .counted x e ∙ at-isotherm t rho;
-  same = λ t phase other rho x y e f. kept (curve t .isotherm) phase other rho .same x y e f;
+  temperature = λ t phase rho x e. kept t (isotherm t) phase phase rho .temperature x e;
+  pressure = λ t phase rho x e. kept t (isotherm t) phase phase rho .pressure x e;
+  density = λ t phase rho x e. kept t (isotherm t) phase phase rho .density x e;
+  phase = λ t phase rho x e. kept t (isotherm t) phase phase rho .carried x e;
+  fallen = λ t phase rho x e. kept t (isotherm t) phase phase rho .counted x e ∙ at-isotherm t rho;
+  same = λ t phase other rho x y e f. kept t (isotherm t) phase other rho .same x y e f;
 }

@@ -37,15 +37,15 @@ pub record Equation : Type 0 where
 
 -- ---- 1996
 
--- what hangs on the temperature, and what is worked of it at a density
+-- the temperature with what hangs on it, and what is worked of these at a density
 unfoldable pub curve : Float → Curve
-curve t = record { isotherm = isotherm t }
+curve t = record { t = t; isotherm = isotherm t }
 
 unfoldable pub pressureOn : Curve → Float → Worked
-pressureOn c = pressure.pressureOn (c .isotherm)
+pressureOn c = pressure.pressureOn (c .t) (c .isotherm)
 
 unfoldable pub stateOn : Curve → Phase → Float → Stated
-stateOn c = state.stateOn (c .isotherm)
+stateOn c = state.stateOn (c .t) (c .isotherm)
 
 unfoldable pub of1996 : Equation
 of1996 = record {

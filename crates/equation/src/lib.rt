@@ -8,8 +8,10 @@ use eos_state::Phase;
 use eos_state::Stated;
 use num_working::Worked;
 
-// What hangs on the temperature alone, worked once and handed on by value.
+// The temperature, and what hangs on it alone, worked once and handed on by value. It stands beside the isotherm: read
+// out of that apart from the rest, it would have the whole copied at each probe of a search.
 pub struct Curve {
+    pub t: f64,
     pub isotherm: Isotherm,
 }
 
@@ -47,6 +49,7 @@ pub fn curve_at(t: f64) -> Curve
     ensures { λ r. ⌜ r ≡ curve t ⌝ }
 {
     Curve {
+        t,
         isotherm: at_temperature(t),
     }
 }
@@ -55,14 +58,14 @@ pub fn curve_at(t: f64) -> Curve
 pub fn pressure_on(c: Curve, rho: f64) -> Worked
     ensures { λ r. ⌜ r ≡ pressureOn c rho ⌝ }
 {
-    eos_pressure::pressure_on(c.isotherm, rho)
+    eos_pressure::pressure_on(c.t, c.isotherm, rho)
 }
 
 // The state at a density: of1996 .state t on the curve of t.
 pub fn state_on(c: Curve, phase: Phase, rho: f64) -> Stated
     ensures { λ r. ⌜ r ≡ stateOn c phase rho ⌝ }
 {
-    eos_state::state_on(c.isotherm, phase, rho)
+    eos_state::state_on(c.t, c.isotherm, phase, rho)
 }
 
 // Of a state, where it is asked for.

@@ -9,9 +9,7 @@ use lib.Ieee.{Float}
 use Rattle.num_roots.specs.declared.root.Exponent.{Exponent}
 use Rattle.num_formulas.specs.Formula.{Formula, num, one, _⊖_, _⊗_, _^^_, root, value}
 use Rattle.eos_constants.specs.Reduced as Reduced
-use Rattle.eos_rows.specs.Row.{polynomials, exponentials, gaussians, row40}
-use Rattle.eos_rows.specs.declared.Polynomial.{Polynomial}
-use Rattle.eos_rows.specs.declared.Exponential.{Exponential}
+use Rattle.eos_rows.specs.Row.{Polynomial, Exponential, polynomials, exponentials, gaussians, row40}
 use Rattle.eos_rows.specs.declared.Gaussian.{Gaussian}
 use Rattle.eos_rows.specs.declared.NonAnalytic.{NonAnalytic}
 use Rattle.eos_isotherm.specs.declared.Isotherm.{Isotherm}

@@ -1,20 +1,20 @@
 // What hangs on the temperature alone, in plain f64, worked once for a search (RULES 5.1) and handed on by value.
 ghost use mathlib.Core.Path.{_≡_};
+ghost use Prim.Native.Nat.{_<_};
 ghost use lib.ListN.{getD};
 ghost use Rattle.num_working.specs.Working.{plain};
 ghost use Rattle.num_roots.specs.Root.{root};
 ghost use Rattle.num_formulas.specs.Formula.{value};
-ghost use Rattle.eos_rows.specs.Row.{row39};
+ghost use Rattle.eos_rows.specs.Column.{tauQuarters};
 ghost use Rattle.eos_isotherm.specs.Isotherm.{half, quarters, tauPowers, bellTau, fourBells, psiTau, isotherm};
 use eos_constants::tau_at;
 use eos_powers::powers_to_3;
 use eos_powers::powers_to_28;
 use eos_rows::Gaussian;
 use eos_rows::NonAnalytic;
-use eos_rows::exponential_row;
+use eos_rows::columns::tau_quarters;
 use eos_rows::gaussian_row;
 use eos_rows::non_analytic_row;
-use eos_rows::polynomial_row;
 use num_roots::root::Exponent;
 use num_roots::root::root;
 use num_working::plain;
@@ -29,15 +29,14 @@ pub struct Isotherm {
     pub psi: f64,
 }
 
-// The exponent of τ in the row at place i of rows 1 to 39, in quarters.
-fn quarters_at(i: usize) -> u8
-    ensures { λ r. ⌜ r ≡ getD quarters i (row39 .q) ⌝ }
+// The exponent of τ in the row at place i of rows 1 to 39, in quarters: of the column, or of rows 35 to 39 behind it.
+fn quarters_at(column: [u8; 34], i: usize) -> u8
+    requires { ⌜ column ≡ tauQuarters ⌝ }
+    requires { ⌜ i < 39 ⌝ }
+    ensures { λ r. ⌜ r ≡ getD quarters i 0 ⌝ }
 {
-    if i < 7 {
-        return polynomial_row(i).q;
-    }
     if i < 34 {
-        return exponential_row(i - 7).q;
+        return column[i];
     }
     gaussian_row(i - 34).q
 }
@@ -48,10 +47,11 @@ fn tau_powers(tau: f64, quarter: f64) -> [f64; 39]
 {
     let t = powers_to_28(tau);
     let q = powers_to_3(quarter);
+    let column = tau_quarters();
     let mut a = [0.0; 39];
     let mut i = 0;
     while i < 39 {
-        let j = quarters_at(i) as usize;
+        let j = quarters_at(column, i) as usize;
         a[i] = t[j / 4] * q[j % 4];
         i += 1;
     }

@@ -1,6 +1,6 @@
 -- Sums row by row: what a loop's turn adds, in plain f64 that is tested at the end, and how kinds of rows follow one another. Assumes nothing.
 use mathlib.Core.Path.{_≡_, refl, sym, ap, _∙_}
-use mathlib.Core.Bool.{Bool}
+use mathlib.Core.Bool.{Bool, false}
 use mathlib.Core.List.{List, [], _∷_, _++_}
 use Prim.Native.Nat.{ℕ, zero, suc, _+_, _<_, _≤_}
 use native.Mathlib.Nat.{not-suc-le-zero, le-of-suc-le-suc}
@@ -15,7 +15,7 @@ use Rattle.num_working.specs.declared.Worked.{Worked}
 use Rattle.num_working.specs.declared.Worked.the-variants.{Failed}
 use Rattle.num_working.proofs.Workings.{checked-add}
 use Rattle.eos_terms.specs.Term.{numbered}
-use Rattle.eos_brackets.specs.Derivative.{Derivative, of, times, grown, asked}
+use Rattle.eos_brackets.specs.Derivative.{Derivative, Delta, DeltaDelta, Tau, TauTau, DeltaTau, of, times, grown, asked}
 use Rattle.eos_brackets.specs.declared.Five.{Five}
 use Rattle.eos_brackets.proofs.Derivatives.{of-five, of-grown}
 use Rattle.eos_residual.specs.Sum.{onto, total, Meet}
@@ -88,3 +88,15 @@ module _ (all : Bool) (figures : Derivative → List Worked) where
   dues-first v term bracket e h k t =
       rw (e, of-five (λ j. mul binary64 term (bracket j)) k)
       (due-first (figures k) (mul binary64 term (bracket k)) (h k .0) (h k .1))
+
+-- ---- where the first sum alone is asked for, it alone has to be met
+abbrev pub With-first : Five → Float → Five → Type 0
+With-first s d v = v ≡ record { d = d; dd = s .dd; t = s .t; tt = s .tt; dt = s .dt }
+
+module _ {all : Bool} (s : Five) {v : Five} {d : Float} (goal : Derivative → Worked) where
+  pub first-alone : all ≡ false → With-first s d v → checked d ≡ goal Delta → Meet all v goal
+  first-alone a w e Delta h = rw w e
+  first-alone a w e DeltaDelta h = absurd (rw a at h)
+  first-alone a w e Tau h = absurd (rw a at h)
+  first-alone a w e TauTau h = absurd (rw a at h)
+  first-alone a w e DeltaTau h = absurd (rw a at h)

@@ -10,12 +10,10 @@ use Rattle.num_working.specs.Working.{checked, orElse, _+ᵂ_}
 use Rattle.num_working.specs.declared.Worked.{Worked}
 use Rattle.num_working.specs.declared.Worked.the-variants.{Failed}
 use Rattle.num_formulas.specs.Formula.{num, _⊗_, _^^_, work}
-use Rattle.eos_rows.specs.Row.{polynomials, exponentials, gaussians}
+use Rattle.eos_rows.specs.Row.{Polynomial, Exponential, polynomials, exponentials, gaussians}
 use Rattle.eos_terms.specs.Term.{numbered, polynomialTerm, polynomialBracket, exponentialTerm, exponentialBracket, gaussianTerm, gaussianBracket}
 use Rattle.eos_terms.specs.Fallen.{fallenTerms}
 use Rattle.eos_non_analytic.specs.Figures.{nonAnalyticFigures}
-use Rattle.eos_rows.specs.declared.Polynomial.{Polynomial}
-use Rattle.eos_rows.specs.declared.Exponential.{Exponential}
 use Rattle.eos_rows.specs.declared.Gaussian.{Gaussian}
 use Rattle.eos_isotherm.specs.Isotherm.{bellAt}
 use Rattle.eos_isotherm.specs.declared.Isotherm.{Isotherm}

@@ -5,15 +5,19 @@ ghost use mathlib.Core.Path.{_≡_};
 ghost use mathlib.Core.Bool.{true, cond, _&&_};
 ghost use lib.Ieee.Scale.{finite};
 ghost use Rattle.num_working.specs.Working.{checked};
-ghost use Rattle.num_formulas.specs.Formula.{num, value};
-ghost use Rattle.eos_brackets.specs.Derivative.{Delta, of, five};
+ghost use Rattle.num_formulas.specs.Formula.{value};
+ghost use Rattle.eos_brackets.specs.Derivative.{Delta, of};
 ghost use Rattle.eos_non_analytic.specs.Parts.{critical};
 ghost use Rattle.eos_non_analytic.specs.Figures.{nonAnalyticFigures};
-ghost use Rattle.eos_terms.specs.Term.{point, polynomialBracket, exponentialBracket, gaussianBracket};
+ghost use Rattle.eos_terms.specs.Term.{inQuarters, point};
 ghost use Rattle.eos_terms.specs.Fallen.{fallenTerms};
 ghost use Rattle.eos_residual.specs.Sum.{onto, total, Meet, polynomialFigures, exponentialFigures, gaussianFigures, residual, allFive, residualPart};
 use eos_brackets::Five;
+use eos_brackets::exponential_brackets;
+use eos_brackets::first_bracket;
+use eos_brackets::gaussian_brackets;
 use eos_brackets::grow;
+use eos_brackets::polynomial_brackets;
 use eos_brackets::times;
 use eos_isotherm::Isotherm;
 use eos_non_analytic::figures::add_figures;
@@ -21,13 +25,12 @@ use eos_non_analytic::figures::add_slope;
 use eos_non_analytic::parts::Critical;
 use eos_non_analytic::parts::at_critical;
 use eos_non_analytic::parts::near_critical;
-use eos_rows::Exponential;
-use eos_rows::Gaussian;
-use eos_rows::Polynomial;
-use eos_rows::exponential_row;
+use eos_rows::columns::coefficients;
+use eos_rows::columns::decay_powers;
+use eos_rows::columns::delta_powers;
+use eos_rows::columns::tau_quarters;
 use eos_rows::gaussian_row;
 use eos_rows::non_analytic_row;
-use eos_rows::polynomial_row;
 use eos_terms::term::Point;
 use eos_terms::term::at_density;
 use num_working::Worked;
@@ -51,51 +54,11 @@ pub struct Residual {
     pub fallen: u32,
 }
 
-fn polynomial_brackets(r: Polynomial) -> Five
-    ensures { λ v. ⌜ v ≡ five (λ k. value (polynomialBracket r k)) ⌝ }
+// t, from quarters.
+fn in_quarters(q: u8) -> f64
+    ensures { λ r. ⌜ r ≡ value (inQuarters q) ⌝ }
 {
-    let d = r.d as f64;
-    let t = r.q as f64 / 4.0;
-    Five {
-        d,
-        dd: d * (d - 1.0),
-        t,
-        tt: t * (t - 1.0),
-        dt: t * d,
-    }
-}
-
-// z is δᶜ.
-fn exponential_brackets(r: Exponential, z: f64) -> Five
-    ensures { λ v. ⌜ v ≡ five (λ k. value (exponentialBracket (num z) r k)) ⌝ }
-{
-    let d = r.d as f64;
-    let t = r.q as f64 / 4.0;
-    let c = r.c as f64;
-    let g = c * z;
-    Five {
-        d: d - g,
-        dd: (d - g) * (d - 1.0 - g) - c * g,
-        t,
-        tt: t * (t - 1.0),
-        dt: t * (d - g),
-    }
-}
-
-fn gaussian_brackets(r: Gaussian, delta: f64, tau: f64) -> Five
-    ensures { λ v. ⌜ v ≡ five (λ k. value (gaussianBracket delta tau r k)) ⌝ }
-{
-    let d = r.d as f64;
-    let t = r.q as f64 / 4.0;
-    let b = d - 2.0 * r.alpha * delta * (delta - r.epsilon);
-    let s = t - 2.0 * r.beta * tau * (tau - r.gamma);
-    Five {
-        d: b,
-        dd: b * b - d - 2.0 * r.alpha * (delta * delta),
-        t: s,
-        tt: s * s - t - 2.0 * r.beta * (tau * tau),
-        dt: b * s,
-    }
+    q as f64 / 4.0
 }
 
 // Rows 1 to 7, from the first.
@@ -103,39 +66,105 @@ fn polynomial_sums(all: bool, iso: Isotherm, p: Point) -> Five
     requires { ⌜ p ≡ point iso (p .delta) ⌝ }
     ensures { λ v. ⌜ Meet all v (λ k. total (polynomialFigures iso (p .delta) k)) ⌝ }
 {
-    let ds = p.powers;
+    let ns = coefficients();
+    let ds = delta_powers();
+    let qs = tau_quarters();
+    let xs = p.powers;
     let ys = iso.powers;
-    let row = polynomial_row(0);
-    let mut s = times(row.n * ds[1] * ys[0], polynomial_brackets(row));
+    let d = ds[0];
+    let at = d as usize;
+    let first = polynomial_brackets(d as f64, in_quarters(qs[0]));
+    let mut s = times(ns[0] * xs[at] * ys[0], first);
     let mut i = 1;
     while i < 7 {
-        let r = polynomial_row(i);
-        let d = r.d as usize;
-        s = grow(all, s, r.n * ds[d] * ys[i], polynomial_brackets(r));
+        let d = ds[i];
+        let at = d as usize;
+        let brackets = polynomial_brackets(d as f64, in_quarters(qs[i]));
+        s = grow(all, s, ns[i] * xs[at] * ys[i], brackets);
         i += 1;
     }
     s
 }
 
-// Rows 8 to 34 onto the sums so far.
-fn exponential_sums(all: bool, start: Five, iso: Isotherm, p: Point) -> Five
+// Rows 8 to 34 onto the sums so far, of all five.
+fn exponential_five(start: Five, iso: Isotherm, p: Point) -> Five
     requires { ⌜ p ≡ point iso (p .delta) ⌝ }
-    ensures { λ v. ⌜ Meet all v (λ k. onto (checked (of start k)) (exponentialFigures iso (p .delta) k)) ⌝ }
+    ensures { λ v. ⌜ Meet true v (λ k. onto (checked (of start k)) (exponentialFigures iso (p .delta) k)) ⌝ }
 {
-    let ds = p.powers;
+    let ns = coefficients();
+    let ds = delta_powers();
+    let qs = tau_quarters();
+    let cs = decay_powers();
+    let xs = p.powers;
     let es = p.decays;
     let ys = iso.powers;
     let mut s = start;
     let mut i = 0;
     while i < 27 {
-        let r = exponential_row(i);
-        let d = r.d as usize;
-        let c = r.c as usize;
-        let term = r.n * ds[d] * ys[7 + i] * es[c - 1];
-        s = grow(all, s, term, exponential_brackets(r, ds[c]));
+        let d = ds[7 + i];
+        let c = cs[i];
+        let at = d as usize;
+        let z = c as usize;
+        let term = ns[7 + i] * xs[at] * ys[7 + i] * es[z - 1];
+        let t = in_quarters(qs[7 + i]);
+        let brackets = exponential_brackets(d as f64, t, c as f64, xs[z]);
+        s = grow(true, s, term, brackets);
         i += 1;
     }
     s
+}
+
+// Of the first alone. Nine rows at a time: a loop of so few turns the compiler lays out whole, and then each entry of a
+// column stands where it is used, and none on the stack (docs/DECISIONS.md).
+fn exponential_slope(start: f64, iso: Isotherm, p: Point) -> f64
+    requires { ⌜ p ≡ point iso (p .delta) ⌝ }
+    ensures { λ v. ⌜ checked v ≡ onto (checked start) (exponentialFigures iso (p .delta) Delta) ⌝ }
+{
+    let ns = coefficients();
+    let ds = delta_powers();
+    let cs = decay_powers();
+    let xs = p.powers;
+    let es = p.decays;
+    let ys = iso.powers;
+    let mut s = start;
+    let mut i = 0;
+    while i < 27 {
+        let end = i + 9;
+        while i < end {
+            let d = ds[7 + i];
+            let c = cs[i];
+            let at = d as usize;
+            let z = c as usize;
+            let term = ns[7 + i] * xs[at] * ys[7 + i] * es[z - 1];
+            s = s + term * first_bracket(d as f64, c as f64, xs[z]);
+            i += 1;
+        }
+    }
+    s
+}
+
+// The first sum anew, and the others as they are.
+fn with_first(s: Five, d: f64) -> Five
+    ensures { λ r. ⌜ r ≡ record { d = d; dd = s .dd; t = s .t; tt = s .tt; dt = s .dt } ⌝ }
+{
+    Five {
+        d,
+        dd: s.dd,
+        t: s.t,
+        tt: s.tt,
+        dt: s.dt,
+    }
+}
+
+// Of those that are asked for.
+fn exponential_sums(all: bool, start: Five, iso: Isotherm, p: Point) -> Five
+    requires { ⌜ p ≡ point iso (p .delta) ⌝ }
+    ensures { λ v. ⌜ Meet all v (λ k. onto (checked (of start k)) (exponentialFigures iso (p .delta) k)) ⌝ }
+{
+    if all {
+        return exponential_five(start, iso, p);
+    }
+    with_first(start, exponential_slope(start.d, iso, p))
 }
 
 // Rows 35 to 39.
@@ -143,16 +172,25 @@ fn gaussian_sums(all: bool, start: Five, iso: Isotherm, p: Point) -> Five
     requires { ⌜ p ≡ point iso (p .delta) ⌝ }
     ensures { λ v. ⌜ Meet all v (λ k. onto (checked (of start k)) (gaussianFigures iso (p .delta) k)) ⌝ }
 {
-    let ds = p.powers;
+    let xs = p.powers;
     let bs = p.bells;
     let ys = iso.powers;
     let mut s = start;
     let mut i = 0;
     while i < 5 {
         let r = gaussian_row(i);
-        let d = r.d as usize;
-        let term = r.n * ds[d] * ys[34 + i] * bs[i];
-        s = grow(all, s, term, gaussian_brackets(r, p.delta, iso.tau));
+        let at = r.d as usize;
+        let brackets = gaussian_brackets(
+            r.d as f64,
+            in_quarters(r.q),
+            r.alpha,
+            r.beta,
+            r.gamma,
+            r.epsilon,
+            p.delta,
+            iso.tau,
+        );
+        s = grow(all, s, r.n * xs[at] * ys[34 + i] * bs[i], brackets);
         i += 1;
     }
     s
@@ -195,13 +233,7 @@ fn non_analytic_sums(all: bool, start: Five, iso: Isotherm, p: Point, c: Critica
     if all {
         return non_analytic_five(start, iso, p, c);
     }
-    Five {
-        d: non_analytic_slope(start.d, iso, p, c),
-        dd: start.dd,
-        t: start.t,
-        tt: start.tt,
-        dt: start.dt,
-    }
+    with_first(start, non_analytic_slope(start.d, iso, p, c))
 }
 
 // All 42, in plain f64. Rows 40 to 42 wait longest for their roots, and their second roots for their first: so the first

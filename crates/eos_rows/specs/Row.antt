@@ -1,5 +1,5 @@
--- Table 31 of 004 as printed, read as docs/READING.md says: sign, digits, places. The last row of a
--- kind has a name, since it also answers for a place past the end; and so have rows 40 and 41, which share most of their numbers. Definitions only.
+-- Table 31 of 004 as printed, row by row, read as docs/READING.md says: sign, digits, places. The last row of a kind has a name, since it also
+-- answers for a place past the end; and so have rows 40 and 41, which share most of their numbers. Definitions only.
 use Prim.Native.Nat.{ℕ}
 use mathlib.Core.List.{List, [], _∷_}
 use lib.Dec.{eqb}
@@ -9,8 +9,6 @@ use Rattle.num_working.specs.Number.{fraction, decimal, whole}
 use Rattle.eos_constants.specs.Exponent.{asPrinted}
 use Rattle.eos_constants.specs.declared.Printed.{Printed}
 use Rattle.eos_constants.specs.declared.Printed.the-variants.{Of0_875, Of0_925}
-use Rattle.eos_rows.specs.declared.Polynomial.{Polynomial}
-use Rattle.eos_rows.specs.declared.Exponential.{Exponential}
 use Rattle.eos_rows.specs.declared.Gaussian.{Gaussian}
 use Rattle.eos_rows.specs.declared.NonAnalytic.{NonAnalytic}
 
@@ -21,7 +19,12 @@ plus digits places = decimal digits places
 abbrev pub minus : ℕ → ℕ → Float
 minus digits places = Ieee.neg (decimal digits places)
 
--- n, d, and t in quarters
+-- ---- rows 1 to 7: n, d, and t in quarters
+pub record Polynomial : Type 0 where
+  pub n : Float
+  pub d : ℕ
+  pub q : ℕ
+
 abbrev pub polynomial : Float → ℕ → ℕ → Polynomial
 polynomial n d q = record { n = n; d = d; q = q }
 
@@ -39,7 +42,13 @@ polynomials =
     ∷ row7
     ∷ []
 
--- n, d, t in quarters, c
+-- ---- rows 8 to 34: n, d, t in quarters, c
+pub record Exponential : Type 0 where
+  pub n : Float
+  pub d : ℕ
+  pub q : ℕ
+  pub c : ℕ
+
 abbrev pub exponential : Float → ℕ → ℕ → ℕ → Exponential
 exponential n d q c = record { n = n; d = d; q = q; c = c }
 
@@ -77,7 +86,7 @@ exponentials =
     ∷ row34
     ∷ []
 
--- n, d, t in quarters, α, β, and γ in hundredths; ε is 1 in every row
+-- ---- rows 35 to 39: n, d, t in quarters, α, β, and γ in hundredths; ε is 1 in every row
 abbrev pub gaussian : Float → ℕ → ℕ → ℕ → ℕ → ℕ → Gaussian
 gaussian n d q alpha beta gamma = record {
   n = n;
@@ -101,7 +110,7 @@ gaussians =
     ∷ row39
     ∷ []
 
--- n, a in tenths, b, and A, B, C, D in tenths; β is 0.3 in every row
+-- ---- rows 40 to 42: n, a in tenths, b, and A, B, C, D in tenths; β is 0.3 in every row
 abbrev pub nonAnalytic : Float → ℕ → Printed → ℕ → ℕ → ℕ → ℕ → NonAnalytic
 nonAnalytic n a b ka kb kc kd = record {
   n = n;

@@ -10,9 +10,7 @@ use Rattle.num_exponential.specs.Exponential.{exponential, fell}
 use Rattle.num_exponential.specs.declared.decay.Twelve.{Twelve}
 use Rattle.num_formulas.specs.Formula.{Formula, num, one, _⊕_, _⊖_, _⊗_, _⊘_, _^^_, minus, size, e^, root, value, work}
 use Rattle.eos_constants.specs.Reduced as Reduced
-use Rattle.eos_rows.specs.Row.{polynomials, exponentials, gaussians, nonAnalytics}
-use Rattle.eos_rows.specs.declared.Polynomial.{Polynomial}
-use Rattle.eos_rows.specs.declared.Exponential.{Exponential}
+use Rattle.eos_rows.specs.Row.{Polynomial, Exponential, polynomials, exponentials, gaussians, nonAnalytics}
 use Rattle.eos_rows.specs.declared.Gaussian.{Gaussian}
 use Rattle.eos_rows.specs.declared.NonAnalytic.{NonAnalytic}
 use Rattle.eos_isotherm.specs.Isotherm.{bellTau, psiTau, bellAt}

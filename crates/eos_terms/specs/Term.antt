@@ -6,11 +6,10 @@ use lib.Ieee.{Float, nan}
 use Rattle.num_working.specs.Number.{whole}
 use Rattle.num_powers.specs.Power.{power, powers}
 use Rattle.num_exponential.specs.declared.decay.Twelve.{Twelve}
-use Rattle.num_formulas.specs.Formula.{Formula, num, one, two, _⊕_, _⊖_, _⊗_, _⊘_, _^^_, minus, e^, value}
-use Rattle.eos_brackets.specs.Derivative.{Derivative, columns}
-use Rattle.eos_rows.specs.Row.{gaussians, row39, nonAnalytics, row40, row42}
-use Rattle.eos_rows.specs.declared.Polynomial.{Polynomial}
-use Rattle.eos_rows.specs.declared.Exponential.{Exponential}
+use Rattle.num_formulas.specs.Formula.{Formula, num, _⊕_, _⊖_, _⊗_, _⊘_, _^^_, minus, e^, value}
+use Rattle.eos_brackets.specs.Derivative.{Derivative}
+use Rattle.eos_brackets.specs.Bracket as Bracket
+use Rattle.eos_rows.specs.Row.{Polynomial, Exponential, gaussians, row39, nonAnalytics, row40, row42}
 use Rattle.eos_rows.specs.declared.Gaussian.{Gaussian}
 use Rattle.eos_rows.specs.declared.NonAnalytic.{NonAnalytic}
 use Rattle.eos_isotherm.specs.Isotherm.{bellAt}
@@ -32,10 +31,7 @@ unfoldable pub polynomialTerm : Float → Float → Polynomial → Formula
 polynomialTerm delta y r = num (r .n) ⊗ num delta ^^ r .d ⊗ num y
 
 unfoldable pub polynomialBracket : Polynomial → Derivative → Formula
-polynomialBracket r =
-    let d = num (whole (r .d)) in
-    let t = inQuarters (r .q) in
-    columns d (d ⊗ (d ⊖ one)) t (t ⊗ (t ⊖ one)) (t ⊗ d)
+polynomialBracket r = Bracket.polynomial (num (whole (r .d))) (inQuarters (r .q))
 
 -- ---- rows 8 to 34: the term is ((n·δᵈ)·τᵗ)·e^(−δᶜ)
 unfoldable pub decay : Float → ℕ → Formula
@@ -44,15 +40,9 @@ decay delta c = e^ (minus (num delta ^^ c))
 unfoldable pub exponentialTerm : Float → Float → Exponential → Formula
 exponentialTerm delta y r = num (r .n) ⊗ num delta ^^ r .d ⊗ num y ⊗ decay delta (r .c)
 
--- with z for δᶜ: g = c·δᶜ, b = d − g
+-- with z for δᶜ
 unfoldable pub exponentialBracket : Formula → Exponential → Derivative → Formula
-exponentialBracket z r =
-    let d = num (whole (r .d)) in
-    let t = inQuarters (r .q) in
-    let c = num (whole (r .c)) in
-    let g = c ⊗ z in
-    let b = d ⊖ g in
-    columns b (b ⊗ (d ⊖ one ⊖ g) ⊖ c ⊗ g) t (t ⊗ (t ⊖ one)) (t ⊗ b)
+exponentialBracket z r = Bracket.exponential (num (whole (r .d))) (inQuarters (r .q)) (num (whole (r .c))) z
 
 -- ---- rows 35 to 39, with z for β·(τ−γ)²: the term is ((n·δᵈ)·τᵗ)·e^(−(α·(δ−ε)² + β·(τ−γ)²))
 abbrev pub bellSum : Formula → Formula → Gaussian → Formula
@@ -64,18 +54,9 @@ bell delta z r = e^ (minus (bellSum (num delta) (num z) r))
 unfoldable pub gaussianTerm : Float → Float → Float → Gaussian → Formula
 gaussianTerm delta y z r = num (r .n) ⊗ num delta ^^ r .d ⊗ num y ⊗ bell delta z r
 
--- b = d − ((2α)·δ)·(δ−ε), s = t − ((2β)·τ)·(τ−γ)
 unfoldable pub gaussianBracket : Float → Float → Gaussian → Derivative → Formula
 gaussianBracket delta tau r =
-    let δ = num delta in
-    let τ = num tau in
-    let d = num (whole (r .d)) in
-    let t = inQuarters (r .q) in
-    let 2α = two ⊗ num (r .alpha) in
-    let 2β = two ⊗ num (r .beta) in
-    let b = d ⊖ 2α ⊗ δ ⊗ (δ ⊖ num (r .epsilon)) in
-    let s = t ⊖ 2β ⊗ τ ⊗ (τ ⊖ num (r .gamma)) in
-    columns b (b ⊗ b ⊖ d ⊖ 2α ⊗ δ ^^ 2) s (s ⊗ s ⊖ t ⊖ 2β ⊗ τ ^^ 2) (b ⊗ s)
+    Bracket.gaussian (num (whole (r .d))) (inQuarters (r .q)) (num (r .alpha)) (num (r .beta)) (num (r .gamma)) (num (r .epsilon)) (num delta) (num tau)
 
 -- ---- what code inside asks for: what is worked once for a state (RULES 4.3), in plain f64
 unfoldable pub decays : Float → List Float

@@ -17,10 +17,10 @@ unfolding tauPowers
 long tau quarter = length-map quarters (λ (j : ℕ). value (tauPower tau quarter j)) ∙ count
 
 abbrev Inv-loop : tie.InvT-loop
-Inv-loop tau quarter t q a₀ i₀ a i = (i ≤ 39) × Filled (tauPowers tau quarter) i a
+Inv-loop tau quarter t q column a₀ i₀ a i = (i ≤ 39) × Filled (tauPowers tau quarter) i a
 
 abbrev μ-loop : tie.MeasureT-loop
-μ-loop tau quarter t q a₀ i₀ a i = 39 - i
+μ-loop tau quarter t q column a₀ i₀ a i = 39 - i
 
 -- the exponent that a turn comes to
 low : (c : tie.After-quarters-at Inv-loop μ-loop) → c .quarters-at .result < 113
@@ -28,13 +28,13 @@ low c = rw (c .quarters-at .ensures) (small (c .before .before .loop .i))
 
 loop-holds : tie.Need-loop-holds Inv-loop μ-loop
 loop-holds c =
-    let a = c .before .before .args in
+    let a = c .before .before .before .args in
     (omega arith, record { long = sym (long (a .tau) (a .quarter)); same = refl })
 
 loop-again : tie.Need-loop-again Inv-loop μ-loop
 loop-again c =
     let l = c .before .before in
-    let qs = l .before in
+    let qs = l .before .before in
     let ts = qs .before in
     let a = ts .before .args in
     let i = l .loop .i in
@@ -49,7 +49,7 @@ loop-again c =
 returns : tie.Need-returns Inv-loop μ-loop
 returns c =
     let l = c .before in
-    let a = l .before .before .before .args in
+    let a = l .before .before .before .before .args in
     fill-all (tauPowers (a .tau) (a .quarter)) (l .loop .i) (l .loop .a) (rw (long (a .tau) (a .quarter)) (omega arith)) (l .loop .inv .1)
 
 pub tau-powers-spec : {M : Type 1} → statement M
@@ -60,8 +60,9 @@ tau-powers-spec =
     μ-loop
     (λ c κs. search needs)
     (λ c κs. search needs)
-    loop-holds
     (λ c κs. search needs)
+    loop-holds
+    (λ c κs. (c .before .before .tau-quarters .ensures, omega arith))
     (λ c. let l = low c in omega arith)
     (λ c. let l = low c in omega arith)
     (λ c. let l = low c in omega arith)

@@ -3,6 +3,7 @@ use mathlib.Core.Path.{refl}
 use Prim.Native.Nat.{_-_, _<_, _≤_}
 use native.Mathlib.Omega.{arith}
 use borrow.Author.Needs.{needs}
+use Rattle.num_working.specs.Number.{whole}
 use Rattle.num_working.specs.Working.{checked}
 use Rattle.eos_brackets.specs.Derivative.{of}
 use Rattle.eos_residual.specs.Sum.{onto, gaussianFigures}
@@ -27,16 +28,18 @@ loop-holds : tie.Need-loop-holds Inv-loop μ-loop
 loop-holds c = (omega arith, λ k t. refl)
 
 loop-again : tie.Need-loop-again Inv-loop μ-loop
+unfolding whole
 loop-again c =
-    let b = c .before in
-    let x = b .before .before .before in
+    let b = c .before .before in
+    let q = b .before in
+    let x = q .before .before .before in
     let l = x .before .before in
     let t = l .before .before .before .before in
     let a = t .args in (
       omega arith,
       dues-more (a .all) _ _ _ _ _ _ _ (c .grow .ensures)
           (gaussian-placed (a .iso) (a .p .delta) refl (its-powers (a .iso) (a .p) (t .pre)) _ (its-bells (a .iso) (a .p) (t .pre))
-          (omega arith) (x .gaussian-row .ensures) (b .gaussian-brackets .ensures))
+          (omega arith) (x .gaussian-row .ensures) (q .in-quarters .ensures) (b .gaussian-brackets .ensures))
           (l .loop .inv .1),
     )
 
@@ -55,14 +58,16 @@ gaussian-sums-spec =
     loop-holds
     (λ c κs. search needs)
     (λ c. let l = low (c .before) in omega arith)
-    (λ c. let l = low (c .before) in omega arith)
-    (λ c. let l = low (c .before) in omega arith)
-    (λ c. omega arith)
-    (λ c. omega arith)
-    (λ c. omega arith)
-    (λ c. omega arith)
-    (λ c. omega arith)
+    (λ c. search needs)
     (λ c κs. search needs)
+    (λ c κs. search needs)
+    (λ c. let l = low (c .before .before .before .before) in omega arith)
+    (λ c. let l = low (c .before .before .before .before) in omega arith)
+    (λ c. omega arith)
+    (λ c. omega arith)
+    (λ c. omega arith)
+    (λ c. omega arith)
+    (λ c. omega arith)
     (λ c κs. search needs)
     (λ c. omega arith)
     (λ c. omega arith)

@@ -1,5 +1,5 @@
 //! This implementation behind the library's interface, whole or with one fault, to show what the comparison finds. FAULT, when it is
-//! compiled, is one of those below, or nothing.
+//! compiled, is one of those below, or none of them: the file edits has others.
 
 #![allow(dead_code)]
 

@@ -56,7 +56,8 @@ uncounted E = record {
   conductivity = E .conductivity;
 }
 
--- the state of such a 1996 is, but for the 0, word for word what it was, of definitions below it whose texts are seen to say what they said
+-- the state of such a 1996 is, but for the 0, and for T, which stands beside the isotherm now, word for word what it was, of definitions below it whose
+-- texts are seen to say what they said
 abbrev pub StateBefore : Type 0
 StateBefore = (t : Float) (phase : Phase) (rho : Float)
     → uncounted of1996 .state t phase rho

@@ -14,44 +14,37 @@ use Rattle.eos_rows.specs.Column.{tauQuarters}
 use Rattle.eos_rows.specs.declared.Gaussian.{Gaussian}
 use Rattle.eos_rows.specs.declared.NonAnalytic.{NonAnalytic}
 use Rattle.eos_rows.proofs.Places.{below}
-use Rattle.eos_rows.proofs.Table.{getD-map-lt}
+use Rattle.eos_rows.proofs.Table.{five-bells, getD-map-lt}
 use Rattle.eos_isotherm.specs.Isotherm.{quarters, tauPower, tauPowers, bellAt}
 
 -- ---- the quarters of rows 1 to 39: the column of rows 1 to 34, and rows 35 to 39 behind it
 abbrev of-gaussians : List ℕ
 of-gaussians = map (λ (r : Gaussian). r .q) gaussians
 
-in-two : quarters ≡ tauQuarters ++ of-gaussians
-unfolding quarters tauQuarters polynomials exponentials gaussians
-in-two = refl
-
 column-length : length tauQuarters ≡ 34
 unfolding tauQuarters polynomials exponentials
 column-length = refl
 
-five-rows : length gaussians ≡ 5
-unfolding gaussians
-five-rows = refl
-
 module _ (i : ℕ) where
   pub of-column : i < 34 → getD tauQuarters i 0 ≡ getD quarters i 0
-  of-column h = rw in-two (sym (List·getD-append tauQuarters of-gaussians 0 i (rw column-length h)))
+  unfolding quarters
+  of-column h = sym (List·getD-append tauQuarters of-gaussians 0 i (rw column-length h))
 
   pub of-gaussian : 34 ≤ i → i < 39 → getD gaussians (i - 34) row39 .q ≡ getD quarters i 0
+  unfolding quarters
   of-gaussian h l =
       let p : length tauQuarters + (i - 34) ≡ i = rw column-length (omega arith) in
-      rw in-two
-      (sym (getD-map-lt (λ (r : Gaussian). r .q) gaussians (i - 34) row39 0 (rw five-rows (omega arith)))
+      sym (getD-map-lt (λ (r : Gaussian). r .q) gaussians (i - 34) row39 0 (rw five-bells (omega arith)))
       ∙ sym (getD-append-add tauQuarters of-gaussians (i - 34) 0)
-      ∙ ap (λ (j : ℕ). getD (tauQuarters ++ of-gaussians) j 0) p)
+      ∙ ap (λ (j : ℕ). getD (tauQuarters ++ of-gaussians) j 0) p
 
 pub count : length quarters ≡ 39
-unfolding quarters polynomials exponentials gaussians
+unfolding quarters tauQuarters polynomials exponentials gaussians
 count = refl
 
 -- no exponent is above 28: one test over the whole table
 pub small : (i : ℕ) → getD quarters i 0 < 113
-unfolding quarters polynomials exponentials gaussians
+unfolding quarters tauQuarters polynomials exponentials gaussians
 small = below (λ (j : ℕ). j) 113 quarters 0 tt tt
 
 -- the product at a place, from the arrays of powers, is the row's power

@@ -9,7 +9,8 @@ use lib.Ieee.{Float}
 use Rattle.num_roots.specs.declared.root.Exponent.{Exponent}
 use Rattle.num_formulas.specs.Formula.{Formula, num, one, _⊖_, _⊗_, _^^_, root, value}
 use Rattle.eos_constants.specs.Reduced as Reduced
-use Rattle.eos_rows.specs.Row.{Polynomial, Exponential, polynomials, exponentials, gaussians, row40}
+use Rattle.eos_rows.specs.Row.{gaussians, row40}
+use Rattle.eos_rows.specs.Column.{tauQuarters}
 use Rattle.eos_rows.specs.declared.Gaussian.{Gaussian}
 use Rattle.eos_rows.specs.declared.NonAnalytic.{NonAnalytic}
 use Rattle.eos_isotherm.specs.declared.Isotherm.{Isotherm}
@@ -27,7 +28,7 @@ tauPower tau quarter j = num tau ^^ (j / 4) ⊗ num quarter ^^ (j % 4)
 
 -- t of rows 1 to 39, in quarters
 unfoldable pub quarters : List ℕ
-quarters = map (λ (r : Polynomial). r .q) polynomials ++ (map (λ (r : Exponential). r .q) exponentials ++ map (λ (r : Gaussian). r .q) gaussians)
+quarters = tauQuarters ++ map (λ (r : Gaussian). r .q) gaussians
 
 unfoldable pub tauPowers : Float → Float → List Float
 tauPowers tau quarter = map (λ (j : ℕ). value (tauPower tau quarter j)) quarters

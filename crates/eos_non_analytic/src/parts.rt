@@ -45,6 +45,7 @@ pub struct Critical {
     pub third: Edge,
 }
 
+// What rows 40 to 42 share.
 pub fn near_critical(delta: f64) -> Near
     ensures { λ r. ⌜ r ≡ near (around delta) ⌝ }
 {
@@ -95,7 +96,7 @@ fn edge_at(s: Shared, p0: f64) -> Edge
     }
 }
 
-// By what they share, which is worked before it.
+// Rows 40 to 42 by what they share, which `near_critical` works before it.
 pub fn at_critical(near: Near, tau: f64) -> Critical
     ensures { λ r. ⌜ r ≡ criticalBy near tau ⌝ }
 {

@@ -12,6 +12,7 @@ use Rattle.num_formulas.specs.Formula.{value, work}
 use Rattle.num_formulas.proofs.Formulas.{once}
 use Rattle.eos_brackets.specs.Derivative.{Derivative}
 use Rattle.eos_rows.specs.Row.{polynomials}
+use Rattle.eos_rows.specs.Column.{tauQuarters}
 use Rattle.eos_isotherm.specs.Isotherm.{quarterOf, tauPower, tauPowers, quarters, isotherm}
 use Rattle.eos_isotherm.specs.declared.Isotherm.{Isotherm}
 use Rattle.eos_terms.specs.Term.{polynomialTerm}
@@ -34,7 +35,7 @@ onto-failed (f ∷ fs) = onto-failed fs
 
 -- the second row's τᵗ is a power of the quarter root
 second-power : (t : Float) → work (quarterOf t) ≡ Failed → checked (getD (isotherm t .powers) 1 nan) ≡ Failed
-unfolding isotherm tauPowers quarters polynomials tauPower work _^ᵂ_ _*ᵂ_ whole ofInt
+unfolding isotherm tauPowers quarters tauQuarters polynomials tauPower work _^ᵂ_ _*ᵂ_ whole ofInt
 second-power t e = once (tauPower _ (value (quarterOf t)) 3) ∙ rw (once (quarterOf t), e) refl
 
 -- and its figure fails with it

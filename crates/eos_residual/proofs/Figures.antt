@@ -17,7 +17,7 @@ use Rattle.eos_rows.specs.declared.Gaussian.{Gaussian}
 use Rattle.eos_rows.specs.Row.{Polynomial, Exponential, polynomials, row7, exponentials, row34, gaussians, row39}
 use Rattle.eos_rows.specs.Column.{coefficients, deltaPowers, tauQuarters, decayPowers}
 use Rattle.eos_rows.proofs.Places.{everywhere, below}
-use Rattle.eos_rows.proofs.Table.{seven, twenty-seven, getD-map-lt, of-polynomial, of-exponential}
+use Rattle.eos_rows.proofs.Table.{seven, twenty-seven, five-bells, getD-map-lt, of-polynomial, of-exponential}
 use Rattle.eos_isotherm.specs.Isotherm.{bellAt}
 use Rattle.eos_isotherm.specs.declared.Isotherm.{Isotherm}
 use Rattle.eos_brackets.specs.Derivative.{Derivative, of, five}
@@ -46,10 +46,6 @@ module _ {A : Type 0} (term : ℕ → A → Formula) (bracket : A → Derivative
       )
 
 -- ---- each row's exponents have their places in the arrays: one test over a table
-gaussian-count : length gaussians ≡ 5
-unfolding gaussians
-gaussian-count = refl
-
 delta-small : (i : ℕ) → getD deltaPowers i 0 < 11
 unfolding deltaPowers polynomials exponentials
 delta-small = below (λ (d : ℕ). d) 11 deltaPowers 0 tt tt
@@ -104,14 +100,14 @@ module _ (iso : Isotherm) (delta : Float) where
 
   pub gaussian-length : (k : Derivative) → length (gaussianFigures iso delta k) ≡ 5
   unfolding gaussianFigures
-  gaussian-length k = length-numbered (gaussianFigure iso delta k) 34 gaussians ∙ gaussian-count
+  gaussian-length k = length-numbered (gaussianFigure iso delta k) 34 gaussians ∙ five-bells
 
   bells-at : (i : ℕ) → i < 5 → getD (bells (iso .bell) delta) i nan ≡ value (bell delta (getD (iso .bell) (bellAt i) nan) (getD gaussians i row39))
   unfolding bells
   bells-at i h =
       let its : ℕ → Gaussian → Float = λ n r. value (bell delta (getD (iso .bell) (bellAt n) nan) r) in
       let z : 0 + i ≡ i = omega arith in
-      getD-numbered its 0 gaussians i row39 nan (rw gaussian-count h) ∙ ap (λ (n : ℕ). its n (getD gaussians i row39)) z
+      getD-numbered its 0 gaussians i row39 nan (rw five-bells h) ∙ ap (λ (n : ℕ). its n (getD gaussians i row39)) z
 
   -- ---- what code has of a row at place i, from ys, xs and es or bs
   module _ {ys xs : List Float} (y : iso .powers ≡ ys) (x : powers 10 delta ≡ xs) (i : ℕ) where
@@ -164,5 +160,5 @@ module _ (iso : Isotherm) (delta : Float) where
         let s : r .d < 11 = rw e (gaussian-small i) in
         let z : 34 + i - 34 ≡ i = omega arith in
         placed (λ n. gaussianTerm delta (getD (iso .powers) n nan) (getD (iso .bell) (bellAt (n - 34)) nan)) (gaussianBracket delta (iso .tau))
-        34 gaussians row39 i r _ _ (rw gaussian-count h) e
+        34 gaussians row39 i r _ _ (rw five-bells h) e
         (rw (← x, ← y, ← g, powers-at 10 (r .d) delta (omega arith), bells-at i h, e, z)) (rw (q, f))

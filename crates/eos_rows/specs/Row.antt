@@ -1,5 +1,5 @@
--- Table 31 of 004 as printed, row by row, read as docs/READING.md says: sign, digits, places. The last row of a kind has a name, since it also
--- answers for a place past the end; and so have rows 40 and 41, which share most of their numbers. Definitions only.
+-- Table 31 of 004 as printed, row by row, read as docs/READING.md says: sign, digits, places. Rows 39 and 42 have a name, since each also answers for a
+-- place past the end; rows 7 and 34, since proofs name them; rows 40 and 41, since they share most of their numbers. Definitions only.
 use Prim.Native.Nat.{ℕ}
 use mathlib.Core.List.{List, [], _∷_}
 use lib.Dec.{eqb}

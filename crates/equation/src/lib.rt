@@ -8,8 +8,8 @@ use eos_state::Phase;
 use eos_state::Stated;
 use num_working::Worked;
 
-// The temperature, and what hangs on it alone, worked once and handed on by value. It stands beside the isotherm: read
-// out of that apart from the rest, it would have the whole copied at each probe of a search.
+// The temperature, and what hangs on it alone, worked once and handed on by value. The temperature stands beside the
+// isotherm: read out of it apart from the rest, it would have the whole copied at each probe of a search.
 pub struct Curve {
     pub t: f64,
     pub isotherm: Isotherm,

@@ -14,9 +14,9 @@
 extern "C" {
 #endif
 
-/* This header's version, 1.4.0: 10,000 times the first number, 100 times the second, and the third. A program that is
+/* This header's version, 1.5.0: 10,000 times the first number, 100 times the second, and the third. A program that is
  * linked with a shared library may compare it with makhroeng_version(). */
-#define MAKHROENG_VERSION 10400
+#define MAKHROENG_VERSION 10500
 
 /* What a door returns where it answers, and what saturation does. Every refusal number is below these. */
 enum { MAKHROENG_VAPOUR = 256, MAKHROENG_LIQUID = 257, MAKHROENG_SUPERCRITICAL = 258, MAKHROENG_SATURATED = 259 };

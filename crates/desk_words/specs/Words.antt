@@ -9,7 +9,7 @@ use Rattle.sheet_write.specs.Writing.{ascii}
 
 -- 10,000 times the first number, 100 times the second, and the third
 abbrev pub version : ℕ
-version = 10400
+version = 10500
 
 -- from 0, which is no refusal, on
 unfoldable pub all : List (List ℕ)
@@ -53,6 +53,28 @@ all =
     ∷ []
     -- 19
     ∷ ascii "Solid: dry ice and no agent that flows. Check the thermometer and the gauge, or warm the cylinder above -50 C and read again."
+    -- 20
+    ∷ []
+    -- 21
+    ∷ []
+    -- 22
+    ∷ []
+    -- 23
+    ∷ []
+    -- 24
+    ∷ []
+    -- 25
+    ∷ []
+    -- 26
+    ∷ []
+    -- 27
+    ∷ []
+    -- 28
+    ∷ []
+    -- 29
+    ∷ []
+    -- 30
+    ∷ ascii "The cylinder is already on the sheet. Take the line out if it was copied, or read its number at the cylinder again."
     ∷ []
 
 -- a number that is no refusal has none

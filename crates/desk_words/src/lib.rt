@@ -6,11 +6,11 @@ ghost use Rattle.sheet_write.specs.Writing.{Fitted};
 ghost use Rattle.desk_words.specs.Words.{version, words, behindLines, upToLine, UpTo};
 use sheet_write::put_whole;
 
-// 1.4.0
+// 1.5.0
 pub fn version() -> u32
     ensures { λ r. ⌜ r ≡ version ⌝ }
 {
-    10400
+    10500
 }
 
 // Where line n of a text begins, the first being line 0; the text's end where there is none.
@@ -79,7 +79,18 @@ pub fn put_words(number: u32, out: &mut [u8]) -> usize
             \n\
             \n\
             \n\
-            Solid: dry ice and no agent that flows. Check the thermometer and the gauge, or warm the cylinder above -50 C and read again.\n",
+            Solid: dry ice and no agent that flows. Check the thermometer and the gauge, or warm the cylinder above -50 C and read again.\n\
+            \n\
+            \n\
+            \n\
+            \n\
+            \n\
+            \n\
+            \n\
+            \n\
+            \n\
+            \n\
+            The cylinder is already on the sheet. Take the line out if it was copied, or read its number at the cylinder again.\n",
         number,
         out,
     )

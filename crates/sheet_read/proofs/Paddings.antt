@@ -7,6 +7,12 @@ use lib.ListN.{length, set, take}
 use Rattle.sheet_read.specs.Padded.{padded}
 
 module _ {A : Type 0} (d : A) where
+  pub padded-length : (n : ℕ) (l : List A) → length (padded d n l) ≡ n
+  unfolding padded
+  padded-length zero l = refl
+  padded-length (suc n) [] = ap suc (padded-length n [])
+  padded-length (suc n) (x ∷ l) = ap suc (padded-length n l)
+
   pub padded-set : (n : ℕ) (l : List A) (x : A) → length l < n → set (padded d n l) (length l) x ≡ padded d n (l ++ (x ∷ []))
   unfolding padded
   padded-set zero l x h = absurd (omega arith)

@@ -1,4 +1,5 @@
 pub mod Weights
 pub mod Weighings
 pub mod Markings
+pub mod Knowns
 pub mod Unique

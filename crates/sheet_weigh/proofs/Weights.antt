@@ -1,5 +1,6 @@
 -- A line's milligrams are below 2⁵³, whatever its figures are. Assumes nothing.
 use mathlib.Core.Path.{_≡_, refl}
+use mathlib.Core.List.{List}
 use Prim.Native.Nat.{ℕ, _^_, _<_}
 use lib.Ieee.{Float, binary64, mul}
 use Rattle.num_working.specs.Number.{whole}
@@ -13,8 +14,10 @@ use Rattle.sheet_text.specs.declared.Field.{Field}
 use Rattle.sheet_line.specs.declared.line.Temperature.{Temperature}
 use Rattle.sheet_line.specs.declared.line.Reading.{Reading}
 use Rattle.sheet_line.specs.declared.line.Line.{Line}
+use Rattle.sheet_standing.specs.Standing.{standing}
+use Rattle.sheet_standing.specs.declared.Standing.{Standing}
 use Rattle.sheet_outcome.specs.declared.Weighed.{Weighed}
-use Rattle.sheet_weigh.specs.Weighing.{ifNumber, ifKelvin, isVolume, mass, milligrams, byAnswer, filled, byReading, weighed}
+use Rattle.sheet_weigh.specs.Weighing.{ifNumber, ifKelvin, isVolume, mass, milligrams, byAnswer, filled, byReading, weighed, weighedAs, weighedAfter}
 
 -- one that was refused has none
 abbrev pub Under : Weighed → Type 0
@@ -52,3 +55,12 @@ module _ (L : Limits) where
   pub weighed-under : (l : Line) → Under (weighed L l)
   unfolding weighed
   weighed-under l = number-under (l .number) _ (λ _. number-under (l .volume) _ (λ v. reading-under (l .temperature) v (l .reading)))
+
+  standing-under : (s : Standing) (l : Line) → Under (weighedAs L s l)
+  standing-under Standing.Lacking l = tt
+  standing-under Standing.Again l = tt
+  standing-under Standing.Ready l = weighed-under l
+
+  pub after-under : (before : List ℕ) (l : Line) → Under (weighedAfter L before l)
+  unfolding weighedAfter
+  after-under before l = standing-under (standing before l) l

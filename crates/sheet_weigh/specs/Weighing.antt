@@ -1,6 +1,7 @@
--- RULES 3.2: a line's working, refused by 1, then by 2, then by what its door says, then by 7 of the product. Definitions only.
+-- RULES 3.2: a line's working, refused by 1, then by 30, then by 2, then by what its door says, then by 7 of the product. Definitions only.
 use Prim.Native.Nat.{ℕ}
 use mathlib.Core.Bool.{Bool, cond, _&&_}
+use mathlib.Core.List.{List}
 use lib.Dec.{leb}
 use lib.Ieee.{Float, binary64, mul}
 use Rattle.num_working.specs.Number.{whole}
@@ -15,6 +16,8 @@ use Rattle.sheet_text.specs.declared.Field.{Field}
 use Rattle.sheet_line.specs.declared.line.Temperature.{Temperature}
 use Rattle.sheet_line.specs.declared.line.Reading.{Reading}
 use Rattle.sheet_line.specs.declared.line.Line.{Line}
+use Rattle.sheet_standing.specs.Standing.{standing}
+use Rattle.sheet_standing.specs.declared.Standing.{Standing}
 use Rattle.sheet_outcome.specs.declared.Weighed.{Weighed}
 
 -- ---- 1: one of the four fields of a line is blank
@@ -49,7 +52,7 @@ byAnswer (Answer.Refused n) v = Weighed.Refused n
 unfoldable pub filled : ℕ → Answer → Weighed
 filled v a = cond (isVolume v) (byAnswer a v) (Weighed.Refused 2)
 
--- ---- the line
+-- ---- the line alone
 
 module _ (L : Limits) where
   -- the door is that of the reading's kind
@@ -60,3 +63,14 @@ module _ (L : Limits) where
 
   unfoldable pub weighed : Line → Weighed
   weighed l = ifNumber (l .number) (λ _. ifNumber (l .volume) (λ v. byReading (l .temperature) v (l .reading)))
+
+  -- ---- the line on its sheet
+
+  abbrev pub weighedAs : Standing → Line → Weighed
+  weighedAs Standing.Lacking l = Weighed.Refused 1
+  weighedAs Standing.Again l = Weighed.Refused 30
+  weighedAs Standing.Ready l = weighed l
+
+  -- the numbers are the cylinder numbers of the lines before it
+  unfoldable pub weighedAfter : List ℕ → Line → Weighed
+  weighedAfter before l = weighedAs (standing before l) l

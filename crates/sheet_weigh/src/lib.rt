@@ -1,4 +1,4 @@
-// RULES 3.2, 3.4 and 6.5: what comes of a line, refused by 1, 2, its door or 7, in this order, or its milligrams;
+// RULES 3.2, 3.4 and 6.5: what comes of a line, refused by 1, 30, 2, its door or 7, in this order, or its milligrams;
 // and of a sheet, sent back by 14, 10, 11, 12 or 13, in this order, or the total.
 ghost use mathlib.Core.Path.{_≡_};
 ghost use mathlib.Core.List.{[]};
@@ -7,7 +7,7 @@ ghost use lib.ListN.{take};
 ghost use Rattle.sheet_outcome.specs.Outcome.{marksOf, total};
 ghost use Rattle.sheet_outcome.specs.declared.Admitted.{Admitted};
 ghost use Rattle.sheet_line.specs.declared.line.Reading.{Reading};
-ghost use Rattle.sheet_weigh.specs.Weighing.{isVolume, milligrams, byAnswer, byReading, weighed};
+ghost use Rattle.sheet_weigh.specs.Weighing.{isVolume, milligrams, byAnswer, byReading, weighed, weighedAfter};
 ghost use Rattle.sheet_weigh.specs.Sheet.{marksFor, finished, marked, outcome, Light};
 use door_answers::Answer;
 use door_answers::refusal_number;
@@ -30,6 +30,8 @@ use sheet_outcome::admit;
 use sheet_outcome::conclude;
 use sheet_read::Sheet;
 use sheet_read::SheetRead;
+use sheet_standing::Standing;
+use sheet_standing::standing_of;
 use sheet_text::Field;
 
 pub fn is_volume(v: u64) -> bool
@@ -110,7 +112,18 @@ pub fn weigh(limits: Limits, l: Line) -> Weighed
     by_reading(limits, temperature, v, reading)
 }
 
-// Each line's milligrams or refusal; i counts the lines from 1.
+// After lines with these cylinder numbers: 1, then 30, and else what the line alone comes to.
+fn weigh_after(limits: Limits, numbers: &[u64], l: Line) -> Weighed
+    ensures { λ r. ⌜ r ≡ weighedAfter limits (now (numbers .entry)) l ⌝ }
+{
+    match standing_of(numbers, l) {
+        Standing::Lacking => Weighed::Refused(1),
+        Standing::Again => Weighed::Refused(30),
+        Standing::Ready => weigh(limits, l),
+    }
+}
+
+// Each line's milligrams or refusal; i counts the lines from 1, and known the cylinder numbers that were read.
 fn weigh_all(limits: Limits, s: Sheet) -> Marks
     requires { ⌜ s .count ≤ 32 ⌝ }
     ensures { λ r. ⌜ r ≡ marksFor (marked limits (take (s .count) (s .lines))) ⌝ }
@@ -119,12 +132,19 @@ fn weigh_all(limits: Limits, s: Sheet) -> Marks
         weighed: Weighed::Refused(0),
     };
     let mut marks = [none; 32];
+    let mut numbers: [u64; 32] = [0; 32];
+    let mut known: usize = 0;
     let n = s.count;
     let mut i: usize = 1;
     while i <= n {
         let l = s.lines[i - 1];
-        let w = weigh(limits, l);
+        let number = l.number;
+        let w = weigh_after(limits, &numbers[..known], l);
         marks[i - 1] = Mark { weighed: w };
+        if let Field::Number(x) = number {
+            numbers[known] = x;
+            known += 1;
+        }
         i += 1;
     }
     Marks {

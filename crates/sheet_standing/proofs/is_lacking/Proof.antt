@@ -1,0 +1,60 @@
+-- One field after the other, and no number of it is looked at. Assumes nothing.
+use borrow.Author.Needs.{needs}
+use Rattle.sheet_standing.specs.Standing.{lacking}
+use Rattle.sheet_standing.proofs.is_lacking.Statement.{statement}
+use Rattle.sheet_standing.proofs.is_lacking.Tie as tie
+
+returns : tie.Need-returns
+unfolding lacking
+returns c = rw (c .enum-told2 .given .1)
+
+returns-2 : tie.Need-returns-2
+unfolding lacking
+returns-2 c = rw (c .before .before .enum-told .given .1, c .enum-told4 .given .1)
+
+returns-3 : tie.Need-returns-3
+unfolding lacking
+returns-3 c =
+    let t = c .before .before in
+    rw (t .before .before .enum-told .given .1, t .enum-told3 .given .1, c .enum-told6 .given .1)
+
+returns-4 : tie.Need-returns-4
+unfolding lacking
+returns-4 c =
+    let v = c .before .before in
+    let t = v .before .before in
+    rw (t .before .before .enum-told .given .1, t .enum-told3 .given .1, v .enum-told5 .given .1, c .enum-told7 .given .1)
+
+returns-5 : tie.Need-returns-5
+unfolding lacking
+returns-5 c =
+    let v = c .before .before in
+    let t = v .before .before in
+    rw (t .before .before .enum-told .given .1, t .enum-told3 .given .1, v .enum-told5 .given .1, c .enum-told8 .given .1)
+
+returns-6 : tie.Need-returns-6
+unfolding lacking
+returns-6 c =
+    let v = c .before .before in
+    let t = v .before .before in
+    rw (t .before .before .enum-told .given .1, t .enum-told3 .given .1, v .enum-told5 .given .1, c .enum-told9 .given .1)
+
+pub is-lacking-spec : {M : Type 1} → statement M
+is-lacking-spec =
+    tie.close
+    (tie.spec
+    (λ c. search needs)
+    (λ c. search needs)
+    returns
+    (λ c. search needs)
+    (λ c. search needs)
+    returns-2
+    (λ c. search needs)
+    (λ c. search needs)
+    returns-3
+    (λ c. search needs)
+    (λ c. search needs)
+    (λ c. search needs)
+    returns-4
+    returns-5
+    returns-6)

@@ -1,0 +1,74 @@
+// RULES 3.2 and 6.6: how a line stands before it is worked: a field of it is blank, which is 1; or a line before it has its
+// cylinder number, which is 30; or it is ready.
+ghost use mathlib.Core.Path.{_≡_};
+ghost use Rattle.sheet_standing.specs.Standing.{lacking, isOn, isAgain, standing};
+use sheet_line::line::Line;
+use sheet_line::line::Reading;
+use sheet_line::line::Temperature;
+use sheet_text::Field;
+
+pub enum Standing {
+    Lacking,
+    Again,
+    Ready,
+}
+
+fn is_lacking(l: Line) -> bool
+    ensures { λ r. ⌜ r ≡ lacking l ⌝ }
+{
+    let number = l.number;
+    let temperature = l.temperature;
+    let reading = l.reading;
+    let volume = l.volume;
+    let Field::Number(_) = number else {
+        return true;
+    };
+    let Temperature::Kelvin(_) = temperature else {
+        return true;
+    };
+    let Field::Number(_) = volume else {
+        return true;
+    };
+    match reading {
+        Reading::Blank => true,
+        Reading::Pressure(_) => false,
+        Reading::Density(_) => false,
+    }
+}
+
+fn is_on(numbers: &[u64], n: u64) -> bool
+    ensures { λ r. ⌜ r ≡ isOn (now (numbers .entry)) n ⌝ }
+{
+    let mut i: usize = 0;
+    while i < numbers.len() {
+        if numbers[i] == n {
+            return true;
+        }
+        i += 1;
+    }
+    false
+}
+
+// A blank is no number, and never the same as another.
+fn is_again(numbers: &[u64], f: Field) -> bool
+    ensures { λ r. ⌜ r ≡ isAgain (now (numbers .entry)) f ⌝ }
+{
+    match f {
+        Field::Blank => false,
+        Field::Number(n) => is_on(numbers, n),
+    }
+}
+
+// The numbers are those of the lines before it.
+pub fn standing_of(numbers: &[u64], l: Line) -> Standing
+    ensures { λ r. ⌜ r ≡ standing (now (numbers .entry)) l ⌝ }
+{
+    let number = l.number;
+    if is_lacking(l) {
+        return Standing::Lacking;
+    }
+    if is_again(numbers, number) {
+        return Standing::Again;
+    }
+    Standing::Ready
+}

@@ -1,58 +1,31 @@
 -- How long a report is, whatever the text: at most 32 lines of 46 bytes and an ending of 40, since each number has 20 digits at most. Assumes nothing.
-use Prim.Native.Nat.{ℕ, _+_, _*_, _^_, _≤_, _<_}
-use mathlib.Core.Path.{_≡_, subst}
+use Prim.Native.Nat.{ℕ, suc, _+_, _*_, _^_, _≤_, _<_}
+use mathlib.Core.Path.{_≡_, refl, _∙_}
 use mathlib.Core.List.{List, [], _∷_, _++_, map}
 use native.Mathlib.Omega.{arith}
-use lib.ListN.{length, length-append, length-map}
-use lib.Ieee.{Float, binary64, div}
-use Rattle.num_working.specs.Number.{whole}
+use lib.ListN.{length, getD, length-append, length-map}
 use Rattle.sheet_text.specs.Decimal.{decimal}
-use Rattle.sheet_text.specs.declared.Field.{Field}
 use Rattle.sheet_text.proofs.Decimals.{digits-most}
 use Rattle.sheet_line.specs.Line.{lineOf}
-use Rattle.sheet_line.specs.declared.cylinder.Kind.{Kind}
 use Rattle.sheet_line.specs.declared.cylinder.Cylinder.{Cylinder}
 use Rattle.sheet_read.specs.Form.{Bank, inForm}
 use Rattle.door_limits.specs.declared.Limits.{Limits}
-use Rattle.door_answers.specs.declared.Answer.{Answer}
-use Rattle.sheet_weigh.specs.Weighing.{weighed}
-use Rattle.sheet_weigh.specs.Sheet.{mark, marked}
-use Rattle.sheet_weigh.proofs.Weights.{Under, weighed-under}
+use Rattle.sheet_weigh.specs.Sheet.{marked}
+use Rattle.sheet_weigh.proofs.Markings.{marked-length, all-light}
 use Rattle.sheet_write.specs.Writing.{ascii}
 use Rattle.sheet_report.specs.Report.{lineBytes, linesBytes, endingBytes}
+use Rattle.sheet_outcome.specs.declared.Mark.{Mark}
 use Rattle.sheet_outcome.specs.declared.Weighed.{Weighed}
 use Rattle.sheet_outcome.specs.declared.Ending.{Ending}
 use Rattle.sheet_report.proofs.Reports.{between-length, number-of, line-size}
 use Rattle.sheet_score.specs.Score.{report}
-use Rattle.demands.specs.Demands.{Numbered, to-9, is-19, Settled, given, not-given}
-use Rattle.demands.specs.Lines as lines
-use Rattle.demands.specs.Lines.{Asked, by-pressure, by-density, RefusesLine, no-volume, by-door, no-product}
+use Rattle.demands.specs.Demands.{Numbered, to-9, is-19}
+use Rattle.demands.specs.Twice.{came, NumberedAt, as-alone, is-30}
 use Rattle.demands.specs.Sheets as sheets
-use Rattle.demands.specs.Sheets.{sum, AllWeighed, Lined, Reported, not-in-form, no-lines, many-lines, no-need, one-refused, covered, short}
-use Rattle.demands.proofs.Demands.{pressure-settles, density-settles}
-use Rattle.demands.proofs.Lines.{Comes, refused, weighs, comes}
+use Rattle.demands.specs.Sheets.{sum, AllWeighed, Lined, Reported, not-in-form, no-lines, many-lines, no-need, one-refused, named-twice, covered, short}
+use Rattle.demands.proofs.Twice.{noMark, refusals-at}
+use Rattle.demands.proofs.Numbers.{number-at}
 use Rattle.demands.proofs.Sheets.{reported, largest-total}
-
--- ---- a line's refusal number
-
-asked-settles : {L : Limits} {t : Float} {k : Kind} {f : Field} {a : Answer} → Asked L t k f a → Settled a
-asked-settles {L} {t} (by-pressure n) = pressure-settles L t (whole n)
-asked-settles {L} {t} (by-density n) = density-settles L t (div binary64 (whole n) (whole 1000))
-
-from-1 : {n : ℕ} → Numbered 3 n → Numbered 1 n
-from-1 (to-9 n h k) = to-9 n (omega arith) k
-from-1 is-19 = is-19
-
-door-number : {n : ℕ} → Settled (Answer.Refused n) → Numbered 1 n
-door-number (given x e) = let z : _≡_ {A = ℕ} 0 1 = cc in absurd (omega arith)
-door-number {n} (not-given m e k) = let z : m ≡ n = cc in subst (Numbered 1) z (from-1 k)
-
--- a line is refused by a number from 1 to 9, or by 19
-pub line-number : {L : Limits} {c : Cylinder} {n : ℕ} → RefusesLine L c n → Numbered 1 n
-line-number (lines.blank d) = to-9 1 (omega arith) (omega arith)
-line-number (no-volume f r) = to-9 2 (omega arith) (omega arith)
-line-number (by-door f r) = door-number (asked-settles (f .asked))
-line-number (no-product f r e) = to-9 7 (omega arith) (omega arith)
 
 -- ---- the parts
 
@@ -63,20 +36,32 @@ numbered-most : {n : ℕ} → Numbered 1 n → n < 10 ^ 20
 numbered-most (to-9 n h k) = omega arith
 numbered-most is-19 = omega arith
 
+at-most : {n : ℕ} → NumberedAt n → n < 10 ^ 20
+at-most (as-alone k) = numbered-most k
+at-most is-30 = omega arith
+
 -- a line's number: its milligrams, or its refusal's
-number-most : {L : Limits} {c : Cylinder} {w : Weighed} → Comes L c w → Under w → number-of w < 10 ^ 20
-number-most (refused r) u = numbered-most (line-number r)
-number-most (weighs r) u = omega arith
+number-most : (L : Limits) (cs : List Cylinder) (i : ℕ) → i < length cs → number-of (came L cs i) < 10 ^ 20
+number-most L cs i h = go (came L cs i) refl
+  where
+    go : (w : Weighed) → came L cs i ≡ w → number-of w < 10 ^ 20
+    go (Weighed.Refused n) e = at-most (number-at (refusals-at L cs i h n .0 e))
+    go (Weighed.Mass mg) e =
+        let m = marked-length L (map lineOf cs) in
+        let u = all-light L (map lineOf cs) i mg noMark (omega (arith, m, length-map cs lineOf)) e in
+        omega (arith, u)
 
-line-most : (L : Limits) (c : Cylinder) (i : ℕ) → i < 10 ^ 20 → length (lineBytes i (weighed L (lineOf c))) ≤ 46
-line-most L c i h =
-    let w = weighed L (lineOf c) in
-    omega (arith, line-size i w, digits-most 19 i h, digits-most 19 (number-of w) (number-most (comes L c) (weighed-under L (lineOf c))))
+line-most : (i : ℕ) (w : Weighed) → i < 10 ^ 20 → number-of w < 10 ^ 20 → length (lineBytes i w) ≤ 46
+line-most i w h k = omega (arith, line-size i w, digits-most 19 i h, digits-most 19 (number-of w) k)
 
-lines-most : (L : Limits) (i : ℕ) (cs : List Cylinder) → i + length cs < 10 ^ 20 → length (linesBytes i (marked L (map lineOf cs))) ≤ length cs * 46
-unfolding linesBytes marked
-lines-most L i [] h = omega arith
-lines-most L i (c ∷ cs) h = let ih = lines-most L (i + 1) cs (omega arith) in let l = line-most L c i (omega arith) in simp length-append (omega arith)
+lines-most : (i : ℕ) (ms : List Mark) → ((k : ℕ) → k < length ms → number-of (getD ms k noMark .weighed) < 10 ^ 20) → i + length ms < 10 ^ 20
+    → length (linesBytes i ms) ≤ length ms * 46
+unfolding linesBytes
+lines-most i [] each h = omega arith
+lines-most i (m ∷ ms) each h =
+    let ih = lines-most (i + 1) ms (λ k g. each (suc k) (omega (arith, g))) (omega arith) in
+    let l = line-most i (m .weighed) (omega arith) (each 0 (omega arith)) in
+    simp length-append (omega arith)
 
 -- what an ending writes
 abbrev number-in : Ending → ℕ
@@ -101,9 +86,12 @@ module _ (L : Limits) (t : List ℕ) where
 
   after-lines : {b : Bank} → Lined t b → (e : Ending) → number-in e < 10 ^ 20 → Sized (linesBytes 1 (marked L (sheets.lines b)) ++ endingBytes e)
   after-lines {b} l e h =
-      let m = lines-most L 1 (b .cylinders) (omega (arith, l .at-most)) in
+      let n = marked-length L (sheets.lines b) ∙ length-map (b .cylinders) lineOf in
+      let each : (k : ℕ) → k < length (marked L (sheets.lines b)) → number-of (came L (b .cylinders) k) < 10 ^ 20 =
+      λ k g. number-most L (b .cylinders) k (omega (arith, g, n)) in
+      let m = lines-most 1 (marked L (sheets.lines b)) each (omega (arith, n, l .at-most)) in
       let r = ending-most e h in
-      (simp length-append (omega (arith, r .0)), simp length-append (omega (arith, r .1, m, l .at-most)))
+      (simp length-append (omega (arith, r .0)), simp length-append (omega (arith, r .1, m, n, l .at-most)))
 
   total-most : {b : Bank} {mgs : List ℕ} → Lined t b → AllWeighed L (sheets.lines b) mgs → sum mgs < 10 ^ 20
   total-most {b} l a = omega (arith, largest-total L a (omega (arith, length-map (b .cylinders) lineOf, l .at-most)))
@@ -114,8 +102,9 @@ module _ (L : Limits) (t : List ℕ) where
   report-length (many-lines e h) = alone 11 (omega arith)
   report-length (no-need l n) = alone 12 (omega arith)
   report-length (one-refused n r) = after-lines (n .lined) (Ending.SentBack 13) (omega arith)
-  report-length (covered {b} {need} {mgs} n a h) = after-lines (n .lined) (Ending.Covered (sum mgs)) (total-most (n .lined) a)
-  report-length (short {b} {need} {mgs} n a h) = after-lines (n .lined) (Ending.Short (sum mgs)) (total-most (n .lined) a)
+  report-length (named-twice n w) = after-lines (n .lined) (Ending.SentBack 13) (omega arith)
+  report-length (covered {b} {need} {mgs} n once a h) = after-lines (n .lined) (Ending.Covered (sum mgs)) (total-most (n .lined) a)
+  report-length (short {b} {need} {mgs} n once a h) = after-lines (n .lined) (Ending.Short (sum mgs)) (total-most (n .lined) a)
 
 -- EVERY REPORT has at least one byte and at most 1,512
 pub length-of-report : (L : Limits) (t : List ℕ) → (1 ≤ length (report L (inForm t))) × (length (report L (inForm t)) ≤ 1512)

@@ -8,6 +8,8 @@ pub mod Before
 pub mod Counts
 pub mod Conductivities
 pub mod Lines
+pub mod Twice
+pub mod Numbers
 pub mod Sheets
 pub mod Lengths
 pub mod Readings

@@ -1,4 +1,5 @@
--- Sheets and their reports, byte for byte: the first example of RULES 7.4, the sheets of RULES 8.2, and two more, of 12 and of blanks. Definitions only.
+-- Sheets and their reports, byte for byte: the first example of RULES 7.4, the sheets of RULES 8.2, and three more, of 12, of blanks and of RULES 6.6.
+-- Definitions only.
 use Prim.Native.Nat.{ℕ, zero, suc}
 use Prim.Native.String.{String}
 use mathlib.Core.List.{List, [], _∷_, _++_}
@@ -20,4 +21,8 @@ examples =
     ∷ record { text = ascii "N -\n" ++ times 33 (ascii "C 1 3000000 P 5000000 40000\n"); report = "SENT BACK 11\n" }
     ∷ record { text = ascii "N 0\nC 1 3000000 P 5000000 40000\n"; report = "SENT BACK 12\n" }
     ∷ record { text = ascii "N 1\nC 1 - D 5000000 40000\nC - 3000000 D - 40000\nC 3 3000000 P 1 -\n"; report = "L 1 R 1\nL 2 R 1\nL 3 R 1\nSENT BACK 13\n" }
+    ∷ record {
+      text = ascii "N 1\nC 7 2000000 P 5000000 40000\nC 0 - P 1 1\nC - 1 P 1 1\nC - 1 P 1 1\nC 7 - P 1 1\nC 0 1 P 1 0\nC 7 3000000 P 5000000 40000\n";
+      report = "L 1 R 4\nL 2 R 1\nL 3 R 1\nL 4 R 1\nL 5 R 1\nL 6 R 30\nL 7 R 30\nSENT BACK 13\n";
+    }
     ∷ []

@@ -3,6 +3,7 @@ pub mod Before
 pub mod Counts
 pub mod Conductivities
 pub mod Lines
+pub mod Twice
 pub mod Sheets
 pub mod Readings
 pub mod Examples

@@ -17,6 +17,7 @@ use Rattle.sheet_outcome.specs.declared.Ending.{Ending}
 use Rattle.sheet_report.specs.Report.{linesBytes, endingBytes}
 use Rattle.sheet_report.specs.declared.Written.{Written}
 use Rattle.sheet_score.specs.Score.{sentBack}
+use Rattle.demands.specs.Twice.{Twice}
 
 abbrev pub lines : Bank → List Line
 lines b = map lineOf (b .cylinders)
@@ -46,12 +47,12 @@ pub record Needs (t : List ℕ) (b : Bank) (mg : ℕ) : Type 0 where
   pub at-most : mg ≤ 9_999_999_999
 
 module _ (L : Limits) where
-  -- some line is refused
+  -- some line is refused by itself
   pub data OneRefused : List Line → Type 0 where
     here : {l : Line} {ls : List Line} {n : ℕ} → weighed L l ≡ Weighed.Refused n → OneRefused (l ∷ ls)
     there : {l : Line} {ls : List Line} → OneRefused ls → OneRefused (l ∷ ls)
 
-  -- every line is answered, and these are their milligrams
+  -- every line is answered by itself, and these are their milligrams
   pub data AllWeighed : List Line → List ℕ → Type 0 where
     none-left : AllWeighed [] []
     one-more : {l : Line} {ls : List Line} {mg : ℕ} {mgs : List ℕ} → weighed L l ≡ Weighed.Mass mg → AllWeighed ls mgs → AllWeighed (l ∷ ls) (mg ∷ mgs)
@@ -63,9 +64,10 @@ module _ (L : Limits) where
     many-lines : {b : Bank} → inForm t ≡ some b → 32 < length (b .cylinders) → Reported t (sentBack 11)
     no-need : {b : Bank} → Lined t b → NoNeed (b .need) → Reported t (sentBack 12)
     one-refused : {b : Bank} {need : ℕ} → Needs t b need → OneRefused (lines b) → Reported t (linesBytes 1 (marked L (lines b)) ++ sentBack 13)
-    covered : {b : Bank} {need : ℕ} {mgs : List ℕ} → Needs t b need → AllWeighed (lines b) mgs → need ≤ sum mgs
+    named-twice : {b : Bank} {need : ℕ} → Needs t b need → Twice (b .cylinders) → Reported t (linesBytes 1 (marked L (lines b)) ++ sentBack 13)
+    covered : {b : Bank} {need : ℕ} {mgs : List ℕ} → Needs t b need → (Twice (b .cylinders) → ⊥) → AllWeighed (lines b) mgs → need ≤ sum mgs
         → Reported t (linesBytes 1 (marked L (lines b)) ++ endingBytes (Ending.Covered (sum mgs)))
-    short : {b : Bank} {need : ℕ} {mgs : List ℕ} → Needs t b need → AllWeighed (lines b) mgs → sum mgs < need
+    short : {b : Bank} {need : ℕ} {mgs : List ℕ} → Needs t b need → (Twice (b .cylinders) → ⊥) → AllWeighed (lines b) mgs → sum mgs < need
         → Reported t (linesBytes 1 (marked L (lines b)) ++ endingBytes (Ending.Short (sum mgs)))
 
   -- RULES 7.3: and what the lent output holds then, byte by byte: the report and after it what was there; or, where it doesn't fit, what was there

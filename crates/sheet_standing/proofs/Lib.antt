@@ -1,2 +1,3 @@
 pub mod Standings
+pub mod Named
 pub mod Unique

@@ -66,7 +66,7 @@ module _ (L : Limits) where
   unfolding marked
   marked-snoc ls l = after-snoc [] ls l
 
-  all-light : (ls : List Line) → Light (marked L ls)
+  pub all-light : (ls : List Line) → Light (marked L ls)
   all-light ls i mg d h e =
       let k = marked-at ls i d blankLine (omega (arith, marked-length ls)) in
       subst Under (ap (λ (m : Mark). m .weighed) (sym k) ∙ e) (after-under L (numbers (take i ls)) (getD ls i blankLine))

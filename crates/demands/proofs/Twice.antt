@@ -1,0 +1,291 @@
+-- A line on its sheet: each refusal exactly under its condition, 30 among them; and where no number stands twice, all as it was. Assumes nothing.
+use Prim.Native.Nat.{ℕ, zero, suc, _≤_, _<_}
+use mathlib.Core.Path.{_≡_, refl, sym, ap, subst, _∙_}
+use mathlib.Core.Bool.{Bool, true, false, cond, _||_, true≢false}
+use mathlib.Core.List.{List, [], _∷_, map}
+use mathlib.Core.Option.{Option, none, some}
+use native.Mathlib.Nat.{le-of-suc-le-suc}
+use native.Mathlib.Omega.{arith}
+use lib.ListN.{length, take, getD, length-map, length-take}
+use lib.Seq.{getD-take, ext-getD}
+use Rattle.door_limits.specs.declared.Limits.{Limits}
+use Rattle.sheet_text.specs.declared.Field.{Field}
+use Rattle.sheet_line.specs.Line.{temperatureOf, readingOf, lineOf, blankLine}
+use Rattle.sheet_line.specs.declared.cylinder.Kind.{Kind}
+use Rattle.sheet_line.specs.declared.cylinder.Cylinder.{Cylinder}
+use Rattle.sheet_line.specs.declared.line.Line.{Line}
+use Rattle.sheet_read.specs.Form.{Bank, inForm}
+use Rattle.sheet_standing.specs.Standing.{noNumber, noTemperature, noReading, lacking, isOn, isAgain, numbers, standing}
+use Rattle.sheet_standing.specs.declared.Standing.{Standing}
+use Rattle.sheet_standing.proofs.Named.{named, is-named}
+use Rattle.sheet_outcome.specs.Outcome.{admitted}
+use Rattle.sheet_outcome.specs.declared.Admitted.{Admitted}
+use Rattle.sheet_outcome.specs.declared.Weighed.{Weighed}
+use Rattle.sheet_outcome.specs.declared.Mark.{Mark}
+use Rattle.sheet_weigh.specs.Weighing.{weighed, weighedAs, weighedAfter}
+use Rattle.sheet_weigh.specs.Sheet.{mark, marked}
+use Rattle.sheet_weigh.proofs.Markings.{marked-length, marked-at}
+use Rattle.sheet_score.specs.Score.{listed, report}
+use Rattle.demands.specs.Demands.{Exactly, Numbered, to-9, is-19}
+use Rattle.demands.specs.Lines.{Dashed, in-number, in-temperature, in-value, in-volume, RefusesLine}
+use Rattle.demands.specs.Twice.{noCylinder, at, Again, Twice, came, RefusesAt, lacks, is-again, alone, WeighsAt, markedBefore, reportBefore}
+use Rattle.demands.proofs.Lines.{dash-refused, line-refusals, line-answers}
+
+-- ---- 1: a field is blank, as it is written and as it is read
+
+module _ (c : Cylinder) where
+  is-dashed : lacking (lineOf c) ≡ true → Dashed c
+  unfolding lacking
+  is-dashed e = go (c .number) refl (c .temperature) refl (c .volume) refl (c .value) refl (c .kind) refl e
+    where
+      go : (n : Field) → c .number ≡ n → (t : Field) → c .temperature ≡ t → (v : Field) → c .volume ≡ v → (x : Field) → c .value ≡ x → (k : Kind) → c .kind ≡ k
+          → lacking (record { number = n; temperature = temperatureOf t; reading = readingOf k x; volume = v }) ≡ true → Dashed c
+      go Field.Blank p t q v r x s k u e = in-number p
+      go (Field.Number n) p Field.Blank q v r x s k u e = in-temperature q
+      go (Field.Number n) p (Field.Number t) q Field.Blank r x s k u e = in-volume r
+      go (Field.Number n) p (Field.Number t) q (Field.Number v) r Field.Blank s k u e = in-value s
+      go (Field.Number n) p (Field.Number t) q (Field.Number v) r (Field.Number x) s Kind.Pressure u e = absurd (true≢false (sym e))
+      go (Field.Number n) p (Field.Number t) q (Field.Number v) r (Field.Number x) s Kind.Density u e = absurd (true≢false (sym e))
+
+  -- one of four tests holds
+  second : (a b : Bool) → b ≡ true → a || b ≡ true
+  second true b e = refl
+  second false b e = e
+
+  lacks-one : Dashed c → lacking (lineOf c) ≡ true
+  unfolding lacking
+  lacks-one (in-number e) = rw e
+  lacks-one (in-temperature e) = rw e (second (noNumber (c .number)) _ refl)
+  lacks-one (in-volume e) =
+      rw e (second (noNumber (c .number)) _ (second (noTemperature (temperatureOf (c .temperature))) _ refl))
+  lacks-one (in-value e) =
+      rw e (second (noNumber (c .number)) _ (second (noTemperature (temperatureOf (c .temperature))) _ (second (noNumber (c .volume)) _ refl)))
+
+  lacks-none : (Dashed c → ⊥) → lacking (lineOf c) ≡ false
+  lacks-none h = go (lacking (lineOf c)) refl
+    where
+      go : (b : Bool) → lacking (lineOf c) ≡ b → b ≡ false
+      go true e = absurd (h (is-dashed e))
+      go false e = refl
+
+-- ---- 30: a line before it has its number
+
+pub line-at : (cs : List Cylinder) (i : ℕ) → getD (map lineOf cs) i blankLine ≡ lineOf (at cs i)
+line-at [] i = refl
+line-at (c ∷ cs) zero = refl
+line-at (c ∷ cs) (suc i) = line-at cs i
+
+-- a line that has a number is one of the sheet's
+on-sheet : (cs : List Cylinder) (i n : ℕ) → at cs i .number ≡ Field.Number n → i < length cs
+on-sheet [] i n e = let z : _≡_ {A = ℕ} 0 1 = cc in absurd (omega arith)
+on-sheet (c ∷ cs) zero n e = omega arith
+on-sheet (c ∷ cs) (suc i) n e = omega (arith, on-sheet cs i n e)
+
+module _ (cs : List Cylinder) (i : ℕ) where
+  abbrev above : List Line
+  above = take i (map lineOf cs)
+
+  above-at : (j : ℕ) → j < i → getD above j blankLine ≡ lineOf (at cs j)
+  above-at j h = getD-take i (map lineOf cs) j blankLine h ∙ line-at cs j
+
+  module _ (n : ℕ) (here : at cs i .number ≡ Field.Number n) where
+    on-again : isOn (numbers above) n ≡ true → Again cs i
+    on-again e =
+        let a = named blankLine above n e in
+        let h : a .place < i = omega (arith, a .within, length-take i (map lineOf cs)) in
+        record {
+          earlier = a .place;
+          cylinder = n;
+          before = h;
+          there = ap (λ (l : Line). l .number) (sym (above-at (a .place) h)) ∙ a .has;
+          here = here;
+        }
+
+    again-on : Again cs i → isOn (numbers above) n ≡ true
+    again-on a =
+        let same : a .cylinder ≡ n = cc in
+        let h = on-sheet cs (a .earlier) (a .cylinder) (a .there) in
+        is-named blankLine above n (a .earlier) (omega (arith, h, a .before, length-take i (map lineOf cs), length-map cs lineOf))
+        (ap (λ (l : Line). l .number) (above-at (a .earlier) (a .before)) ∙ a .there ∙ ap Field.Number same)
+
+  -- ---- so each line stands as its condition says
+
+  abbrev stands : Standing
+  stands = standing (numbers above) (lineOf (at cs i))
+
+  stands-lacking : Dashed (at cs i) → stands ≡ Standing.Lacking
+  unfolding standing
+  stands-lacking d = rw (lacks-one (at cs i) d)
+
+  -- none is blank, and so there is a number
+  by-number : (Dashed (at cs i) → ⊥) → (s : Standing)
+      → ((n : ℕ) → at cs i .number ≡ Field.Number n → cond (isOn (numbers above) n) Standing.Again Standing.Ready ≡ s) → stands ≡ s
+  unfolding standing
+  by-number h s f = rw (lacks-none (at cs i) h) (go (at cs i .number) refl)
+    where
+      go : (g : Field) → at cs i .number ≡ g → cond (isAgain (numbers above) g) Standing.Again Standing.Ready ≡ s
+      go Field.Blank e = absurd (h (in-number e))
+      go (Field.Number n) e = f n e
+
+  stands-again : (Dashed (at cs i) → ⊥) → Again cs i → stands ≡ Standing.Again
+  stands-again h a = by-number h Standing.Again (λ n e. rw (again-on n e a))
+
+  stands-ready : (Dashed (at cs i) → ⊥) → (Again cs i → ⊥) → stands ≡ Standing.Ready
+  stands-ready h a = by-number h Standing.Ready (λ n e. go n e (isOn (numbers above) n) refl)
+    where
+      go : (n : ℕ) → at cs i .number ≡ Field.Number n → (b : Bool) → isOn (numbers above) n ≡ b → cond b Standing.Again Standing.Ready ≡ Standing.Ready
+      go n e true p = absurd (a (on-again n e p))
+      go n e false p = refl
+
+  -- and it stands in one of the three ways
+  pub data Stands : Type 0 where
+    lacking-one : Dashed (at cs i) → Stands
+    standing-again : (Dashed (at cs i) → ⊥) → Again cs i → Stands
+    standing-ready : (Dashed (at cs i) → ⊥) → (Again cs i → ⊥) → Stands
+
+  pub how : Stands
+  how = by-lacking (lacking (lineOf (at cs i))) refl
+    where
+      not-dashed : lacking (lineOf (at cs i)) ≡ false → Dashed (at cs i) → ⊥
+      not-dashed e d = true≢false (sym (lacks-one (at cs i) d) ∙ e)
+
+      by-on : (Dashed (at cs i) → ⊥) → (n : ℕ) → at cs i .number ≡ Field.Number n → (b : Bool) → isOn (numbers above) n ≡ b → Stands
+      by-on h n e true p = standing-again h (on-again n e p)
+      by-on h n e false p = standing-ready h (λ a. true≢false (sym (again-on n e a) ∙ p))
+
+      by-field : (Dashed (at cs i) → ⊥) → (f : Field) → at cs i .number ≡ f → Stands
+      by-field h Field.Blank e = absurd (h (in-number e))
+      by-field h (Field.Number n) e = by-on h n e (isOn (numbers above) n) refl
+
+      by-lacking : (b : Bool) → lacking (lineOf (at cs i)) ≡ b → Stands
+      by-lacking true e = lacking-one (is-dashed (at cs i) e)
+      by-lacking false e = by-field (not-dashed e) (at cs i .number) refl
+
+-- ---- what came of it
+
+same-number : {m n : ℕ} → Weighed.Refused m ≡ Weighed.Refused n → m ≡ n
+same-number e = cc
+
+pub no-mass : {A : Type 0} {n mg : ℕ} → Weighed.Refused n ≡ Weighed.Mass mg → A
+no-mass e = let z : _≡_ {A = ℕ} 0 1 = cc in absurd (omega arith)
+
+abbrev pub noMark : Mark
+noMark = record { weighed = Weighed.Mass 0 }
+
+abbrev markAlone : Limits → Line → Mark
+markAlone L l = record { weighed = weighed L l }
+
+alone-at : (L : Limits) (cs : List Cylinder) (i : ℕ) → i < length cs → getD (markedBefore L (map lineOf cs)) i noMark .weighed ≡ weighed L (lineOf (at cs i))
+alone-at L [] i h = absurd (omega arith)
+alone-at L (c ∷ cs) zero h = refl
+alone-at L (c ∷ cs) (suc i) h = alone-at L cs i (le-of-suc-le-suc h)
+
+module _ (L : Limits) where
+  module _ (cs : List Cylinder) (i : ℕ) (h : i < length cs) where
+    came-as : came L cs i ≡ weighedAs L (stands cs i) (lineOf (at cs i))
+    unfolding weighedAfter
+    came-as =
+        ap (λ (m : Mark). m .weighed) (marked-at L (map lineOf cs) i _ blankLine (omega (arith, length-map cs lineOf)))
+        ∙ ap (weighedAfter L (numbers (above cs i))) (line-at cs i)
+
+    came-lacking : Dashed (at cs i) → came L cs i ≡ Weighed.Refused 1
+    came-lacking d = came-as ∙ rw (stands-lacking cs i d)
+
+    came-again : (Dashed (at cs i) → ⊥) → Again cs i → came L cs i ≡ Weighed.Refused 30
+    came-again d a = came-as ∙ rw (stands-again cs i d a)
+
+    came-ready : (Dashed (at cs i) → ⊥) → (Again cs i → ⊥) → came L cs i ≡ weighed L (lineOf (at cs i))
+    came-ready d a = came-as ∙ rw (stands-ready cs i d a)
+
+    refused-at : (n : ℕ) → came L cs i ≡ Weighed.Refused n → RefusesAt L cs i n
+    refused-at n e = go (how cs i)
+      where
+        go : Stands cs i → RefusesAt L cs i n
+        go (lacking-one d) = let z : 1 ≡ n = same-number (sym (came-lacking d) ∙ e) in subst (RefusesAt L cs i) z (lacks d)
+        go (standing-again d a) = let z : 30 ≡ n = same-number (sym (came-again d a) ∙ e) in subst (RefusesAt L cs i) z (is-again d a)
+        go (standing-ready d a) = alone d a (line-refusals L (at cs i) n .0 (sym (came-ready d a) ∙ e))
+
+    is-refused-at : {n : ℕ} → RefusesAt L cs i n → came L cs i ≡ Weighed.Refused n
+    is-refused-at (lacks d) = came-lacking d
+    is-refused-at (is-again d a) = came-again d a
+    is-refused-at (alone {n} d a r) = came-ready d a ∙ line-refusals L (at cs i) n .1 r
+
+    weighs-at : (mg : ℕ) → came L cs i ≡ Weighed.Mass mg → WeighsAt L cs i mg
+    weighs-at mg e = go (how cs i)
+      where
+        go : Stands cs i → WeighsAt L cs i mg
+        go (lacking-one d) = no-mass (sym (came-lacking d) ∙ e)
+        go (standing-again d a) = no-mass (sym (came-again d a) ∙ e)
+        go (standing-ready d a) = record { first = a; weighs = line-answers L (at cs i) mg .0 (sym (came-ready d a) ∙ e) }
+
+    is-weighed-at : {mg : ℕ} → WeighsAt L cs i mg → came L cs i ≡ Weighed.Mass mg
+    is-weighed-at {mg} w =
+        let e = line-answers L (at cs i) mg .1 (w .weighs) in
+        came-ready (λ d. no-mass (sym (dash-refused L (at cs i) d) ∙ e)) (w .first) ∙ e
+
+  -- EACH LINE'S REFUSAL, on its sheet, exactly under its condition, and its milligrams exactly as they are defined
+  pub refusals-at : (cs : List Cylinder) (i : ℕ) → i < length cs → (n : ℕ) → Exactly (came L cs i ≡ Weighed.Refused n) (RefusesAt L cs i n)
+  refusals-at cs i h n = (refused-at cs i h n, is-refused-at cs i h)
+
+  pub answers-at : (cs : List Cylinder) (i : ℕ) → i < length cs → (mg : ℕ) → Exactly (came L cs i ≡ Weighed.Mass mg) (WeighsAt L cs i mg)
+  answers-at cs i h mg = (weighs-at cs i h mg, is-weighed-at cs i h)
+
+  -- ---- some line of a sheet is refused
+
+  pub record SomeRefused (cs : List Cylinder) : Type 0 where
+    pub place : ℕ
+    pub number : ℕ
+    pub within : place < length cs
+    pub refused : came L cs place ≡ Weighed.Refused number
+
+  module _ (cs : List Cylinder) where
+    -- where one is by itself it is on its sheet, by the same number or another
+    pub some-alone : (i n : ℕ) → i < length cs → weighed L (lineOf (at cs i)) ≡ Weighed.Refused n → SomeRefused cs
+    some-alone i n h e = go (how cs i)
+      where
+        go : Stands cs i → SomeRefused cs
+        go (lacking-one d) = record { place = i; number = 1; within = h; refused = came-lacking cs i h d }
+        go (standing-again d a) = record { place = i; number = 30; within = h; refused = came-again cs i h d a }
+        go (standing-ready d a) = record { place = i; number = n; within = h; refused = came-ready cs i h d a ∙ e }
+
+    -- where a number stands twice, the later line is: by 30, or by 1 where a field of it is blank
+    pub some-twice : Twice cs → SomeRefused cs
+    some-twice t = go (how cs (t .place))
+      where
+        h : t .place < length cs
+        h = on-sheet cs (t .place) _ (t .again .here)
+
+        go : Stands cs (t .place) → SomeRefused cs
+        go (lacking-one d) = record { place = t .place; number = 1; within = h; refused = came-lacking cs (t .place) h d }
+        go (standing-again d a) = record { place = t .place; number = 30; within = h; refused = came-again cs (t .place) h d a }
+        go (standing-ready d a) = absurd (a (t .again))
+
+    -- ---- WHERE NO NUMBER STANDS TWICE each line's outcome is that of the line alone
+
+    pub came-alone : (Twice cs → ⊥) → (i : ℕ) → i < length cs → came L cs i ≡ weighed L (lineOf (at cs i))
+    came-alone once i h = go (how cs i)
+      where
+        go : Stands cs i → came L cs i ≡ weighed L (lineOf (at cs i))
+        go (lacking-one d) = came-lacking cs i h d ∙ sym (dash-refused L (at cs i) d)
+        go (standing-again d a) = absurd (once (record { place = i; again = a }))
+        go (standing-ready d a) = came-ready cs i h d a
+
+    pub marked-as-before : (Twice cs → ⊥) → marked L (map lineOf cs) ≡ markedBefore L (map lineOf cs)
+    marked-as-before once =
+        let n = length-map cs lineOf in
+        ext-getD noMark _ _ (marked-length L (map lineOf cs) ∙ sym (length-map (map lineOf cs) (markAlone L)))
+        (λ i h. let k : i < length cs = omega (arith, h, n, marked-length L (map lineOf cs)) in
+        ap (λ (w : Weighed). record { weighed = w }) (came-alone once i k ∙ sym (alone-at L cs i k)))
+
+  -- and the report is what it was
+  pub report-as-before : (o : Option Bank) → ((b : Bank) → o ≡ some b → Twice (b .cylinders) → ⊥) → report L o ≡ reportBefore L o
+  unfolding report
+  report-as-before none once = refl
+  report-as-before (some b) once =
+      ap (listed (admitted true (length (b .cylinders)) (b .need))) (marked-as-before (b .cylinders) (once b refl))
+
+  -- as it is, twice or not, where the sheet is sent back before its lines are worked
+  pub sent-back-as-before : (b : Bank) (n : ℕ) → admitted true (length (b .cylinders)) (b .need) ≡ Admitted.SentBack n
+      → report L (some b) ≡ reportBefore L (some b)
+  unfolding report
+  sent-back-as-before b n e = rw e

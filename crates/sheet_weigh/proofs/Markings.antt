@@ -29,7 +29,7 @@ module _ (L : Limits) where
   after-length : (before : List ℕ) (ls : List Line) → length (markedAfter L before ls) ≡ length ls
   unfolding markedAfter
   after-length before [] = refl
-  after-length before (l ∷ ls) = ap suc (after-length (before ++ numbers (l ∷ [])) ls)
+  after-length before (l ∷ ls) = ap suc (after-length _ ls)
 
   -- the numbers before a line, those of the first line among them
   one-before : (before : List ℕ) (l : Line) (ls : List Line) → (before ++ numbers (l ∷ [])) ++ numbers ls ≡ before ++ numbers (l ∷ ls)

@@ -107,14 +107,14 @@ def of_gauge(_number, temperature, kind, value, volume):
             "Weigh it, or warm it evenly to 40 to 45 C, minding its pressure, and read again.")
 
 
-def of_cylinder(line, reported):
-    """What stands under the report of one cylinder's line; `reported` is its line there."""
+def of_cylinder(line, reported, first):
+    """What stands under the report of one cylinder's line; `reported` is its line there, and `first` the place of the first line with its number."""
     number, temperature, kind, value, volume = line
     _, place, answered, n = reported.split(" ")
     reading = f"{of_sheet(value, 5)} bar" if kind == b"P" else f"{of_sheet(value, 3)} kg/m3"
     warnings = [] if b"-" in line else [of_gauge(*line)]
     if answered == "R":
-        outcome = f"refused by {n}. {WORDS[int(n)]}"
+        outcome = f"refused by {n}. {WORDS[int(n)]}" + (f" It stands in L {first}." if n == "30" else "")
     else:
         door, over = (doors.by_pressure, 1.0) if kind == b"P" else (doors.by_density, 1000.0)
         phase, eight, _count = door(kelvin(temperature), float(int(value)) / over)
@@ -127,7 +127,9 @@ def of_cylinder(line, reported):
 
 def of_cylinders(text):
     """Of each line that is reported what stands under it: first itself, then its warnings."""
-    return [of_cylinder(*both) for both in zip(re.findall(sheets.LINE, text), sheets.report(text).splitlines()[:-1])]
+    lines = re.findall(sheets.LINE, text)
+    numbers = [number for number, *_others in lines]
+    return [of_cylinder(line, reported, numbers.index(line[0]) + 1) for line, reported in zip(lines, sheets.report(text).splitlines()[:-1])]
 
 
 def warnings(text):

@@ -19,9 +19,12 @@ LINE = rb"C " + NUMBER + rb" " + NUMBER + rb" ([PD]) " + NUMBER + rb" " + NUMBER
 SHEET = re.compile(NEED + rb"(?:" + LINE + rb")*")
 
 
-def milligrams(number, temperature, kind, value, volume):
+def milligrams(number, temperature, kind, value, volume, before):
+    """Of a line, by the order of RULES 3.2; `before` has the cylinder numbers of the lines before it."""
     if b"-" in (number, temperature, value, volume):
         raise doors.Refusal(1)
+    if number in before:
+        raise doors.Refusal(30)
     if not 1 <= int(volume) <= 1000000:
         raise doors.Refusal(2)
     t = float(int(temperature)) / 10000.0
@@ -47,10 +50,12 @@ def report(text):
     need = re.match(NEED, text)[1]
     if need == b"-" or not 1 <= int(need) <= 9999999999:
         return sent_back(12)
+    # RULES 6.6: an earlier line counts by its number alone, which is written in one way only; a blank is not looked for
+    numbers = [number for number, *_others in lines]
     out, total, refused = "", 0, False
     for i, line in enumerate(lines, 1):
         try:
-            mg = milligrams(*line)
+            mg = milligrams(*line, before=numbers[:i - 1])
             total += mg
             out += f"L {i} M {mg}\n"
         except doors.Refusal as r:

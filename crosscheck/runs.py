@@ -76,9 +76,7 @@ LIQUID, VAPOUR = bank(5730000), bank(5728000)
 EXAMPLE = sheets.EXAMPLE
 README = b"N 120000000\nC 1 3131500 P 10600000 67500\nC 2 3151500 P 11200000 67500\nC 3 3146500 D 667000 67500\n"
 
-if OUT.exists():
-    shutil.rmtree(OUT)
-OUT.mkdir()
+OUT.mkdir(exist_ok=True)
 # the texts are compared byte for byte, CR included
 (OUT / ".gitattributes").write_text("* -text\n")
 

@@ -88,6 +88,10 @@ run("gauge_a_little_lower_explained", ["--explain", "bank.txt"], {"bank.txt": VA
 # 2 bar on each side: the vapour pressure at 20 C is 5,729,194.42 Pa
 EDGE = b"N 1\n" + b"".join(b"C %d 2931500 P %d 67500\n" % (i, p) for i, p in enumerate((5529194, 5529195, 5929194, 5929195), 1))
 run("gauge_two_bar_away", ["--explain", "edge.txt"], {"edge.txt": EDGE})
+# three cylinders, the third copied: they hold 156.6 kg, and with the copy it would be the 208.8 kg of four
+COPIED = LIQUID.replace(b"C ", b"C 2").replace(b"C 24 ", b"C 23 ")
+run("copied_line", ["bank.txt"], {"bank.txt": COPIED})
+run("copied_line_explained", ["--explain", "bank.txt"], {"bank.txt": COPIED})
 # the example of RULES 7.4, the sheet of README and two more
 run("example_of_the_rules", ["sheet.txt"], {"sheet.txt": EXAMPLE})
 run("example_of_the_rules_explained", ["--explain", "sheet.txt"], {"sheet.txt": EXAMPLE})
@@ -155,8 +159,8 @@ run("help", ["--help"], raw=(HELP, ""))
 run("help_by_a_letter", ["-h"], raw=(HELP, ""))
 run("help_behind_a_file", ["bank.txt", "--help"], {"bank.txt": SMALL}, raw=(HELP, ""))
 run("help_before_an_unknown_flag", ["--help", "--expain"], raw=(HELP, ""))
-run("version", ["--version"], raw=("makhroeng 1.4.0\n", ""))
-run("version_before_help", ["--version", "--help"], raw=("makhroeng 1.4.0\n", ""))
+run("version", ["--version"], raw=("makhroeng 1.5.0\n", ""))
+run("version_before_help", ["--version", "--help"], raw=("makhroeng 1.5.0\n", ""))
 THREE = {"bank.txt": SMALL, "dryer.txt": README}
 run("several_files_two_unread", ["bank.txt", "nosuch.txt", "sheets", "dryer.txt"], THREE, folder="sheets")
 run("several_files_two_unread_explained", ["bank.txt", "nosuch.txt", "sheets", "--explain", "dryer.txt"], THREE, folder="sheets")
@@ -173,7 +177,7 @@ run("warnings_where_another_line_is_refused", ["bank.txt"], {"bank.txt": DOUBTED
 run("full_disk_for_two_sheets", ["a.txt", "b.txt"], {"a.txt": EXAMPLE, "b.txt": EXAMPLE}, to="/dev/full", raw=("", "standard output: No space left on device\n"))
 run("two_dashes_twice", ["--", "--"])
 run("two_unknown_flags", ["--one", "--two"], raw=("", "--one: no such flag\n" + USAGE))
-run("version_before_an_unknown_flag", ["--version", "--two"], raw=("makhroeng 1.4.0\n", ""))
+run("version_before_an_unknown_flag", ["--version", "--two"], raw=("makhroeng 1.5.0\n", ""))
 run("a_word_too_long", ["a" * 5000, "sheet.txt"], {"sheet.txt": EXAMPLE}, raw=("== sheet.txt\n" + sheets.report(EXAMPLE), "FILE: File name too long\n"))
 # a sheet that comes in pieces: the first two lines, then the rest
 run("standard_input_in_pieces", [], stdin=LIQUID)

@@ -70,11 +70,14 @@ pub fn read(text: &[u8]) -> Option<Sheet> {
     Some(sheet)
 }
 
-/// A line's milligrams or its refusal (RULES 3.2, 6.4 and 6.5).
-pub fn weigh(line: &Line) -> Result<u64, u32> {
+/// A line's milligrams or its refusal, below the lines before it (RULES 3.2, 6.4, 6.5 and 6.6).
+pub fn weigh(line: &Line, before: &[Line]) -> Result<u64, u32> {
     let (Some(_), Some(temperature), Some(value), Some(volume)) = (line.number, line.temperature, line.value, line.volume) else {
         return Err(1);
     };
+    if before.iter().any(|earlier| earlier.number == line.number) {
+        return Err(30);
+    }
     if !(1..=1_000_000).contains(&volume) {
         return Err(2);
     }
@@ -107,7 +110,8 @@ pub fn score(text: &[u8]) -> Outcome {
         return Outcome::Alone(11);
     }
     let Some(need @ 1..=9_999_999_999) = sheet.need else { return Outcome::Alone(12) };
-    Outcome::Weighed { lines: sheet.lines.iter().map(weigh).collect(), need }
+    let lines = sheet.lines.iter().enumerate().map(|(i, line)| weigh(line, &sheet.lines[..i]));
+    Outcome::Weighed { lines: lines.collect(), need }
 }
 
 /// How a report ends (RULES 7.2).
@@ -180,6 +184,52 @@ mod tests {
         assert_eq!(reported(&format!("N -\n{}", good.repeat(32))), "SENT BACK 12\n");
         assert_eq!(reported("N 1\nC 1 2000000 P 5000000 0\n"), "L 1 R 2\nSENT BACK 13\n");
         assert_eq!(reported("N 1\nC 1 3000000 P 5000000 1000001\n"), "L 1 R 2\nSENT BACK 13\n");
+    }
+
+    #[test]
+    fn examples_of_the_rules() {
+        let text = "N 28\nC 1 3000000 D 290 100\n";
+        assert_eq!(reported(text), "L 1 M 28\nTOTAL 28 COVERED\n");
+        assert_eq!(reported(&format!("{text}C 2 3000000 D - 100\n")), "L 1 M 28\nL 2 R 1\nSENT BACK 13\n");
+        assert_eq!(reported(&format!("{text}C 1 3000000 D 290 100\n")), "L 1 M 28\nL 2 R 30\nSENT BACK 13\n");
+    }
+
+    /// What the lines of a sheet come to, each given by what stands behind its `C`; `good` is 700 g/m³ in 10 mL, which are 7 mg (RULES 6.5).
+    fn come_to(lines: &[&str]) -> Vec<Result<u64, u32>> {
+        let lines: String = lines.iter().map(|line| format!("C {}\n", line.replace("good", "3000000 D 700 10"))).collect();
+        match score(format!("N 1\n{lines}").as_bytes()) {
+            Outcome::Weighed { lines, .. } => lines,
+            Outcome::Alone(number) => panic!("sent back with {number}"),
+        }
+    }
+
+    #[test]
+    fn the_same_cylinder_twice() {
+        assert_eq!(come_to(&["7 good", "7 good", "8 good", "7 3000000 P 5000000 40000"]), [Ok(7), Err(30), Ok(7), Err(30)]);
+        // blanks are not the same number, and 0 is a number
+        assert_eq!(come_to(&["- good", "- good", "0 good", "0 good"]), [Err(1), Err(1), Ok(7), Err(30)]);
+        let blanks = [("7 - D 700 0", 1), ("7 3000000 P - 10", 1), ("7 3000000 D 700 -", 1)];
+        let out_of_range = [("7 2000000 D 700 0", 2), ("7 2000000 D 700 10", 4)];
+        // whatever came of the first
+        for (first, number) in blanks.into_iter().chain(out_of_range) {
+            assert_eq!(come_to(&[first, "7 good"]), [Err(number), Err(30)], "{first}");
+        }
+        // 1 comes before it, 2 and the door behind it
+        for (later, number) in blanks.into_iter().chain(out_of_range.map(|(later, _)| (later, 30))) {
+            assert_eq!(come_to(&["7 good", later]), [Ok(7), Err(number)], "{later}");
+        }
+        assert_eq!(reported("N -\nC 7 3000000 D 700 10\nC 7 3000000 D 700 10\n"), "SENT BACK 12\n");
+    }
+
+    #[test]
+    fn cylinders_that_are_not_the_same() {
+        let numbers = ["7", "70", "77", "263", "65543", "4294967303", "0", "10", "4294967296", "9999999999", "9999999998", "8999999999"];
+        let lines = numbers.map(|number| format!("{number} good"));
+        assert_eq!(come_to(&lines.each_ref().map(String::as_str)), [Ok(7); 12]);
+        let all: Vec<_> = (1..=31).map(|number| format!("{number} good")).chain(["1 good".to_string()]).collect();
+        let came = come_to(&all.iter().map(String::as_str).collect::<Vec<_>>());
+        assert_eq!(came.iter().position(|line| *line != Ok(7)), Some(31));
+        assert_eq!(came[31], Err(30));
     }
 
     #[test]

@@ -23,7 +23,7 @@ fn asked(rng: &mut Rng, kind: usize, index: u64) -> (u32, Vec<u64>) {
     match kind {
         1 => (index as u32 - 1, (0..=LONGEST).collect()),
         // the same by its lowest bits
-        2 => ((rng.between(1, 19) + (rng.between(1, (1 << 24) - 1) << 8)) as u32, some),
+        2 => ((rng.between(1, 30) + (rng.between(1, (1 << 24) - 1) << 8)) as u32, some),
         _ => (rng.bits() as u32, some),
     }
 }
@@ -53,7 +53,7 @@ fn case(seed: u64, index: u64, tally: &mut Tally) {
         }
     }
     if wrong.is_some() {
-        let of = right.as_ref().map_or("a number without words", |_| "a refusal");
+        let of = right.as_ref().map_or("a number without words".to_string(), |_| format!("refusal {number}"));
         tally.change(format!("makhroeng_words: other words, length or bytes, of {of}"));
     }
     let expected = right.as_deref().unwrap_or("").bytes().map(u64::from);

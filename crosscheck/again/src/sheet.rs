@@ -70,7 +70,7 @@ pub fn read(text: &[u8]) -> Option<Sheet> {
     Some(sheet)
 }
 
-/// A line's milligrams or its refusal, below the lines before it (RULES 3.2, 6.4, 6.5 and 6.6).
+/// A line's milligrams or its refusal, behind the lines that come before it (RULES 3.2, 6.4, 6.5 and 6.6).
 pub fn weigh(line: &Line, before: &[Line]) -> Result<u64, u32> {
     let (Some(_), Some(temperature), Some(value), Some(volume)) = (line.number, line.temperature, line.value, line.volume) else {
         return Err(1);

@@ -6,7 +6,7 @@ use crate::sheet::{score, Ending, Outcome};
 use crate::tally::{digest, run, Tally};
 use std::time::Duration;
 
-const KINDS: [&str; 13] = [
+const KINDS: [&str; 17] = [
     "good, 1 to 32 lines",
     "need is the total",
     "need is the total and one",
@@ -20,11 +20,15 @@ const KINDS: [&str; 13] = [
     "any bytes of the form's",
     "any bytes",
     "totals of 10 and 11 digits",
+    "a cylinder on several lines",
+    "the same, and refused besides",
+    "blank cylinders, and cylinder 0",
+    "cylinders nearly the same",
 ];
 /// Out of 100.
-const SHARES: [u64; 13] = [14, 8, 8, 12, 12, 8, 8, 6, 1, 15, 4, 3, 1];
+const SHARES: [u64; 17] = [14, 8, 8, 10, 10, 6, 6, 4, 1, 11, 3, 2, 1, 5, 5, 3, 3];
 /// The ending that is asked for, whether or not it fits; then what did not fit; then lines, answered and by refusal.
-const COLUMNS: [&str; 21] = [
+const COLUMNS: [&str; 22] = [
     "COVERED",
     "SHORT",
     "SB 10",
@@ -45,13 +49,17 @@ const COLUMNS: [&str; 21] = [
     "R 8",
     "R 9",
     "R 19",
+    "R 30",
     "L other",
 ];
 
-/// What stands on a sheet, as text; `-` is a blank.
+/// A cylinder's line, as text; `-` is a blank.
+type Fields = [String; 5];
+
+/// What stands on a sheet, likewise.
 struct Draft {
     need: String,
-    lines: Vec<[String; 5]>,
+    lines: Vec<Fields>,
 }
 
 impl Draft {
@@ -71,6 +79,12 @@ impl Draft {
         let line = &mut self.lines[rng.below(lines) as usize];
         &mut line[rng.pick(&[0usize, 1, 3, 4])]
     }
+
+    /// The cylinder number of any line.
+    fn any_cylinder(&mut self, rng: &mut Rng) -> &mut String {
+        let line = rng.below(self.lines.len() as u64);
+        &mut self.lines[line as usize][0]
+    }
 }
 
 /// A number with as many digits as one of 1 to `digits` has, each count alike.
@@ -84,7 +98,7 @@ fn number(rng: &mut Rng, digits: u64) -> u64 {
 }
 
 /// A line that a door will most likely answer.
-fn good_line(rng: &mut Rng) -> [String; 5] {
+fn good_line(rng: &mut Rng) -> Fields {
     let volume = match rng.below(4) {
         0 => rng.pick(&[1, 10, 1000, 40000, 67500, 1000000]),
         1 => rng.between(1, 1000000),
@@ -105,12 +119,12 @@ fn good_line(rng: &mut Rng) -> [String; 5] {
 }
 
 /// Cold liquid in a vessel of 800 to 1,000 litres: some 10⁹ mg.
-fn full_line(rng: &mut Rng) -> [String; 5] {
+fn full_line(rng: &mut Rng) -> Fields {
     let (temperature, density, volume) = (rng.between(2200000, 2227000), rng.between(1168000, 1195000), rng.between(800000, 1000000));
     [number(rng, 4).to_string(), temperature.to_string(), "D".to_string(), density.to_string(), volume.to_string()]
 }
 
-fn any_line(rng: &mut Rng) -> [String; 5] {
+fn any_line(rng: &mut Rng) -> Fields {
     let temperature = if rng.one_in(4) { rng.between(2160000, 5240000) } else { rng.between(2165920, 5230000) };
     let (kind, value) = if rng.one_in(2) { ("P", rng.between(1, 30100000)) } else { ("D", rng.between(1, 1310000)) };
     let volume = if rng.one_in(8) { rng.between(0, 1100000) } else { rng.between(1, 1000000) };
@@ -118,7 +132,7 @@ fn any_line(rng: &mut Rng) -> [String; 5] {
 }
 
 /// The first and last numbers of every range, and those beside them.
-fn edge_line(rng: &mut Rng) -> [String; 5] {
+fn edge_line(rng: &mut Rng) -> Fields {
     let beside = |rng: &mut Rng, of: &[u64]| {
         let edge = rng.pick(of);
         (edge + rng.below(3)).saturating_sub(1)
@@ -133,13 +147,97 @@ fn edge_line(rng: &mut Rng) -> [String; 5] {
     [number(rng, 10).to_string(), temperature.to_string(), if pressure { "P" } else { "D" }.to_string(), value.to_string(), volume.to_string()]
 }
 
-fn sheet(rng: &mut Rng, most: u64, line: fn(&mut Rng) -> [String; 5]) -> Draft {
+/// No cylinder stands on two of its lines: a number that was drawn before is drawn again.
+fn sheet(rng: &mut Rng, most: u64, line: fn(&mut Rng) -> Fields) -> Draft {
     let need = match rng.below(4) {
         0 => number(rng, 10).max(1),
         _ => rng.between(1, 100000000),
     };
-    let lines = if rng.one_in(4) { most } else { rng.between(1, most) };
-    Draft { need: need.to_string(), lines: (0..lines).map(|_| line(rng)).collect() }
+    let count = if rng.one_in(4) { most } else { rng.between(1, most) };
+    let mut lines: Vec<Fields> = Vec::new();
+    for _ in 0..count {
+        let mut new = line(rng);
+        while lines.iter().any(|earlier| earlier[0] == new[0]) {
+            new[0] = number(rng, 4).to_string();
+        }
+        lines.push(new);
+    }
+    Draft { need: need.to_string(), lines }
+}
+
+/// A line that is refused for what stands on it, by 1, by 2 or by its door. Its cylinder number stays.
+fn spoil(rng: &mut Rng, line: &mut Fields) {
+    let (field, wrong) = match rng.below(6) {
+        0 => (4, rng.pick(&["0", "1000001"])),
+        1 => (1, rng.pick(&["0", "2165919", "5230001"])),
+        2 => (3, "0"),
+        _ => (rng.pick(&[1, 3, 4]), "-"),
+    };
+    line[field] = wrong.to_string();
+}
+
+/// A sheet with a cylinder on several lines (RULES 6.6), or with several such: a line copied whole or its number alone, just behind the first, at
+/// the sheet's end or anywhere between. `spoilt`: the first, the later or both would be refused without it.
+fn repeated(rng: &mut Rng, line: fn(&mut Rng) -> Fields, spoilt: bool) -> Draft {
+    let times = rng.between(1, 3);
+    let mut draft = sheet(rng, 32 - times, line);
+    if rng.one_in(8) {
+        *draft.any_cylinder(rng) = "0".to_string();
+    }
+    for _ in 0..times {
+        let count = draft.lines.len() as u64;
+        let at = if rng.one_in(4) { 0 } else { rng.below(count) };
+        let to = match rng.below(3) {
+            0 => at + 1,
+            1 => count,
+            _ => rng.between(at + 1, count),
+        };
+        let first = &mut draft.lines[at as usize];
+        let mut later = if rng.one_in(2) { first.clone() } else { line(rng) };
+        later[0] = first[0].clone();
+        let which = if spoilt { rng.between(1, 3) } else { 0 };
+        if which & 1 == 1 {
+            spoil(rng, first);
+        }
+        if which & 2 == 2 {
+            spoil(rng, &mut later);
+        }
+        draft.lines.insert(to as usize, later);
+    }
+    if rng.one_in(8) {
+        let number = draft.lines[0][0].clone();
+        draft.lines.iter_mut().for_each(|line| line[0] = number.clone());
+    }
+    draft
+}
+
+/// Another number, which a careless comparison would take for this one.
+fn nearly(rng: &mut Rng, number: u64) -> u64 {
+    let like = match rng.below(5) {
+        0 => 10 * number + rng.below(10),
+        1 => number / 10,
+        2 => number + rng.between(1, 9) * 10u64.pow(rng.below(10) as u32),
+        3 => number + rng.between(1, 2) * (1 << rng.pick(&[8, 16, 31, 32])),
+        _ => number + 1,
+    };
+    like % 10_000_000_000
+}
+
+/// A good sheet on which each cylinder number is nearly that of an earlier line, and no two are the same.
+fn nearly_repeated(rng: &mut Rng) -> Draft {
+    let mut draft = sheet(rng, 32, good_line);
+    let mut numbers = vec![number(rng, 10)];
+    while numbers.len() < draft.lines.len() {
+        let earlier = rng.pick(&numbers);
+        let new = nearly(rng, earlier);
+        if !numbers.contains(&new) {
+            numbers.push(new);
+        }
+    }
+    for (line, number) in draft.lines.iter_mut().zip(numbers) {
+        line[0] = number.to_string();
+    }
+    draft
 }
 
 /// A good sheet whose need is the sum of its lines and so many more. Such a sheet may be one that has no sum, or one over 10 digits.
@@ -253,7 +351,26 @@ fn text_of(rng: &mut Rng, kind: usize) -> Vec<u8> {
         }
         10 => (0..rng.below(60)).map(|_| of_the_form(rng)).collect(),
         11 => (0..rng.below(200)).map(|_| rng.below(256) as u8).collect(),
-        _ => sheet(rng, 32, full_line).text(),
+        12 => sheet(rng, 32, full_line).text(),
+        13 => repeated(rng, good_line, false).text(),
+        14 => {
+            let line = rng.pick(&[good_line, any_line, edge_line]);
+            repeated(rng, line, true).text()
+        }
+        15 => {
+            let mut draft = repeated(rng, good_line, false);
+            for _ in 0..rng.between(2, 4) {
+                *draft.any_cylinder(rng) = "-".to_string();
+            }
+            if !rng.one_in(4) {
+                *draft.any_cylinder(rng) = "0".to_string();
+            }
+            if rng.one_in(8) {
+                draft.need = "-".to_string();
+            }
+            draft.text()
+        }
+        _ => nearly_repeated(rng).text(),
     }
 }
 
@@ -334,7 +451,8 @@ fn case(seed: u64, index: u64, tally: &mut Tally) {
                 Ok(_) => 9,
                 Err(number @ 1..=9) => 9 + *number as usize,
                 Err(19) => 19,
-                Err(_) => 20,
+                Err(30) => 20,
+                Err(_) => 21,
             };
             count[column] += 1;
         }

@@ -258,6 +258,7 @@ fn words_of(number: u32) -> Option<String> {
     let number = match number {
         6 | 8 if fault("words-of-6-and-8-exchanged") => 14 - number,
         16 if fault("words-of-15-for-16") => 15,
+        30 if fault("no-words-of-30") => 0,
         _ if fault("words-by-the-lowest-byte") => number % 256,
         _ => number,
     };
@@ -335,6 +336,74 @@ fn with_slips(report: Vec<u8>) -> Vec<u8> {
     })
 }
 
+/// Whether two lines are of one cylinder (RULES 6.6), or what a fault takes for it.
+fn same_cylinder(earlier: &sheet::Line, line: &sheet::Line) -> bool {
+    let (Some(a), Some(b)) = (earlier.number, line.number) else {
+        return fault("a-blank-as-cylinder-0") && line.number == Some(0);
+    };
+    if fault("cylinders-by-their-low-8-bits") {
+        a as u8 == b as u8
+    } else if fault("cylinders-by-their-low-32-bits") {
+        a as u32 == b as u32
+    } else if fault("cylinders-by-their-first-digits") {
+        a.to_string().starts_with(&b.to_string()) || b.to_string().starts_with(&a.to_string())
+    } else if fault("cylinders-by-their-whole-lines") {
+        let rest = |line: &sheet::Line| (line.temperature, line.kind, line.value, line.volume);
+        a == b && rest(earlier) == rest(line)
+    } else {
+        a == b && !(fault("cylinder-0-not-counted") && a == 0)
+    }
+}
+
+/// Whether a line's cylinder stands on an earlier line, likewise; `came` is what came of those.
+fn is_repeated(lines: &[sheet::Line], came: &[Result<u64, u32>]) -> bool {
+    let (line, behind) = (&lines[came.len()], &lines[came.len() + 1..]);
+    let mut before = lines.iter().zip(came).filter(|(earlier, _)| same_cylinder(earlier, line));
+    let again = || behind.iter().any(|later| same_cylinder(line, later));
+    if fault("30-by-the-line-just-before-alone") {
+        !came.is_empty() && same_cylinder(&lines[came.len() - 1], line)
+    } else if fault("30-not-by-the-first-line") {
+        came.len() > 1 && lines[1..came.len()].iter().any(|earlier| same_cylinder(earlier, line))
+    } else if fault("30-by-answered-lines-alone") {
+        before.any(|(_, came)| came.is_ok())
+    } else if fault("30-not-by-a-line-refused-by-1") {
+        before.any(|(_, came)| *came != Err(1))
+    } else if fault("third-line-of-a-cylinder-worked") {
+        before.count() == 1
+    } else if fault("first-line-of-a-cylinder-refused") {
+        again()
+    } else if fault("every-line-of-a-cylinder-refused") {
+        before.count() > 0 || again()
+    } else {
+        before.count() > 0
+    }
+}
+
+/// What the lines of a sheet come to (RULES 3.2), likewise.
+fn weighed(lines: &[sheet::Line]) -> Vec<Result<u64, u32>> {
+    let mut came = Vec::new();
+    for line in lines {
+        let blank = |line: &sheet::Line| line.number.is_none();
+        let new = match sheet::weigh(line, &[]) {
+            Err(1) if fault("two-blanks-as-one-cylinder") && blank(line) && lines[..came.len()].iter().any(blank) => Err(30),
+            Err(1) if !fault("30-before-1") => Err(1),
+            Err(2) if fault("30-behind-2") => Err(2),
+            Err(number) if fault("30-behind-the-door") => Err(number),
+            _ if is_repeated(lines, &came) => Err(30),
+            alone => alone,
+        };
+        came.push(new);
+    }
+    came
+}
+
+fn scored(text: &[u8]) -> sheet::Outcome {
+    match (sheet::score(text), sheet::read(text)) {
+        (sheet::Outcome::Weighed { need, .. }, Some(sheet)) => sheet::Outcome::Weighed { lines: weighed(&sheet.lines), need },
+        (alone, _) => alone,
+    }
+}
+
 /// # Safety
 /// `text` has `text_len` bytes and `out` has `out_len`.
 #[no_mangle]
@@ -343,7 +412,10 @@ pub unsafe extern "C" fn makhroeng_report(text: *const u8, text_len: usize, out:
     if fault("reads-past-the-text") {
         text = std::slice::from_raw_parts(text.as_ptr(), text_len + 1);
     }
-    let mut report = sheet::score(text).report();
+    let mut report = scored(text).report();
+    if fault("sent-back-with-30-alone") && report.windows(6).any(|part| part == b" R 30\n") {
+        report = b"SENT BACK 30\n".to_vec();
+    }
     if fault("65,537-bytes-taken") && text_len == 65537 && report == b"SENT BACK 14\n" {
         report = b"SENT BACK 11\n".to_vec();
     }

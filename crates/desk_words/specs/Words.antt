@@ -45,34 +45,12 @@ all =
     ∷ ascii "The text is not in the form. scorer --help shows a whole sheet, and --explain where this one stops being in it."
     -- 15
     ∷ ascii "Fewer figures or bytes were lent than the answer has. Lend eight figures for a state, three for saturation, 1,512 bytes for a report."
-    -- 16
-    ∷ []
-    -- 17
-    ∷ []
-    -- 18
-    ∷ []
+    -- 16 to 18
+    ∷ [] ∷ [] ∷ []
     -- 19
     ∷ ascii "Solid: dry ice and no agent that flows. Check the thermometer and the gauge, or warm the cylinder above -50 C and read again."
-    -- 20
-    ∷ []
-    -- 21
-    ∷ []
-    -- 22
-    ∷ []
-    -- 23
-    ∷ []
-    -- 24
-    ∷ []
-    -- 25
-    ∷ []
-    -- 26
-    ∷ []
-    -- 27
-    ∷ []
-    -- 28
-    ∷ []
-    -- 29
-    ∷ []
+    -- 20 to 29
+    ∷ [] ∷ [] ∷ [] ∷ [] ∷ [] ∷ [] ∷ [] ∷ [] ∷ [] ∷ []
     -- 30
     ∷ ascii "The cylinder is already on the sheet. Take the line out if it was copied, or read its number at the cylinder again."
     ∷ []

@@ -76,20 +76,9 @@ pub fn put_words(number: u32, out: &mut [u8]) -> usize
             Some line was refused, so there is no verdict. See to that line and score again.\n\
             The text is not in the form. scorer --help shows a whole sheet, and --explain where this one stops being in it.\n\
             Fewer figures or bytes were lent than the answer has. Lend eight figures for a state, three for saturation, 1,512 bytes for a report.\n\
-            \n\
-            \n\
-            \n\
+            \n\n\n\
             Solid: dry ice and no agent that flows. Check the thermometer and the gauge, or warm the cylinder above -50 C and read again.\n\
-            \n\
-            \n\
-            \n\
-            \n\
-            \n\
-            \n\
-            \n\
-            \n\
-            \n\
-            \n\
+            \n\n\n\n\n\n\n\n\n\n\
             The cylinder is already on the sheet. Take the line out if it was copied, or read its number at the cylinder again.\n",
         number,
         out,

@@ -1,7 +1,9 @@
 // RULES 14.3: the explanation of a sheet, and its warnings by themselves. What a sheet comes to is worked again from its
 // text, by the functions that the report is made with.
+ghost use mathlib.Core.Path.{_≡_};
 ghost use Prim.Native.Nat.{_≤_, _<_};
 ghost use lib.ListN.{length};
+ghost use Rattle.desk_explain.specs.Explain.{markAt, firstOf};
 use desk_lines::say_line;
 use desk_lines::say_warnings;
 use desk_look::gauge::Gauge;
@@ -23,19 +25,46 @@ use sheet_line::cylinder::read_cylinder;
 use sheet_line::line::LineAt;
 use sheet_line::line::read_line;
 use sheet_outcome::Ending;
+use sheet_outcome::Marks;
+use sheet_outcome::Weighed;
+use sheet_read::Sheet;
 use sheet_read::read_sheet;
+use sheet_standing::first_with;
 use sheet_text::Field;
 use sheet_text::FieldAt;
 use sheet_text::read_field_after;
 use sheet_weigh::weigh_sheet;
 
-// A cylinder line at a place, the i-th, and its warnings; each warning after the name.
+// What came of the line after i others.
+fn mark_at(m: Marks, i: usize) -> Weighed
+    ensures { λ r. ⌜ r ≡ markAt m i ⌝ }
+{
+    if i < 32 {
+        let mark = m.marks[i];
+        return mark.weighed;
+    }
+    Weighed::Refused(0)
+}
+
+// The first line that has the cylinder number; a blank is none.
+fn first_of(sheet: Sheet, number: Field) -> usize
+    ensures { λ r. ⌜ r ≡ firstOf sheet number ⌝ }
+{
+    match number {
+        Field::Blank => 0,
+        Field::Number(n) => first_with(sheet, n),
+    }
+}
+
+// A cylinder line at a place, the i-th of the sheet, of which w came, and its warnings; each warning after the name.
 fn say_cylinder(
     p: Paper,
     limits: Limits,
     s: &[u8],
     at: usize,
     i: usize,
+    sheet: Sheet,
+    w: Weighed,
     name: &[u8],
     explained: bool,
 ) -> Paper {
@@ -45,9 +74,15 @@ fn say_cylinder(
     let LineAt::Found(l, _) = read_line(s, at) else {
         return p;
     };
-    let k = look_at(limits, l);
+    let number = c.number;
+    let k = look_at(limits, w, l);
     let g = gauge_of(limits, l);
-    let a = if explained { say_line(p, i, c, k) } else { p };
+    let first = first_of(sheet, number);
+    let a = if explained {
+        say_line(p, i, c, k, first)
+    } else {
+        p
+    };
     say_warnings(a, name, i, c, k, g)
 }
 
@@ -62,7 +97,16 @@ fn line_after(s: &[u8], at: usize) -> usize
     next
 }
 
-fn say_cylinders(p: Paper, limits: Limits, s: &[u8], name: &[u8], explained: bool) -> Paper {
+// One after the other, each with the mark that the report has of it.
+fn say_cylinders(
+    p: Paper,
+    limits: Limits,
+    s: &[u8],
+    sheet: Sheet,
+    marks: Marks,
+    name: &[u8],
+    explained: bool,
+) -> Paper {
     let FieldAt::Found(_, from) = read_field_after(s, 0, b'N', b'\n') else {
         return p;
     };
@@ -70,7 +114,8 @@ fn say_cylinders(p: Paper, limits: Limits, s: &[u8], name: &[u8], explained: boo
     let mut at = from;
     let mut i: usize = 1;
     while at < s.len() {
-        out = say_cylinder(out, limits, s, at, i, name, explained);
+        let w = mark_at(marks, i - 1);
+        out = say_cylinder(out, limits, s, at, i, sheet, w, name, explained);
         at = line_after(s, at);
         i += 1;
     }
@@ -172,9 +217,10 @@ fn explain_by(p: Paper, limits: Limits, s: &[u8], name: &[u8], explained: bool) 
     let sheet = r.sheet;
     let need = sheet.need;
     let o = weigh_sheet(limits, r);
+    let marks = o.marks;
     let ending = o.ending;
     let a = if has_lines(ending) {
-        say_cylinders(p, limits, s, name, explained)
+        say_cylinders(p, limits, s, sheet, marks, name, explained)
     } else {
         p
     };

@@ -9,7 +9,7 @@ use desk_paper::paper::say;
 use desk_paper::paper::say_figure;
 use desk_paper::paper::say_mass;
 use desk_paper::paper::say_number;
-use desk_paper::paper::say_refusal;
+use desk_paper::paper::say_refused;
 use desk_paper::paper::say_shown;
 use desk_units::bar;
 use desk_units::celsius;
@@ -93,12 +93,24 @@ fn say_held(p: Paper, h: Held) -> Paper {
     say(c, b"\n")
 }
 
-pub fn say_line(p: Paper, i: usize, c: Cylinder, k: Look) -> Paper {
+// Behind the words of 30, the first line that has the cylinder's number.
+fn say_first(p: Paper, n: u8, first: usize) -> Paper {
+    if n == 30 {
+        return say(say_number(say(p, b" It stands in L "), first as u64), b".");
+    }
+    p
+}
+
+// With the first line that has its number, which is said where it is refused by 30.
+pub fn say_line(p: Paper, i: usize, c: Cylinder, k: Look, first: usize) -> Paper {
     let number = c.number;
     let a = say_read(say_place(p, i, number), c);
     match k {
         Look::Mass(h) => say_held(a, h),
-        Look::Refused(n) => say_refusal(say(a, b"refused by "), n),
+        Look::Refused(n) => {
+            let b = say_refused(say(a, b"refused by "), n);
+            say(say_first(b, n, first), b"\n")
+        }
     }
 }
 

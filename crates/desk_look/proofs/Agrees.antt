@@ -2,6 +2,7 @@
 use Prim.Native.Nat.{ℕ}
 use mathlib.Core.Path.{_≡_, refl}
 use mathlib.Core.Bool.{Bool, true, false, cond}
+use mathlib.Core.List.{List}
 use Rattle.eos_state.specs.declared.State.{State}
 use Rattle.equation.specs.Equation.{of1996}
 use Rattle.door_limits.specs.declared.Limits.{Limits}
@@ -13,7 +14,9 @@ use Rattle.sheet_line.specs.declared.line.Temperature.{Temperature}
 use Rattle.sheet_line.specs.declared.line.Reading.{Reading}
 use Rattle.sheet_line.specs.declared.line.Line.{Line}
 use Rattle.sheet_outcome.specs.declared.Weighed.{Weighed}
-use Rattle.sheet_weigh.specs.Weighing.{isVolume, milligrams, byAnswer, filled, byReading, ifNumber, weighed}
+use Rattle.sheet_standing.specs.Standing.{standing}
+use Rattle.sheet_standing.specs.declared.Standing.{Standing}
+use Rattle.sheet_weigh.specs.Weighing.{isVolume, milligrams, byAnswer, filled, byReading, ifNumber, weighed, weighedAs, weighedAfter}
 use Rattle.desk_look.specs.Held.{answered, looked, look}
 use Rattle.desk_look.specs.declared.held.Look.{Look}
 
@@ -47,7 +50,13 @@ module _ (L : Limits) where
   of-fields (Field.Number n) Field.Blank k r = refl
   of-fields (Field.Number n) (Field.Number v) k r = of-reading v k r
 
-  -- THE EXPLANATION OF A LINE IS THAT OF ITS REPORT
-  pub same-as-report : (l : Line) → weighs (look L l) ≡ weighed L l
+  of-standing : (s : Standing) (l : Line) → weighs (look L (weighedAs L s l) l) ≡ weighedAs L s l
   unfolding look weighed
-  same-as-report l = of-fields (l .number) (l .volume) (l .temperature) (l .reading)
+  of-standing Standing.Lacking l = refl
+  of-standing Standing.Again l = refl
+  of-standing Standing.Ready l = of-fields (l .number) (l .volume) (l .temperature) (l .reading)
+
+  -- THE EXPLANATION OF A LINE IS THAT OF ITS REPORT
+  pub same-as-report : (before : List ℕ) (l : Line) → weighs (look L (weighedAfter L before l) l) ≡ weighedAfter L before l
+  unfolding weighedAfter
+  same-as-report before l = of-standing (standing before l) l

@@ -13,7 +13,6 @@ use Rattle.sheet_line.specs.declared.line.Temperature.{Temperature}
 use Rattle.sheet_line.specs.declared.line.Reading.{Reading}
 use Rattle.sheet_line.specs.declared.line.Line.{Line}
 use Rattle.sheet_outcome.specs.declared.Weighed.{Weighed}
-use Rattle.sheet_weigh.specs.Weighing.{weighed}
 use Rattle.desk_look.specs.declared.held.Look.{Look}
 use Rattle.desk_look.specs.declared.held.Margin.{Margin}
 
@@ -33,8 +32,9 @@ abbrev pub looked : Weighed → Answer → Look
 looked (Weighed.Mass mg) a = held mg a
 looked (Weighed.Refused n) a = Look.Refused n
 
-unfoldable pub look : Limits → Line → Look
-look L l = looked (weighed L l) (answered L (l .temperature) (l .reading))
+-- what was weighed is handed in: it hangs on the lines before too
+unfoldable pub look : Limits → Weighed → Line → Look
+look L w l = looked w (answered L (l .temperature) (l .reading))
 
 -- above 750 kg/m³, more than a cylinder is filled with
 abbrev pub heavy : Look → Bool

@@ -11,7 +11,6 @@ use sheet_line::line::Line;
 use sheet_line::line::Reading;
 use sheet_line::line::Temperature;
 use sheet_outcome::Weighed;
-use sheet_weigh::weigh;
 
 // In mg and kg/m³.
 pub struct Held {
@@ -61,12 +60,13 @@ fn held_with(mg: u64, a: Answer) -> Look
     }
 }
 
-pub fn look_at(limits: Limits, l: Line) -> Look
-    ensures { λ r. ⌜ r ≡ look limits l ⌝ }
+// What came of the line decides; its milligrams are told with the state that they are of.
+pub fn look_at(limits: Limits, w: Weighed, l: Line) -> Look
+    ensures { λ r. ⌜ r ≡ look limits w l ⌝ }
 {
     let temperature = l.temperature;
     let reading = l.reading;
-    match weigh(limits, l) {
+    match w {
         Weighed::Mass(mg) => held_with(mg, answer_to(limits, temperature, reading)),
         Weighed::Refused(n) => Look::Refused(n),
     }

@@ -57,12 +57,16 @@ pub fn say_mass(p: Paper, mg: Below) -> Paper {
     }
 }
 
-// RULES 14.1: the number of a refusal and its words, with the line's end.
-pub fn say_refusal(p: Paper, n: u8) -> Paper {
+// RULES 14.1: the number of a refusal and its words.
+pub fn say_refused(p: Paper, n: u8) -> Paper {
     let mut space = [0; 512];
     let long = put_words(n as u32, &mut space);
     let a = say_number(p, n as u64);
     let b = say(a, b". ");
-    let c = say(b, &space[..long]);
-    say(c, b"\n")
+    say(b, &space[..long])
+}
+
+// With the line's end.
+pub fn say_refusal(p: Paper, n: u8) -> Paper {
+    say(say_refused(p, n), b"\n")
 }

@@ -1,3 +1,4 @@
+pub mod Firsts
 pub mod Standings
 pub mod Named
 pub mod Unique

@@ -1,5 +1,5 @@
 -- RULES 3.2 and 6.6: how a line stands before it is worked, by its own fields, and by the cylinder numbers of the lines before it. Definitions only.
-use Prim.Native.Nat.{ℕ}
+use Prim.Native.Nat.{ℕ, _+_}
 use mathlib.Core.Bool.{Bool, true, false, cond, _||_}
 use mathlib.Core.List.{List, [], _∷_}
 use lib.Dec.{eqb}
@@ -51,3 +51,9 @@ numbers (l ∷ ls) = onto (l .number) (numbers ls)
 
 unfoldable pub standing : List ℕ → Line → Standing
 standing before l = cond (lacking l) Standing.Lacking (cond (isAgain before (l .number)) Standing.Again Standing.Ready)
+
+-- ---- RULES 14.3: the place of the first line that has a number, where i is that of the first of all; 0 where none has
+
+unfoldable pub firstWith : ℕ → List Line → ℕ → ℕ
+firstWith i [] n = 0
+firstWith i (l ∷ ls) n = cond (isOn (numbers (l ∷ [])) n) i (firstWith (i + 1) ls n)

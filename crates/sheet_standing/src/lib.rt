@@ -1,10 +1,12 @@
 // RULES 3.2 and 6.6: how a line stands before it is worked: a field of it is blank, which is 1; or a line before it has its
-// cylinder number, which is 30; or it is ready.
+// cylinder number, which is 30; or it is ready. And the first line that has a number (RULES 14.3).
 ghost use mathlib.Core.Path.{_≡_};
-ghost use Rattle.sheet_standing.specs.Standing.{lacking, isOn, isAgain, standing};
+ghost use mathlib.Core.List.{[], _∷_};
+ghost use Rattle.sheet_standing.specs.Standing.{lacking, isOn, isAgain, numbers, standing, firstWith};
 use sheet_line::line::Line;
 use sheet_line::line::Reading;
 use sheet_line::line::Temperature;
+use sheet_read::Sheet;
 use sheet_text::Field;
 
 pub enum Standing {
@@ -71,4 +73,29 @@ pub fn standing_of(numbers: &[u64], l: Line) -> Standing
         return Standing::Again;
     }
     Standing::Ready
+}
+
+fn has_number(l: Line, n: u64) -> bool
+    ensures { λ r. ⌜ r ≡ isOn (numbers (l ∷ [])) n ⌝ }
+{
+    let number = l.number;
+    match number {
+        Field::Blank => false,
+        Field::Number(m) => m == n,
+    }
+}
+
+// The first line that has the number, by its place, that of the first of all being 1; 0 where none has it.
+pub fn first_with(s: Sheet, n: u64) -> usize
+    ensures { λ r. ⌜ r ≡ firstWith 1 (s .lines) n ⌝ }
+{
+    let mut i: usize = 1;
+    while i <= 32 {
+        let l = s.lines[i - 1];
+        if has_number(l, n) {
+            return i;
+        }
+        i += 1;
+    }
+    0
 }

@@ -7,16 +7,16 @@ use Rattle.desk_explain.proofs.say_cylinders.Statement.{statement}
 use Rattle.desk_explain.proofs.say_cylinders.Tie as tie
 
 abbrev Inv-loop : tie.InvT-loop
-Inv-loop limits s name explained from out₀ at₀ i₀ out at i = (i ≤ at) × (at ≤ length s)
+Inv-loop limits s sheet marks name explained from out₀ at₀ i₀ out at i = (1 ≤ i) × (i ≤ at) × (at ≤ length s)
 
 abbrev μ-loop : tie.MeasureT-loop
-μ-loop limits s name explained from out₀ at₀ i₀ out at i = length s - at
+μ-loop limits s sheet marks name explained from out₀ at₀ i₀ out at i = length s - at
 
 loop-holds : tie.Need-loop-holds Inv-loop μ-loop
 loop-holds c =
     let k = c .before in
     let e = rw (k .from .given .1) at (k .before .before .read-field-after .ensures) in
-    (omega (arith, e .1), e .2)
+    (omega arith, omega (arith, e .1), e .2)
 
 pub say-cylinders-spec : {M : Type 1} → statement M
 say-cylinders-spec =
@@ -29,6 +29,8 @@ say-cylinders-spec =
     (λ c. search needs)
     (λ c. search needs)
     loop-holds
+    (λ c. search needs)
+    (λ c κs. search needs)
     (λ c κs. search needs)
     (λ c κs. search needs)
     (λ c. search needs)

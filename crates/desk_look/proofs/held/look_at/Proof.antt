@@ -1,5 +1,5 @@
--- What the line weighs decides, and its door's state is had with it. Assumes nothing.
-use mathlib.Core.Path.{refl, sym, _∙_}
+-- What came of the line decides, and its door's state is had with its milligrams. Assumes nothing.
+use mathlib.Core.Path.{refl}
 use Rattle.desk_look.specs.Held.{look}
 use borrow.Author.Needs.{needs}
 use Rattle.desk_look.proofs.held.look_at.Statement.{statement}
@@ -9,18 +9,16 @@ returns : tie.Need-returns
 unfolding look
 returns c =
     let a = c .before in
-    let m = a .before .before in
-    rw (sym (m .before .before .weigh .ensures) ∙ m .mg .given .1, ← a .answer-to .ensures) (c .held-with .ensures)
+    rw (a .before .before .w .given .1, ← a .answer-to .ensures) (c .held-with .ensures)
 
 returns-2 : tie.Need-returns-2
 unfolding look
-returns-2 c = let n = c .before in rw (sym (n .before .before .weigh .ensures) ∙ n .n .given .1) refl
+returns-2 c = rw (c .before .w2 .given .1) refl
 
 pub look-at-spec : {M : Type 1} → statement M
 look-at-spec =
     tie.close
     (tie.spec
-    (λ c κs. search needs)
     (λ c. search needs)
     (λ c κs. search needs)
     (λ c κs. search needs)

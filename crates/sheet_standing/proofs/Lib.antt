@@ -1,4 +1,4 @@
-pub mod Firsts
 pub mod Standings
 pub mod Named
+pub mod Firsts
 pub mod Unique

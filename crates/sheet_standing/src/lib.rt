@@ -79,10 +79,10 @@ fn has_number(l: Line, n: u64) -> bool
     ensures { λ r. ⌜ r ≡ isOn (numbers (l ∷ [])) n ⌝ }
 {
     let number = l.number;
-    match number {
-        Field::Blank => false,
-        Field::Number(m) => m == n,
-    }
+    let Field::Number(m) = number else {
+        return false;
+    };
+    m == n
 }
 
 // The first line that has the number, by its place, that of the first of all being 1; 0 where none has it.

@@ -1,6 +1,7 @@
 -- One field after the other, and no number of it is looked at. Assumes nothing.
+use mathlib.Core.Path.{_≡_, refl}
 use borrow.Author.Needs.{needs}
-use Rattle.sheet_standing.specs.Standing.{lacking}
+use Rattle.sheet_standing.specs.Standing.{noReading, lacking}
 use Rattle.sheet_standing.proofs.is_lacking.Statement.{statement}
 use Rattle.sheet_standing.proofs.is_lacking.Tie as tie
 
@@ -18,26 +19,21 @@ returns-3 c =
     let t = c .before .before in
     rw (t .before .before .enum-told .given .1, t .enum-told3 .given .1, c .enum-told6 .given .1)
 
-returns-4 : tie.Need-returns-4
+-- three are there, and the value decides
+by-value : (c : tie.After-enum-told5) → (let l = c .before .before .before .before .before .before .args .l in lacking l ≡ noReading (l .reading))
 unfolding lacking
-returns-4 c =
-    let v = c .before .before in
-    let t = v .before .before in
-    rw (t .before .before .enum-told .given .1, t .enum-told3 .given .1, v .enum-told5 .given .1, c .enum-told7 .given .1)
+by-value c =
+    let t = c .before .before in
+    rw (t .before .before .enum-told .given .1, t .enum-told3 .given .1, c .enum-told5 .given .1) refl
+
+returns-4 : tie.Need-returns-4
+returns-4 c = rw (by-value (c .before .before), c .enum-told7 .given .1)
 
 returns-5 : tie.Need-returns-5
-unfolding lacking
-returns-5 c =
-    let v = c .before .before in
-    let t = v .before .before in
-    rw (t .before .before .enum-told .given .1, t .enum-told3 .given .1, v .enum-told5 .given .1, c .enum-told8 .given .1)
+returns-5 c = rw (by-value (c .before .before), c .enum-told8 .given .1)
 
 returns-6 : tie.Need-returns-6
-unfolding lacking
-returns-6 c =
-    let v = c .before .before in
-    let t = v .before .before in
-    rw (t .before .before .enum-told .given .1, t .enum-told3 .given .1, v .enum-told5 .given .1, c .enum-told9 .given .1)
+returns-6 c = rw (by-value (c .before .before), c .enum-told9 .given .1)
 
 pub is-lacking-spec : {M : Type 1} → statement M
 is-lacking-spec =

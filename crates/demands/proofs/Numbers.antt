@@ -1,14 +1,17 @@
 -- The number of a line's refusal: from 1 to 9, or 19; on its sheet also 30, and that only of a number that stands there twice. Assumes nothing.
 use Prim.Native.Nat.{ℕ, _<_}
 use mathlib.Core.Path.{_≡_, refl, subst}
-use mathlib.Core.List.{List}
+use mathlib.Core.List.{List, map}
 use native.Mathlib.Omega.{arith}
 use lib.ListN.{length}
 use lib.Ieee.{Float, binary64, div}
 use Rattle.num_working.specs.Number.{whole}
 use Rattle.sheet_text.specs.declared.Field.{Field}
+use Rattle.sheet_line.specs.Line.{lineOf}
 use Rattle.sheet_line.specs.declared.cylinder.Kind.{Kind}
 use Rattle.sheet_line.specs.declared.cylinder.Cylinder.{Cylinder}
+use Rattle.sheet_standing.specs.Standing.{firstWith}
+use Rattle.sheet_standing.proofs.Firsts.{First, first-of-again}
 use Rattle.door_limits.specs.declared.Limits.{Limits}
 use Rattle.door_answers.specs.declared.Answer.{Answer}
 use Rattle.sheet_outcome.specs.declared.Weighed.{Weighed}
@@ -17,7 +20,7 @@ use Rattle.demands.specs.Lines as lines
 use Rattle.demands.specs.Lines.{Dashed, Asked, by-pressure, by-density, RefusesLine, no-volume, by-door, no-product}
 use Rattle.demands.specs.Twice.{at, Again, came, RefusesAt, lacks, is-again, alone, NumberedAt, as-alone, is-30}
 use Rattle.demands.proofs.Demands.{pressure-settles, density-settles}
-use Rattle.demands.proofs.Twice.{refusals-at}
+use Rattle.demands.proofs.Twice.{stands-again, refusals-at}
 
 -- ---- of the line alone
 
@@ -60,3 +63,10 @@ refused-by-30 L cs i h = (λ e. go 30 refl (refusals-at L cs i h 30 .0 e), λ p.
     go n e (lacks d) = absurd (omega (arith, e))
     go n e (is-again d a) = (d, a)
     go n e (alone d a r) = absurd (not-30 (line-number r) e)
+
+-- and then the line that is named first has that number, stands before it, and none before that one has the number
+pub first-named : (L : Limits) (cs : List Cylinder) (i : ℕ) → i < length cs → came L cs i ≡ Weighed.Refused 30
+    → (n : ℕ) × (at cs i .number ≡ Field.Number n) × First (map lineOf cs) i n (firstWith 1 (map lineOf cs) n)
+first-named L cs i h e =
+    let p = refused-by-30 L cs i h .0 e in
+    first-of-again (map lineOf cs) i (lineOf (at cs i)) (stands-again cs i (p .0) (p .1))

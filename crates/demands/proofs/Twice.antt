@@ -127,7 +127,7 @@ module _ (cs : List Cylinder) (i : ℕ) where
       go Field.Blank e = absurd (h (in-number e))
       go (Field.Number n) e = f n e
 
-  stands-again : (Dashed (at cs i) → ⊥) → Again cs i → stands ≡ Standing.Again
+  pub stands-again : (Dashed (at cs i) → ⊥) → Again cs i → stands ≡ Standing.Again
   stands-again h a = by-number h Standing.Again (λ n e. rw (again-on n e a))
 
   stands-ready : (Dashed (at cs i) → ⊥) → (Again cs i → ⊥) → stands ≡ Standing.Ready

@@ -20,10 +20,10 @@ use Rattle.sheet_outcome.specs.declared.Ending.{Ending}
 use Rattle.sheet_report.proofs.Reports.{between-length, number-of, line-size}
 use Rattle.sheet_score.specs.Score.{report}
 use Rattle.demands.specs.Demands.{Numbered, to-9, is-19}
-use Rattle.demands.specs.Twice.{came, NumberedAt, as-alone, is-30}
+use Rattle.demands.specs.Twice.{noMark, came, NumberedAt, as-alone, is-30}
 use Rattle.demands.specs.Sheets as sheets
 use Rattle.demands.specs.Sheets.{sum, AllWeighed, Lined, Reported, not-in-form, no-lines, many-lines, no-need, one-refused, named-twice, covered, short}
-use Rattle.demands.proofs.Twice.{noMark, refusals-at}
+use Rattle.demands.proofs.Twice.{refusals-at}
 use Rattle.demands.proofs.Numbers.{number-at}
 use Rattle.demands.proofs.Sheets.{reported, largest-total}
 

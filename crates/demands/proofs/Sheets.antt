@@ -1,7 +1,7 @@
 -- A sheet: its report, for every byte string, and every byte of the lent output. Assumes nothing.
 use Prim.Native.Nat.{ℕ, zero, suc, _+_, _-_, _*_, _^_, _≤_, _<_}
 use mathlib.Core.Path.{_≡_, refl, sym, ap, subst, _∙_}
-use mathlib.Core.Bool.{Bool, true, false, cond}
+use mathlib.Core.Bool.{true}
 use mathlib.Core.List.{List, [], _∷_, _++_, map}
 use mathlib.Core.Option.{Option, none, some}
 use native.Mathlib.Nat.{le-of-suc-le-suc}
@@ -39,9 +39,9 @@ use Rattle.demands.proofs.Ranges.{Outside, below-one, above-top, inside
 use Rattle.demands.specs.Sheets as sheets
 use Rattle.demands.specs.Sheets.{lines, OneRefused, here, there, AllWeighed, none-left, one-more, sum, NoNeed, no-agent, too-much, Lined, Needs, Reported}
 use Rattle.demands.specs.Sheets.{not-in-form, no-lines, many-lines, no-need, one-refused, named-twice, covered, short, Delivered, fits, too-long, Delivers}
-use Rattle.demands.specs.Twice.{at, Twice, RefusesAt, lacks, is-again, alone, markedBefore}
+use Rattle.demands.specs.Twice.{at, Twice, noMark, RefusesAt, lacks, is-again, alone, markedBefore}
 use Rattle.demands.proofs.Lines.{dash-refused, line-refusals}
-use Rattle.demands.proofs.Twice.{noMark, no-mass, line-at, SomeRefused, some-alone, some-twice, refusals-at, marked-as-before}
+use Rattle.demands.proofs.Twice.{no-mass, line-at, SomeRefused, some-alone, some-twice, refusals-at, marked-as-before}
 
 -- ---- the total of marks: refused where one of them is, and else the sum of their milligrams
 
@@ -113,7 +113,7 @@ module _ (L : Limits) where
     abbrev marks : List Mark
     marks = marked L (map lineOf cs)
 
-    marks-many : length marks ≡ length cs
+    pub marks-many : length marks ≡ length cs
     marks-many = marked-length L (map lineOf cs) ∙ length-map cs lineOf
 
     some-total : SomeRefused L cs → total marks ≡ Summed.Refused
@@ -124,12 +124,12 @@ module _ (L : Limits) where
         let p = placed r in
         some-total (some-alone L cs (p .place) (p .number) (omega (arith, p .within, length-map cs lineOf)) (rw (← line-at cs (p .place)) (p .refused)))
 
-    -- A SHEET THAT NAMES A NUMBER TWICE HAS NO TOTAL, and so no verdict; one that has a verdict names none twice
+    -- A SHEET THAT NAMES A NUMBER TWICE HAS NO TOTAL, and one that has a total names none twice
     pub twice-total : Twice cs → total marks ≡ Summed.Refused
     twice-total t = some-total (some-twice L cs t)
 
-    pub verdict-once : (mg : ℕ) → total marks ≡ Summed.Sum mg → Twice cs → ⊥
-    verdict-once mg e t = let f = twice-total t in let z : _≡_ {A = ℕ} 0 1 = cc in omega arith
+    pub total-once : (mg : ℕ) → total marks ≡ Summed.Sum mg → Twice cs → ⊥
+    total-once mg e t = let f = twice-total t in let z : _≡_ {A = ℕ} 0 1 = cc in omega arith
 
     once-total : {mgs : List ℕ} → (Twice cs → ⊥) → AllWeighed L (map lineOf cs) mgs → total marks ≡ Summed.Sum (sum mgs)
     once-total once a = ap total (marked-as-before L cs once) ∙ weighed-total a
@@ -275,8 +275,13 @@ delivered L t o xs (Written.Refused n) p = subst (λ (k : ℕ). Delivered L t o 
 pub score-delivers : (κs : Lfts 2) → Delivers (score.Post κs)
 score-delivers κs a r x p = delivered _ _ _ _ r p
 
+-- of two texts with the same front, what stands behind it begins alike
+behind-same : (xs ys zs : List ℕ) → xs ++ ys ≡ xs ++ zs → getD ys 0 0 ≡ getD zs 0 0
+behind-same xs ys zs e =
+    sym (getD-append-add xs ys 0 0) ∙ ap (λ (l : List ℕ). getD l (length xs + 0) 0) e ∙ getD-append-add xs zs 0 0
+
 module _ (L : Limits) where
-  -- a refused line means no verdict
+  -- a line that is refused by itself means no verdict
   pub no-verdict : (t : List ℕ) {b : Bank} {need : ℕ} → Needs t b need → OneRefused L (lines b)
       → report L (inForm t) ≡ linesBytes 1 (marked L (lines b)) ++ sentBack 13
   no-verdict t n r = only L t (one-refused n r)
@@ -285,6 +290,25 @@ module _ (L : Limits) where
   pub twice-no-verdict : (t : List ℕ) {b : Bank} {need : ℕ} → Needs t b need → Twice (b .cylinders)
       → report L (inForm t) ≡ linesBytes 1 (marked L (lines b)) ++ sentBack 13
   twice-no-verdict t n w = only L t (named-twice n w)
+
+  -- `S`, which is 83, stands where a verdict has `T`, which is 84
+  no-t : (t : List ℕ) {b : Bank} {need : ℕ} → Needs t b need → Twice (b .cylinders) → (e : Ending) → getD (endingBytes e) 0 0 ≡ 84
+      → report L (inForm t) ≡ linesBytes 1 (marked L (lines b)) ++ endingBytes e → ⊥
+  unfolding endingBytes
+  no-t t {b} n w e v r =
+      let z : _≡_ {A = ℕ} 83 84 = behind-same (linesBytes 1 (marked L (lines b))) _ _ (sym (twice-no-verdict t n w) ∙ r) ∙ v in
+      omega arith
+
+  -- A SHEET WITH A VERDICT NAMES NO NUMBER TWICE
+  pub covered-once : (t : List ℕ) {b : Bank} {need : ℕ} → Needs t b need → (mg : ℕ)
+      → report L (inForm t) ≡ linesBytes 1 (marked L (lines b)) ++ endingBytes (Ending.Covered mg) → Twice (b .cylinders) → ⊥
+  unfolding endingBytes
+  covered-once t n mg r w = no-t t n w (Ending.Covered mg) refl r
+
+  pub short-once : (t : List ℕ) {b : Bank} {need : ℕ} → Needs t b need → (mg : ℕ)
+      → report L (inForm t) ≡ linesBytes 1 (marked L (lines b)) ++ endingBytes (Ending.Short mg) → Twice (b .cylinders) → ⊥
+  unfolding endingBytes
+  short-once t n mg r w = no-t t n w (Ending.Short mg) refl r
 
   -- the largest total: 32 lines of less than 2⁵³ mg each, which 64 bits hold
   each-under : {ls : List Line} {mgs : List ℕ} → AllWeighed L ls mgs → sum mgs ≤ length ls * (2 ^ 53 - 1)

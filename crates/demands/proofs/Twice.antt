@@ -1,8 +1,9 @@
 -- A line on its sheet: each refusal exactly under its condition, 30 among them; and where no number stands twice, all as it was. Assumes nothing.
-use Prim.Native.Nat.{ℕ, zero, suc, _≤_, _<_}
+use Prim.Native.Nat.{ℕ, zero, suc, _<_}
 use mathlib.Core.Path.{_≡_, refl, sym, ap, subst, _∙_}
 use mathlib.Core.Bool.{Bool, true, false, cond, _||_, true≢false}
 use mathlib.Core.List.{List, [], _∷_, map}
+use mathlib.Core.Logic.{_⊎_, inl, inr, ⊎-elim}
 use mathlib.Core.Option.{Option, none, some}
 use native.Mathlib.Nat.{le-of-suc-le-suc}
 use native.Mathlib.Omega.{arith}
@@ -14,21 +15,22 @@ use Rattle.sheet_line.specs.Line.{temperatureOf, readingOf, lineOf, blankLine}
 use Rattle.sheet_line.specs.declared.cylinder.Kind.{Kind}
 use Rattle.sheet_line.specs.declared.cylinder.Cylinder.{Cylinder}
 use Rattle.sheet_line.specs.declared.line.Line.{Line}
-use Rattle.sheet_read.specs.Form.{Bank, inForm}
-use Rattle.sheet_standing.specs.Standing.{noNumber, noTemperature, noReading, lacking, isOn, isAgain, numbers, standing}
-use Rattle.sheet_standing.specs.declared.Standing.{Standing}
+use Rattle.sheet_read.specs.Form.{Bank}
+use Rattle.door_checks.specs.declared.Check.{Check}
+use Rattle.door_checks.specs.declared.Check.the-variants.{Passed, No}
+use Rattle.sheet_standing.specs.Standing.{ifNumbered, noTemperature, noVolume, noReading, lacking, isOn, numbers, standing}
 use Rattle.sheet_standing.proofs.Named.{named, is-named}
 use Rattle.sheet_outcome.specs.Outcome.{admitted}
 use Rattle.sheet_outcome.specs.declared.Admitted.{Admitted}
 use Rattle.sheet_outcome.specs.declared.Weighed.{Weighed}
 use Rattle.sheet_outcome.specs.declared.Mark.{Mark}
-use Rattle.sheet_weigh.specs.Weighing.{weighed, weighedAs, weighedAfter}
-use Rattle.sheet_weigh.specs.Sheet.{mark, marked}
+use Rattle.sheet_weigh.specs.Weighing.{weighed, ifPassed, weighedAfter}
+use Rattle.sheet_weigh.specs.Sheet.{marked}
 use Rattle.sheet_weigh.proofs.Markings.{marked-length, marked-at}
 use Rattle.sheet_score.specs.Score.{listed, report}
-use Rattle.demands.specs.Demands.{Exactly, Numbered, to-9, is-19}
-use Rattle.demands.specs.Lines.{Dashed, in-number, in-temperature, in-value, in-volume, RefusesLine}
-use Rattle.demands.specs.Twice.{noCylinder, at, Again, Twice, came, RefusesAt, lacks, is-again, alone, WeighsAt, markedBefore, reportBefore}
+use Rattle.demands.specs.Demands.{Exactly}
+use Rattle.demands.specs.Lines.{Dashed, in-number, in-temperature, in-value, in-volume}
+use Rattle.demands.specs.Twice.{at, Again, Twice, noMark, came, RefusesAt, lacks, is-again, alone, WeighsAt, markedBefore, reportBefore}
 use Rattle.demands.proofs.Lines.{dash-refused, line-refusals, line-answers}
 
 -- ---- 1: a field is blank, as it is written and as it is read
@@ -36,30 +38,27 @@ use Rattle.demands.proofs.Lines.{dash-refused, line-refusals, line-answ
 module _ (c : Cylinder) where
   is-dashed : lacking (lineOf c) ≡ true → Dashed c
   unfolding lacking
-  is-dashed e = go (c .number) refl (c .temperature) refl (c .volume) refl (c .value) refl (c .kind) refl e
+  is-dashed e = go (c .temperature) refl (c .volume) refl (c .value) refl (c .kind) e
     where
-      go : (n : Field) → c .number ≡ n → (t : Field) → c .temperature ≡ t → (v : Field) → c .volume ≡ v → (x : Field) → c .value ≡ x → (k : Kind) → c .kind ≡ k
-          → lacking (record { number = n; temperature = temperatureOf t; reading = readingOf k x; volume = v }) ≡ true → Dashed c
-      go Field.Blank p t q v r x s k u e = in-number p
-      go (Field.Number n) p Field.Blank q v r x s k u e = in-temperature q
-      go (Field.Number n) p (Field.Number t) q Field.Blank r x s k u e = in-volume r
-      go (Field.Number n) p (Field.Number t) q (Field.Number v) r Field.Blank s k u e = in-value s
-      go (Field.Number n) p (Field.Number t) q (Field.Number v) r (Field.Number x) s Kind.Pressure u e = absurd (true≢false (sym e))
-      go (Field.Number n) p (Field.Number t) q (Field.Number v) r (Field.Number x) s Kind.Density u e = absurd (true≢false (sym e))
+      go : (t : Field) → c .temperature ≡ t → (v : Field) → c .volume ≡ v → (x : Field) → c .value ≡ x → (k : Kind)
+          → noTemperature (temperatureOf t) || (noVolume v || noReading (readingOf k x)) ≡ true → Dashed c
+      go Field.Blank q v r x s k e = in-temperature q
+      go (Field.Number t) q Field.Blank r x s k e = in-volume r
+      go (Field.Number t) q (Field.Number v) r Field.Blank s k e = in-value s
+      go (Field.Number t) q (Field.Number v) r (Field.Number x) s Kind.Pressure e = absurd (true≢false (sym e))
+      go (Field.Number t) q (Field.Number v) r (Field.Number x) s Kind.Density e = absurd (true≢false (sym e))
 
-  -- one of four tests holds
   second : (a b : Bool) → b ≡ true → a || b ≡ true
   second true b e = refl
   second false b e = e
 
-  lacks-one : Dashed c → lacking (lineOf c) ≡ true
+  -- its number, or another of its fields
+  lacks-one : Dashed c → (c .number ≡ Field.Blank) ⊎ (lacking (lineOf c) ≡ true)
   unfolding lacking
-  lacks-one (in-number e) = rw e
-  lacks-one (in-temperature e) = rw e (second (noNumber (c .number)) _ refl)
-  lacks-one (in-volume e) =
-      rw e (second (noNumber (c .number)) _ (second (noTemperature (temperatureOf (c .temperature))) _ refl))
-  lacks-one (in-value e) =
-      rw e (second (noNumber (c .number)) _ (second (noTemperature (temperatureOf (c .temperature))) _ (second (noNumber (c .volume)) _ refl)))
+  lacks-one (in-number e) = inl e
+  lacks-one (in-temperature e) = inr (rw e)
+  lacks-one (in-volume e) = inr (rw e (second (noTemperature (temperatureOf (c .temperature))) _ refl))
+  lacks-one (in-value e) = inr (rw e (second (noTemperature (temperatureOf (c .temperature))) _ (second (noVolume (c .volume)) _ refl)))
 
   lacks-none : (Dashed c → ⊥) → lacking (lineOf c) ≡ false
   lacks-none h = go (lacking (lineOf c)) refl
@@ -108,58 +107,59 @@ module _ (cs : List Cylinder) (i : ℕ) where
         is-named blankLine above n (a .earlier) (omega (arith, h, a .before, length-take i (map lineOf cs), length-map cs lineOf))
         (ap (λ (l : Line). l .number) (above-at (a .earlier) (a .before)) ∙ a .there ∙ ap Field.Number same)
 
-  -- ---- so each line stands as its condition says
+  -- ---- so each line passes its first checks, or doesn't, as its condition says
 
-  abbrev stands : Standing
+  abbrev stands : Check
   stands = standing (numbers above) (lineOf (at cs i))
 
-  stands-lacking : Dashed (at cs i) → stands ≡ Standing.Lacking
+  stands-lacking : Dashed (at cs i) → stands ≡ No 1
   unfolding standing
-  stands-lacking d = rw (lacks-one (at cs i) d)
+  stands-lacking d = ⊎-elim (λ e. rw e) (λ e. rw e (go (at cs i .number))) (lacks-one (at cs i) d)
+    where
+      go : (f : Field) → ifNumbered f (λ n. No 1) ≡ No 1
+      go Field.Blank = refl
+      go (Field.Number n) = refl
 
   -- none is blank, and so there is a number
-  by-number : (Dashed (at cs i) → ⊥) → (s : Standing)
-      → ((n : ℕ) → at cs i .number ≡ Field.Number n → cond (isOn (numbers above) n) Standing.Again Standing.Ready ≡ s) → stands ≡ s
+  by-number : (Dashed (at cs i) → ⊥) → (c : Check) → ((n : ℕ) → at cs i .number ≡ Field.Number n → cond (isOn (numbers above) n) (No 30) Passed ≡ c) → stands ≡ c
   unfolding standing
-  by-number h s f = rw (lacks-none (at cs i) h) (go (at cs i .number) refl)
+  by-number h c f = rw (lacks-none (at cs i) h) (go (at cs i .number) refl)
     where
-      go : (g : Field) → at cs i .number ≡ g → cond (isAgain (numbers above) g) Standing.Again Standing.Ready ≡ s
+      go : (g : Field) → at cs i .number ≡ g → ifNumbered g (λ n. cond (isOn (numbers above) n) (No 30) Passed) ≡ c
       go Field.Blank e = absurd (h (in-number e))
       go (Field.Number n) e = f n e
 
-  pub stands-again : (Dashed (at cs i) → ⊥) → Again cs i → stands ≡ Standing.Again
-  stands-again h a = by-number h Standing.Again (λ n e. rw (again-on n e a))
+  pub stands-again : (Dashed (at cs i) → ⊥) → Again cs i → stands ≡ No 30
+  stands-again h a = by-number h (No 30) (λ n e. rw (again-on n e a))
 
-  stands-ready : (Dashed (at cs i) → ⊥) → (Again cs i → ⊥) → stands ≡ Standing.Ready
-  stands-ready h a = by-number h Standing.Ready (λ n e. go n e (isOn (numbers above) n) refl)
+  stands-ready : (Dashed (at cs i) → ⊥) → (Again cs i → ⊥) → stands ≡ Passed
+  stands-ready h a = by-number h Passed (λ n e. go n e (isOn (numbers above) n) refl)
     where
-      go : (n : ℕ) → at cs i .number ≡ Field.Number n → (b : Bool) → isOn (numbers above) n ≡ b → cond b Standing.Again Standing.Ready ≡ Standing.Ready
+      go : (n : ℕ) → at cs i .number ≡ Field.Number n → (b : Bool) → isOn (numbers above) n ≡ b → cond b (No 30) Passed ≡ Passed
       go n e true p = absurd (a (on-again n e p))
       go n e false p = refl
 
-  -- and it stands in one of the three ways
+  -- and it is one of the three
   pub data Stands : Type 0 where
     lacking-one : Dashed (at cs i) → Stands
     standing-again : (Dashed (at cs i) → ⊥) → Again cs i → Stands
     standing-ready : (Dashed (at cs i) → ⊥) → (Again cs i → ⊥) → Stands
 
   pub how : Stands
-  how = by-lacking (lacking (lineOf (at cs i))) refl
+  how = by-field (at cs i .number) refl (lacking (lineOf (at cs i))) refl
     where
-      not-dashed : lacking (lineOf (at cs i)) ≡ false → Dashed (at cs i) → ⊥
-      not-dashed e d = true≢false (sym (lacks-one (at cs i) d) ∙ e)
+      not-dashed : {n : ℕ} → at cs i .number ≡ Field.Number n → lacking (lineOf (at cs i)) ≡ false → Dashed (at cs i) → ⊥
+      not-dashed e f d =
+          ⊎-elim (λ p. let z : _≡_ {A = ℕ} 0 1 = cc in omega arith) (λ p. true≢false (sym p ∙ f)) (lacks-one (at cs i) d)
 
       by-on : (Dashed (at cs i) → ⊥) → (n : ℕ) → at cs i .number ≡ Field.Number n → (b : Bool) → isOn (numbers above) n ≡ b → Stands
       by-on h n e true p = standing-again h (on-again n e p)
       by-on h n e false p = standing-ready h (λ a. true≢false (sym (again-on n e a) ∙ p))
 
-      by-field : (Dashed (at cs i) → ⊥) → (f : Field) → at cs i .number ≡ f → Stands
-      by-field h Field.Blank e = absurd (h (in-number e))
-      by-field h (Field.Number n) e = by-on h n e (isOn (numbers above) n) refl
-
-      by-lacking : (b : Bool) → lacking (lineOf (at cs i)) ≡ b → Stands
-      by-lacking true e = lacking-one (is-dashed (at cs i) e)
-      by-lacking false e = by-field (not-dashed e) (at cs i .number) refl
+      by-field : (f : Field) → at cs i .number ≡ f → (b : Bool) → lacking (lineOf (at cs i)) ≡ b → Stands
+      by-field Field.Blank e b p = lacking-one (in-number e)
+      by-field (Field.Number n) e true p = lacking-one (is-dashed (at cs i) p)
+      by-field (Field.Number n) e false p = by-on (not-dashed e p) n e (isOn (numbers above) n) refl
 
 -- ---- what came of it
 
@@ -168,9 +168,6 @@ same-number e = cc
 
 pub no-mass : {A : Type 0} {n mg : ℕ} → Weighed.Refused n ≡ Weighed.Mass mg → A
 no-mass e = let z : _≡_ {A = ℕ} 0 1 = cc in absurd (omega arith)
-
-abbrev pub noMark : Mark
-noMark = record { weighed = Weighed.Mass 0 }
 
 abbrev markAlone : Limits → Line → Mark
 markAlone L l = record { weighed = weighed L l }
@@ -182,7 +179,7 @@ alone-at L (c ∷ cs) (suc i) h = alone-at L cs i (le-of-suc-le-suc h)
 
 module _ (L : Limits) where
   module _ (cs : List Cylinder) (i : ℕ) (h : i < length cs) where
-    came-as : came L cs i ≡ weighedAs L (stands cs i) (lineOf (at cs i))
+    came-as : came L cs i ≡ ifPassed (stands cs i) (weighed L (lineOf (at cs i)))
     unfolding weighedAfter
     came-as =
         ap (λ (m : Mark). m .weighed) (marked-at L (map lineOf cs) i _ blankLine (omega (arith, length-map cs lineOf)))

@@ -22,7 +22,7 @@ examples =
     ∷ record { text = ascii "N 0\nC 1 3000000 P 5000000 40000\n"; report = "SENT BACK 12\n" }
     ∷ record { text = ascii "N 1\nC 1 - D 5000000 40000\nC - 3000000 D - 40000\nC 3 3000000 P 1 -\n"; report = "L 1 R 1\nL 2 R 1\nL 3 R 1\nSENT BACK 13\n" }
     ∷ record {
-      text = ascii "N 1\nC 7 2000000 P 5000000 40000\nC 0 - P 1 1\nC - 1 P 1 1\nC - 1 P 1 1\nC 7 - P 1 1\nC 0 1 P 1 0\nC 7 3000000 P 5000000 40000\n";
-      report = "L 1 R 4\nL 2 R 1\nL 3 R 1\nL 4 R 1\nL 5 R 1\nL 6 R 30\nL 7 R 30\nSENT BACK 13\n";
+      text = ascii "N 1\nC - 1 P 1 1\nC - 1 P 1 1\nC 0 2000000 P 5000000 40000\nC 5 - P 1 1\nC 0 3000000 P - 40000\nC 5 1 P 1 0\nC 0 3000000 P 5000000 40000\n";
+      report = "L 1 R 1\nL 2 R 1\nL 3 R 4\nL 4 R 1\nL 5 R 1\nL 6 R 30\nL 7 R 30\nSENT BACK 13\n";
     }
     ∷ []

@@ -26,6 +26,10 @@ use Rattle.demands.specs.Lines.{Dashed, RefusesLine, Weighs}
 abbrev pub noCylinder : Cylinder
 noCylinder = record { number = Field.Blank; temperature = Field.Blank; kind = Kind.Pressure; value = Field.Blank; volume = Field.Blank }
 
+-- and where there is no mark
+abbrev pub noMark : Mark
+noMark = record { weighed = Weighed.Mass 0 }
+
 -- the line at a place, the first being 0
 abbrev pub at : List Cylinder → ℕ → Cylinder
 at cs i = getD cs i noCylinder
@@ -51,7 +55,7 @@ pub data NumberedAt : ℕ → Type 0 where
 module _ (L : Limits) where
   -- what came of the line at i
   abbrev pub came : List Cylinder → ℕ → Weighed
-  came cs i = getD (marked L (map lineOf cs)) i (record { weighed = Weighed.Mass 0 }) .weighed
+  came cs i = getD (marked L (map lineOf cs)) i noMark .weighed
 
   -- when it is refused, and by which number: by 1, by 30, or as the line alone is
   pub data RefusesAt (cs : List Cylinder) (i : ℕ) : ℕ → Type 0 where

@@ -6,6 +6,7 @@ use mathlib.Core.List.{List}
 use Rattle.eos_state.specs.declared.State.{State}
 use Rattle.equation.specs.Equation.{of1996}
 use Rattle.door_limits.specs.declared.Limits.{Limits}
+use Rattle.door_checks.specs.declared.Check.{Check}
 use Rattle.door_answers.specs.declared.Answer.{Answer}
 use Rattle.door_pressure.specs.PressureDoor.{pressureDoor}
 use Rattle.door_density.specs.DensityDoor.{densityDoor}
@@ -15,8 +16,7 @@ use Rattle.sheet_line.specs.declared.line.Reading.{Reading}
 use Rattle.sheet_line.specs.declared.line.Line.{Line}
 use Rattle.sheet_outcome.specs.declared.Weighed.{Weighed}
 use Rattle.sheet_standing.specs.Standing.{standing}
-use Rattle.sheet_standing.specs.declared.Standing.{Standing}
-use Rattle.sheet_weigh.specs.Weighing.{isVolume, milligrams, byAnswer, filled, byReading, ifNumber, weighed, weighedAs, weighedAfter}
+use Rattle.sheet_weigh.specs.Weighing.{isVolume, milligrams, byAnswer, filled, byReading, ifNumber, weighed, ifPassed, weighedAfter}
 use Rattle.desk_look.specs.Held.{answered, looked, look}
 use Rattle.desk_look.specs.declared.held.Look.{Look}
 
@@ -50,13 +50,12 @@ module _ (L : Limits) where
   of-fields (Field.Number n) Field.Blank k r = refl
   of-fields (Field.Number n) (Field.Number v) k r = of-reading v k r
 
-  of-standing : (s : Standing) (l : Line) → weighs (look L (weighedAs L s l) l) ≡ weighedAs L s l
+  of-check : (c : Check) (l : Line) → weighs (look L (ifPassed c (weighed L l)) l) ≡ ifPassed c (weighed L l)
   unfolding look weighed
-  of-standing Standing.Lacking l = refl
-  of-standing Standing.Again l = refl
-  of-standing Standing.Ready l = of-fields (l .number) (l .volume) (l .temperature) (l .reading)
+  of-check (Check.No n) l = refl
+  of-check Check.Passed l = of-fields (l .number) (l .volume) (l .temperature) (l .reading)
 
   -- THE EXPLANATION OF A LINE IS THAT OF ITS REPORT
   pub same-as-report : (before : List ℕ) (l : Line) → weighs (look L (weighedAfter L before l) l) ≡ weighedAfter L before l
   unfolding weighedAfter
-  same-as-report before l = of-standing (standing before l) l
+  same-as-report before l = of-check (standing before l) l

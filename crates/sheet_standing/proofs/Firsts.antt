@@ -9,8 +9,8 @@ use lib.Seq.{drop-cons}
 use borrow.Author.Tests.{eqb-true}
 use Rattle.sheet_text.specs.declared.Field.{Field}
 use Rattle.sheet_line.specs.declared.line.Line.{Line}
-use Rattle.sheet_standing.specs.declared.Standing.{Standing}
-use Rattle.sheet_standing.specs.Standing.{lacking, isOn, isAgain, onto, numbers, standing, firstWith}
+use Rattle.door_checks.specs.declared.Check.the-variants.{Passed, No}
+use Rattle.sheet_standing.specs.Standing.{ifNumbered, lacking, isOn, onto, numbers, standing, firstWith}
 
 -- ---- one turn of the loop that looks for it
 
@@ -109,18 +109,21 @@ first ls i n e =
       none-before = rw (back) (is .none-before);
     }
 
--- so where a line that stands after them has 30
-pub first-of-again : (ls : List Line) (i : ℕ) (l : Line) → standing (numbers (take i ls)) l ≡ Standing.Again
+-- so where a line after them is refused by 30
+pub first-of-again : (ls : List Line) (i : ℕ) (l : Line) → standing (numbers (take i ls)) l ≡ No 30
     → (n : ℕ) × (l .number ≡ Field.Number n) × First ls i n (firstWith 1 ls n)
 unfolding standing
-first-of-again ls i l = go (lacking l) (l .number)
+first-of-again ls i l = by-number (l .number)
   where
-    told : (b : Bool) → cond b Standing.Again Standing.Ready ≡ Standing.Again → b ≡ true
-    told true e = refl
-    told false e = let z : _≡_ {A = ℕ} 0 1 = cc in absurd (omega arith)
+    no : {A : Type 0} {m : ℕ} → No m ≡ No 30 → (m ≡ 30 → ⊥) → A
+    no e h = absurd (h cc)
 
-    go : (b : Bool) (f : Field) → cond b Standing.Lacking (cond (isAgain (numbers (take i ls)) f) Standing.Again Standing.Ready) ≡ Standing.Again
+    told : (a b : Bool) → cond a (No 1) (cond b (No 30) Passed) ≡ No 30 → b ≡ true
+    told true b e = no e (λ h. omega (arith, h))
+    told false true e = refl
+    told false false e = let z : _≡_ {A = ℕ} 0 1 = cc in absurd (omega arith)
+
+    by-number : (f : Field) → ifNumbered f (λ n. cond (lacking l) (No 1) (cond (isOn (numbers (take i ls)) n) (No 30) Passed)) ≡ No 30
         → (n : ℕ) × (f ≡ Field.Number n) × First ls i n (firstWith 1 ls n)
-    go true f e = let z : _≡_ {A = ℕ} 0 1 = cc in absurd (omega arith)
-    go false Field.Blank e = let z : _≡_ {A = ℕ} 0 1 = cc in absurd (omega arith)
-    go false (Field.Number n) e = (n, refl, first ls i n (told (isOn (numbers (take i ls)) n) e))
+    by-number Field.Blank e = no e (λ h. omega (arith, h))
+    by-number (Field.Number n) e = (n, refl, first ls i n (told (lacking l) (isOn (numbers (take i ls)) n) e))

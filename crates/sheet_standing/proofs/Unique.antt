@@ -2,11 +2,11 @@
 use Prim.Native.Nat.{ℕ}
 use contract.Lifetimes.{Lfts}
 use Rattle.num_working.proofs.Unique.{OneAnswer, by-equation}
-use Rattle.sheet_standing.specs.declared.Standing.{Standing}
+use Rattle.door_checks.specs.declared.Check.{Check}
 use Rattle.sheet_standing.proofs.standing_of.Reads as standing-of
 use Rattle.sheet_standing.proofs.first_with.Reads as first-with
 
-pub standing-of-once : (κs : Lfts 1) → OneAnswer Standing (standing-of.Post κs)
+pub standing-of-once : (κs : Lfts 1) → OneAnswer Check (standing-of.Post κs)
 standing-of-once κs a r s x y = by-equation
 
 pub first-with-once : OneAnswer ℕ (first-with.Post tt)

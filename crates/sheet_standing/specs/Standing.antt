@@ -1,23 +1,30 @@
--- RULES 3.2 and 6.6: how a line stands before it is worked, by its own fields, and by the cylinder numbers of the lines before it. Definitions only.
+-- RULES 3.2 and 6.6: the first checks of a line, before it is worked, by its own fields and by the cylinder numbers of the lines before it. Definitions only.
 use Prim.Native.Nat.{ℕ, _+_}
 use mathlib.Core.Bool.{Bool, true, false, cond, _||_}
 use mathlib.Core.List.{List, [], _∷_}
 use lib.Dec.{eqb}
+use Rattle.door_checks.specs.declared.Check.{Check}
+use Rattle.door_checks.specs.declared.Check.the-variants.{Passed, No}
 use Rattle.sheet_text.specs.declared.Field.{Field}
 use Rattle.sheet_line.specs.declared.line.Temperature.{Temperature}
 use Rattle.sheet_line.specs.declared.line.Reading.{Reading}
 use Rattle.sheet_line.specs.declared.line.Line.{Line}
-use Rattle.sheet_standing.specs.declared.Standing.{Standing}
 
 -- ---- 1: one of the four fields of a line is blank
 
-abbrev pub noNumber : Field → Bool
-noNumber Field.Blank = true
-noNumber (Field.Number n) = false
+-- its cylinder number
+abbrev pub ifNumbered : Field → (ℕ → Check) → Check
+ifNumbered Field.Blank f = No 1
+ifNumbered (Field.Number n) f = f n
 
+-- its temperature, its volume or its value
 abbrev pub noTemperature : Temperature → Bool
 noTemperature Temperature.Blank = true
 noTemperature (Temperature.Kelvin t) = false
+
+abbrev pub noVolume : Field → Bool
+noVolume Field.Blank = true
+noVolume (Field.Number v) = false
 
 abbrev pub noReading : Reading → Bool
 noReading Reading.Blank = true
@@ -25,7 +32,7 @@ noReading (Reading.Pressure p) = false
 noReading (Reading.Density d) = false
 
 unfoldable pub lacking : Line → Bool
-lacking l = noNumber (l .number) || (noTemperature (l .temperature) || (noNumber (l .volume) || noReading (l .reading)))
+lacking l = noTemperature (l .temperature) || (noVolume (l .volume) || noReading (l .reading))
 
 -- ---- 30: a line before it has its cylinder number
 
@@ -33,12 +40,7 @@ unfoldable pub isOn : List ℕ → ℕ → Bool
 isOn [] n = false
 isOn (m ∷ ms) n = eqb m n || isOn ms n
 
--- a blank is no number, and never the same as another
-abbrev pub isAgain : List ℕ → Field → Bool
-isAgain ms Field.Blank = false
-isAgain ms (Field.Number n) = isOn ms n
-
--- the cylinder numbers of lines, in their order: a blank adds none
+-- the cylinder numbers of lines, in their order: a blank is none, and so never the same as another
 abbrev pub onto : Field → List ℕ → List ℕ
 onto Field.Blank ms = ms
 onto (Field.Number n) ms = n ∷ ms
@@ -47,10 +49,10 @@ unfoldable pub numbers : List Line → List ℕ
 numbers [] = []
 numbers (l ∷ ls) = onto (l .number) (numbers ls)
 
--- ---- 1, then 30, and else it is ready; the numbers are those of the lines before it
+-- ---- 1, then 30; the numbers are those of the lines before it
 
-unfoldable pub standing : List ℕ → Line → Standing
-standing before l = cond (lacking l) Standing.Lacking (cond (isAgain before (l .number)) Standing.Again Standing.Ready)
+unfoldable pub standing : List ℕ → Line → Check
+standing before l = ifNumbered (l .number) (λ n. cond (lacking l) (No 1) (cond (isOn before n) (No 30) Passed))
 
 -- ---- RULES 14.3: the place of the first line that has a number, where i is that of the first of all; 0 where none has
 

@@ -1,30 +1,22 @@
-// RULES 3.2 and 6.6: how a line stands before it is worked: a field of it is blank, which is 1; or a line before it has its
-// cylinder number, which is 30; or it is ready. And the first line that has a number (RULES 14.3).
+// RULES 3.2 and 6.6: the first checks of a line, before it is worked: 1, where a field of it is blank, and 30, where a line
+// before it has its cylinder number. And the first line that has a number (RULES 14.3).
 ghost use mathlib.Core.Path.{_≡_};
 ghost use mathlib.Core.List.{[], _∷_};
-ghost use Rattle.sheet_standing.specs.Standing.{lacking, isOn, isAgain, numbers, standing, firstWith};
+ghost use Rattle.sheet_standing.specs.Standing.{lacking, isOn, numbers, standing, firstWith};
+use door_checks::Check;
 use sheet_line::line::Line;
 use sheet_line::line::Reading;
 use sheet_line::line::Temperature;
 use sheet_read::Sheet;
 use sheet_text::Field;
 
-pub enum Standing {
-    Lacking,
-    Again,
-    Ready,
-}
-
+// Of the fields but the cylinder number.
 fn is_lacking(l: Line) -> bool
     ensures { λ r. ⌜ r ≡ lacking l ⌝ }
 {
-    let number = l.number;
     let temperature = l.temperature;
     let reading = l.reading;
     let volume = l.volume;
-    let Field::Number(_) = number else {
-        return true;
-    };
     let Temperature::Kelvin(_) = temperature else {
         return true;
     };
@@ -51,28 +43,21 @@ fn is_on(numbers: &[u64], n: u64) -> bool
     false
 }
 
-// A blank is no number, and never the same as another.
-fn is_again(numbers: &[u64], f: Field) -> bool
-    ensures { λ r. ⌜ r ≡ isAgain (now (numbers .entry)) f ⌝ }
-{
-    match f {
-        Field::Blank => false,
-        Field::Number(n) => is_on(numbers, n),
-    }
-}
-
-// The numbers are those of the lines before it.
-pub fn standing_of(numbers: &[u64], l: Line) -> Standing
+// The numbers are those of the lines before it. A blank is none.
+pub fn standing_of(numbers: &[u64], l: Line) -> Check
     ensures { λ r. ⌜ r ≡ standing (now (numbers .entry)) l ⌝ }
 {
     let number = l.number;
+    let Field::Number(n) = number else {
+        return Check::No(1);
+    };
     if is_lacking(l) {
-        return Standing::Lacking;
+        return Check::No(1);
     }
-    if is_again(numbers, number) {
-        return Standing::Again;
+    if is_on(numbers, n) {
+        return Check::No(30);
     }
-    Standing::Ready
+    Check::Passed
 }
 
 fn has_number(l: Line, n: u64) -> bool

@@ -9,15 +9,15 @@ use Rattle.num_whole.specs.Whole.{wholeBelow}
 use Rattle.num_whole.specs.declared.Below.{Below}
 use Rattle.num_whole.proofs.Wholes.{is-at-or-below}
 use Rattle.door_limits.specs.declared.Limits.{Limits}
+use Rattle.door_checks.specs.declared.Check.{Check}
 use Rattle.door_answers.specs.declared.Answer.{Answer}
 use Rattle.sheet_text.specs.declared.Field.{Field}
 use Rattle.sheet_line.specs.declared.line.Temperature.{Temperature}
 use Rattle.sheet_line.specs.declared.line.Reading.{Reading}
 use Rattle.sheet_line.specs.declared.line.Line.{Line}
 use Rattle.sheet_standing.specs.Standing.{standing}
-use Rattle.sheet_standing.specs.declared.Standing.{Standing}
 use Rattle.sheet_outcome.specs.declared.Weighed.{Weighed}
-use Rattle.sheet_weigh.specs.Weighing.{ifNumber, ifKelvin, isVolume, mass, milligrams, byAnswer, filled, byReading, weighed, weighedAs, weighedAfter}
+use Rattle.sheet_weigh.specs.Weighing.{ifNumber, ifKelvin, isVolume, mass, milligrams, byAnswer, filled, ifPassed, byReading, weighed, weighedAfter}
 
 -- one that was refused has none
 abbrev pub Under : Weighed → Type 0
@@ -45,6 +45,10 @@ filled-under : (v : ℕ) (a : Answer) → Under (filled v a)
 unfolding filled
 filled-under v a = by-test Under (isVolume v) (byAnswer a v) (Weighed.Refused 2) (λ _. answered-under a v) (λ _. tt)
 
+passed-under : (c : Check) (w : Weighed) → Under w → Under (ifPassed c w)
+passed-under (Check.No n) w u = tt
+passed-under Check.Passed w u = u
+
 module _ (L : Limits) where
   reading-under : (k : Temperature) (v : ℕ) (r : Reading) → Under (byReading L k v r)
   unfolding byReading
@@ -56,11 +60,6 @@ module _ (L : Limits) where
   unfolding weighed
   weighed-under l = number-under (l .number) _ (λ _. number-under (l .volume) _ (λ v. reading-under (l .temperature) v (l .reading)))
 
-  standing-under : (s : Standing) (l : Line) → Under (weighedAs L s l)
-  standing-under Standing.Lacking l = tt
-  standing-under Standing.Again l = tt
-  standing-under Standing.Ready l = weighed-under l
-
   pub after-under : (before : List ℕ) (l : Line) → Under (weighedAfter L before l)
   unfolding weighedAfter
-  after-under before l = standing-under (standing before l) l
+  after-under before l = passed-under (standing before l) (weighed L l) (weighed-under l)

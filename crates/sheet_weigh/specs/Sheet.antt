@@ -1,4 +1,4 @@
--- RULES 7.1 and 7.2: what comes of a sheet, line by line. Definitions only.
+-- RULES 6.6, 7.1 and 7.2: what comes of a sheet, line by line. Definitions only.
 use Prim.Native.Nat.{ℕ, _^_, _<_}
 use mathlib.Core.Path.{_≡_}
 use mathlib.Core.List.{List, [], _∷_, _++_}

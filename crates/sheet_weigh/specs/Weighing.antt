@@ -9,6 +9,7 @@ use Rattle.num_whole.specs.Whole.{wholeBelow}
 use Rattle.num_whole.specs.declared.Below.{Below}
 use Rattle.equation.specs.Equation.{of1996}
 use Rattle.door_limits.specs.declared.Limits.{Limits}
+use Rattle.door_checks.specs.declared.Check.{Check}
 use Rattle.door_answers.specs.declared.Answer.{Answer}
 use Rattle.door_pressure.specs.PressureDoor.{pressureDoor}
 use Rattle.door_density.specs.DensityDoor.{densityDoor}
@@ -17,7 +18,6 @@ use Rattle.sheet_line.specs.declared.line.Temperature.{Temperature}
 use Rattle.sheet_line.specs.declared.line.Reading.{Reading}
 use Rattle.sheet_line.specs.declared.line.Line.{Line}
 use Rattle.sheet_standing.specs.Standing.{standing}
-use Rattle.sheet_standing.specs.declared.Standing.{Standing}
 use Rattle.sheet_outcome.specs.declared.Weighed.{Weighed}
 
 -- ---- 1: one of the four fields of a line is blank
@@ -52,6 +52,12 @@ byAnswer (Answer.Refused n) v = Weighed.Refused n
 unfoldable pub filled : ℕ → Answer → Weighed
 filled v a = cond (isVolume v) (byAnswer a v) (Weighed.Refused 2)
 
+-- ---- a check that is not passed is the line's refusal
+
+abbrev pub ifPassed : Check → Weighed → Weighed
+ifPassed (Check.No n) w = Weighed.Refused n
+ifPassed Check.Passed w = w
+
 -- ---- the line alone
 
 module _ (L : Limits) where
@@ -66,11 +72,6 @@ module _ (L : Limits) where
 
   -- ---- the line on its sheet
 
-  abbrev pub weighedAs : Standing → Line → Weighed
-  weighedAs Standing.Lacking l = Weighed.Refused 1
-  weighedAs Standing.Again l = Weighed.Refused 30
-  weighedAs Standing.Ready l = weighed l
-
-  -- the numbers are the cylinder numbers of the lines before it
+  -- RULES 6.6: 1 and 30 first; the numbers are the cylinder numbers of the lines before it
   unfoldable pub weighedAfter : List ℕ → Line → Weighed
-  weighedAfter before l = weighedAs (standing before l) l
+  weighedAfter before l = ifPassed (standing before l) (weighed l)

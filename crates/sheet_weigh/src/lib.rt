@@ -1,4 +1,4 @@
-// RULES 3.2, 3.4 and 6.5: what comes of a line, refused by 1, 30, 2, its door or 7, in this order, or its milligrams;
+// RULES 3.2, 3.4, 6.5 and 6.6: what comes of a line, refused by 1, 30, 2, its door or 7, in this order, or its milligrams;
 // and of a sheet, sent back by 14, 10, 11, 12 or 13, in this order, or the total.
 ghost use mathlib.Core.Path.{_≡_};
 ghost use mathlib.Core.List.{[]};
@@ -11,6 +11,8 @@ ghost use Rattle.sheet_weigh.specs.Weighing.{isVolume, milligrams, byAns
 ghost use Rattle.sheet_weigh.specs.Sheet.{marksFor, finished, marked, outcome, Light};
 use door_answers::Answer;
 use door_answers::refusal_number;
+use door_checks::Check;
+use door_checks::number_of;
 use door_density::from_density;
 use door_limits::Limits;
 use door_pressure::from_pressure;
@@ -30,7 +32,6 @@ use sheet_outcome::admit;
 use sheet_outcome::conclude;
 use sheet_read::Sheet;
 use sheet_read::SheetRead;
-use sheet_standing::Standing;
 use sheet_standing::standing_of;
 use sheet_text::Field;
 
@@ -116,11 +117,11 @@ pub fn weigh(limits: Limits, l: Line) -> Weighed
 fn weigh_after(limits: Limits, numbers: &[u64], l: Line) -> Weighed
     ensures { λ r. ⌜ r ≡ weighedAfter limits (now (numbers .entry)) l ⌝ }
 {
-    match standing_of(numbers, l) {
-        Standing::Lacking => Weighed::Refused(1),
-        Standing::Again => Weighed::Refused(30),
-        Standing::Ready => weigh(limits, l),
-    }
+    let c = standing_of(numbers, l);
+    let Check::Passed = c else {
+        return Weighed::Refused(number_of(c));
+    };
+    weigh(limits, l)
 }
 
 // Each line's milligrams or refusal; i counts the lines from 1, and known the cylinder numbers that were read.

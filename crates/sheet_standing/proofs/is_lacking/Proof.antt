@@ -13,27 +13,19 @@ returns-2 : tie.Need-returns-2
 unfolding lacking
 returns-2 c = rw (c .before .before .enum-told .given .1, c .enum-told4 .given .1)
 
-returns-3 : tie.Need-returns-3
+-- two are there, and the value decides
+by-value : (c : tie.After-enum-told3) → (let l = c .before .before .before .before .args .l in lacking l ≡ noReading (l .reading))
 unfolding lacking
-returns-3 c =
-    let t = c .before .before in
-    rw (t .before .before .enum-told .given .1, t .enum-told3 .given .1, c .enum-told6 .given .1)
+by-value c = rw (c .before .before .enum-told .given .1, c .enum-told3 .given .1) refl
 
--- three are there, and the value decides
-by-value : (c : tie.After-enum-told5) → (let l = c .before .before .before .before .before .before .args .l in lacking l ≡ noReading (l .reading))
-unfolding lacking
-by-value c =
-    let t = c .before .before in
-    rw (t .before .before .enum-told .given .1, t .enum-told3 .given .1, c .enum-told5 .given .1) refl
+returns-3 : tie.Need-returns-3
+returns-3 c = rw (by-value (c .before .before), c .enum-told5 .given .1)
 
 returns-4 : tie.Need-returns-4
-returns-4 c = rw (by-value (c .before .before), c .enum-told7 .given .1)
+returns-4 c = rw (by-value (c .before .before), c .enum-told6 .given .1)
 
 returns-5 : tie.Need-returns-5
-returns-5 c = rw (by-value (c .before .before), c .enum-told8 .given .1)
-
-returns-6 : tie.Need-returns-6
-returns-6 c = rw (by-value (c .before .before), c .enum-told9 .given .1)
+returns-5 c = rw (by-value (c .before .before), c .enum-told7 .given .1)
 
 pub is-lacking-spec : {M : Type 1} → statement M
 is-lacking-spec =
@@ -47,10 +39,7 @@ is-lacking-spec =
     returns-2
     (λ c. search needs)
     (λ c. search needs)
+    (λ c. search needs)
     returns-3
-    (λ c. search needs)
-    (λ c. search needs)
-    (λ c. search needs)
     returns-4
-    returns-5
-    returns-6)
+    returns-5)

@@ -1,5 +1,5 @@
--- RULES 10.1: what is demanded of a cylinder's line as it is written: when each refusal is given, in the order of RULES 3.2, and what its milligrams are.
--- Definitions only.
+-- RULES 10.1: what is demanded of a cylinder's line by itself, as it is written: when each refusal is given, in the order of RULES 3.2 but for 30, and what its
+-- milligrams are. Definitions only.
 use Prim.Native.Nat.{ℕ, _≤_, _<_}
 use mathlib.Core.Path.{_≡_}
 use lib.Ieee.{Float, binary64, div, mul}
@@ -51,7 +51,7 @@ module _ (L : Limits) where
     pub volume : c .volume ≡ Field.Number v
     pub asked : Asked (div binary64 (whole degrees) (whole 10000)) (c .kind) (c .value) a
 
-  -- when a line is refused, and by which number
+  -- when a line by itself is refused, and by which number
   pub data RefusesLine (c : Cylinder) : ℕ → Type 0 where
     blank : Dashed c → RefusesLine c 1
     no-volume : {v : ℕ} {a : Answer} → Figures c v a → NoVolume v → RefusesLine c 2

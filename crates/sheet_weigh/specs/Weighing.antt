@@ -20,6 +20,12 @@ use Rattle.sheet_line.specs.declared.line.Line.{Line}
 use Rattle.sheet_standing.specs.Standing.{standing}
 use Rattle.sheet_outcome.specs.declared.Weighed.{Weighed}
 
+-- ---- a check that is not passed is the line's refusal
+
+abbrev pub ifPassed : Check → Weighed → Weighed
+ifPassed (Check.No n) w = Weighed.Refused n
+ifPassed Check.Passed w = w
+
 -- ---- 1: one of the four fields of a line is blank
 
 abbrev pub ifNumber : Field → (ℕ → Weighed) → Weighed
@@ -52,13 +58,7 @@ byAnswer (Answer.Refused n) v = Weighed.Refused n
 unfoldable pub filled : ℕ → Answer → Weighed
 filled v a = cond (isVolume v) (byAnswer a v) (Weighed.Refused 2)
 
--- ---- a check that is not passed is the line's refusal
-
-abbrev pub ifPassed : Check → Weighed → Weighed
-ifPassed (Check.No n) w = Weighed.Refused n
-ifPassed Check.Passed w = w
-
--- ---- the line alone
+-- ---- the line
 
 module _ (L : Limits) where
   -- the door is that of the reading's kind

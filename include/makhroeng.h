@@ -14,9 +14,9 @@
 extern "C" {
 #endif
 
-/* This header's version, 1.5.0: 10,000 times the first number, 100 times the second, and the third. A program that is
+/* This header's version, 1.6.0: 10,000 times the first number, 100 times the second, and the third. A program that is
  * linked with a shared library may compare it with makhroeng_version(). */
-#define MAKHROENG_VERSION 10500
+#define MAKHROENG_VERSION 10600
 
 /* What a door returns where it answers, and what saturation does. Every refusal number is below these. */
 enum { MAKHROENG_VAPOUR = 256, MAKHROENG_LIQUID = 257, MAKHROENG_SUPERCRITICAL = 258, MAKHROENG_SATURATED = 259 };
@@ -87,6 +87,7 @@ uint32_t makhroeng_saturation(double temperature, double *figures, size_t len);
  * Returns the report's length, 13 to 1,512 bytes; bytes of `out` after it are as they were. Where the report is longer
  * than out_len: 0, and every byte of `out` is as it was. 1,512 bytes are enough for any sheet.
  * Since version 1.5.0 a line without blanks whose cylinder number stands on a line above it is refused by 30 (RULES 6.6).
+ * Since version 1.6.0 a line may have `W` and the grams that were weighed (RULES 6.7), where before the text was not in the form.
  * `text` and `out` must not overlap. */
 uint64_t makhroeng_report(const uint8_t *text, size_t text_len, uint8_t *out, size_t out_len);
 

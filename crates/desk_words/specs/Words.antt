@@ -9,7 +9,7 @@ use Rattle.sheet_write.specs.Writing.{ascii}
 
 -- 10,000 times the first number, 100 times the second, and the third
 abbrev pub version : ℕ
-version = 10500
+version = 10600
 
 -- from 0, which is no refusal, on
 unfoldable pub all : List (List ℕ)
@@ -26,11 +26,11 @@ all =
     -- 5
     ∷ ascii "The pressure, read or worked, is not 0.1 to 300 bar absolute, or the density not 0.1 to 1,300 kg/m3. Check the gauge, its unit and the thermometer. What was not read is written -, not 0."
     -- 6
-    ∷ ascii "Too near the critical point to tell the density. Weigh the cylinder, or warm it evenly to 40 to 45 C and read again: there a bar is about one per cent of a full cylinder's density and up to seven of a half empty one's, at 32.1 C up to half. Mind the pressure: filled to 750 kg/m3 it stands at 175 bar at 50 C."
+    ∷ ascii "Too near the critical point to tell the density. Weigh the cylinder and write W and the grams of agent, or warm it evenly to 40 to 45 C and read again: there a bar is about one per cent of a full cylinder's density and up to seven of a half empty one's, at 32.1 C up to half. Mind the pressure: filled to 750 kg/m3 it stands at 175 bar at 50 C."
     -- 7
     ∷ ascii "The working failed, and no reading is known that gives this. Report it with the sheet."
     -- 8
-    ∷ ascii "Liquid and vapour stand together, or the pressure is exactly the vapour pressure. Weigh the cylinder, or warm it evenly to 40 to 45 C and read again: there a bar is about one per cent of a full cylinder's density and up to seven of a half empty one's, at 32.1 C up to half. Mind the pressure: filled to 750 kg/m3 it stands at 175 bar at 50 C."
+    ∷ ascii "Liquid and vapour stand together, or the pressure is exactly the vapour pressure. Weigh the cylinder and write W and the grams of agent, or warm it evenly to 40 to 45 C and read again: there a bar is about one per cent of a full cylinder's density and up to seven of a half empty one's, at 32.1 C up to half. Mind the pressure: filled to 750 kg/m3 it stands at 175 bar at 50 C."
     -- 9
     ∷ ascii "No density in the range has this pressure, and no reading is known that gives this. Report it with the sheet."
     -- 10
@@ -49,8 +49,12 @@ all =
     ∷ [] ∷ [] ∷ []
     -- 19
     ∷ ascii "Solid: dry ice and no agent that flows. Check the thermometer and the gauge, or warm the cylinder above -50 C and read again."
-    -- 20 to 29
-    ∷ [] ∷ [] ∷ [] ∷ [] ∷ [] ∷ [] ∷ [] ∷ [] ∷ [] ∷ []
+    -- 20 to 22
+    ∷ [] ∷ [] ∷ []
+    -- 23
+    ∷ ascii "The weighed mass is not 1 to 9,999,999,999 g. Weigh the cylinder again and take off its empty weight: kg times 1,000. What was not read is written -, not 0."
+    -- 24 to 29
+    ∷ [] ∷ [] ∷ [] ∷ [] ∷ [] ∷ []
     -- 30
     ∷ ascii "The cylinder is already on the sheet. Take the line out if it was copied, or read its number at the cylinder again."
     ∷ []

@@ -104,24 +104,45 @@ def of_gauge(_number, temperature, kind, value, volume):
     held = [down(at_or_below(rho * float(int(volume)))) for rho in (vapour, liquid)]
     return (f"the gauge can't tell. At {celsius(temperature)} C the vapour pressure is {bar(p)} bar, and {of_sheet(value, 5)} bar is within 2 bar of it. "
             f"At the vapour pressure the cylinder holds {held[0]} kg if all is vapour, {held[1]} kg if all is liquid, and anything between if it holds both. "
-            "Weigh it, or warm it evenly to 40 to 45 C, minding its pressure, and read again.")
+            "Weigh it and write W and the grams of agent, or warm it evenly to 40 to 45 C, minding its pressure, and read again.")
+
+
+def of_mass(value, volume):
+    """The warning that an answered line has where more was weighed than a cylinder is filled with, or None: by whole numbers, of milligrams and millilitres."""
+    if not 1000 * int(value) > 750 * int(volume):
+        return None
+    return (f"{of_sheet(value, 3)} kg in {of_sheet(volume, 3)} L is more than a cylinder is filled with (750 kg/m3). "
+            "Check its volume, and that the empty cylinder's weight was taken off.")
+
+
+def of_density(rho):
+    """The same by the density of a state."""
+    if not rho > 750.0:
+        return None
+    return f"{density(rho)} kg/m3 is more than a cylinder is filled with (750 kg/m3). Check its volume and its reading."
+
+
+# the letter of a reading, also of one that is blank, says in what it is shown, and with how many places
+SHOWN = {b"P": (5, "bar"), b"D": (3, "kg/m3"), b"W": (3, "kg")}
 
 
 def of_cylinder(line, reported, first):
     """What stands under the report of one cylinder's line; `reported` is its line there, and `first` the place of the first line with its number."""
     number, temperature, kind, value, volume = line
     _, place, answered, n = reported.split(" ")
-    reading = f"{of_sheet(value, 5)} bar" if kind == b"P" else f"{of_sheet(value, 3)} kg/m3"
+    places, unit = SHOWN[kind]
     warnings = [] if b"-" in line else [of_gauge(*line)]
     if answered == "R":
         outcome = f"refused by {n}. {WORDS[int(n)]}" + (f" It stands in L {first}." if n == "30" else "")
+    elif kind == b"W":
+        outcome = f"{down(int(n))} kg, weighed"
+        warnings.append(of_mass(value, volume))
     else:
         door, over = (doors.by_pressure, 1.0) if kind == b"P" else (doors.by_density, 1000.0)
         phase, eight, _count = door(kelvin(temperature), float(int(value)) / over)
         outcome = f"{down(int(n))} kg, {density(eight[2])} kg/m3, {phase}"
-        if eight[2] > 750.0:
-            warnings.append(f"{density(eight[2])} kg/m3 is more than a cylinder is filled with (750 kg/m3). Check its volume and its reading.")
-    told = [f"{celsius(temperature)} C, {reading}, {of_sheet(volume, 3)} L: {outcome}"] + [warning for warning in warnings if warning]
+        warnings.append(of_density(eight[2]))
+    told = [f"{celsius(temperature)} C, {of_sheet(value, places)} {unit}, {of_sheet(volume, 3)} L: {outcome}"] + [warning for warning in warnings if warning]
     return [f"L {place}, cylinder {number.decode()}: {words}" for words in told]
 
 
@@ -157,7 +178,7 @@ def explanation(text):
 
 FORMS = (sheets.NEED, b"N 0\n"), (sheets.LINE, b"C 0 0 P 0 0\n")
 DIGITS = b"0123456789"
-EXPECTED = {b"N": "N", b"C": "C", b"DP": "P or D", b" ": "a space", b"\n": "LF", b"-" + DIGITS: "a digit or -", b" " + DIGITS: "a digit or a space",
+EXPECTED = {b"N": "N", b"C": "C", b"DPW": "P, D or W", b" ": "a space", b"\n": "LF", b"-" + DIGITS: "a digit or -", b" " + DIGITS: "a digit or a space",
             b"\n" + DIGITS: "a digit or LF"}
 NAMED = {b"": "the end of the text", b"\r": "CR", b"\n": "LF", b" ": "a space", b"\t": "a tab"}
 
@@ -175,7 +196,7 @@ def hint(mark, there, expected, front):
         (mark, "Save the text without it."),
         (there == b"\r", "Lines end in LF alone, not in CR LF."),
         (there == b"", "Every line ends in LF, the last too."),
-        (there == b"-" and expected == "P or D", "A blank keeps its letter: P - or D -."),
+        (there == b"-" and expected == "P, D or W", "A blank keeps its letter: P -, D - or W -."),
         (there in (b".", b","), "Every number is whole: scorer --help shows the units."),
         (digit and behind == b"0", "No number has a 0 in front."),
         (digit and behind.isdigit() and len(behind) == 10, "No number has more than ten digits."),

@@ -15,18 +15,25 @@ DATA = pathlib.Path(__file__).parent.parent / "crates" / "run_sheets" / "data"
 EXAMPLE = b"N 45000000\nC 7 - P 5000000 40000\nC 8 2000000 P 5000000 40000\n"
 NUMBER = rb"(-|0|[1-9][0-9]{0,9})"
 NEED = rb"N " + NUMBER + rb"\n"
-LINE = rb"C " + NUMBER + rb" " + NUMBER + rb" ([PD]) " + NUMBER + rb" " + NUMBER + rb"\n"
+LINE = rb"C " + NUMBER + rb" " + NUMBER + rb" ([PDW]) " + NUMBER + rb" " + NUMBER + rb"\n"
 SHEET = re.compile(NEED + rb"(?:" + LINE + rb")*")
 
 
 def milligrams(number, temperature, kind, value, volume, before):
     """Of a line, by the order of RULES 3.2; `before` has the cylinder numbers of the lines before it."""
-    if b"-" in (number, temperature, value, volume):
+    weighed = kind == b"W"
+    # RULES 6.7: the temperature of a weighed line is not looked at; one whose value is blank is refused for that
+    if b"-" in (number, value, volume) or temperature == b"-" and not weighed:
         raise doors.Refusal(1)
     if number in before:
         raise doors.Refusal(30)
     if not 1 <= int(volume) <= 1000000:
         raise doors.Refusal(2)
+    if weighed:
+        grams = int(value)
+        if not 1 <= grams <= 9999999999:
+            raise doors.Refusal(23)
+        return 1000 * grams
     t = float(int(temperature)) / 10000.0
     if kind == b"P":
         _phase, eight, _count = doors.by_pressure(t, float(int(value)))

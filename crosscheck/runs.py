@@ -88,6 +88,20 @@ run("gauge_a_little_lower_explained", ["--explain", "bank.txt"], {"bank.txt": VA
 # 2 bar on each side: the vapour pressure at 20 C is 5,729,194.42 Pa
 EDGE = b"N 1\n" + b"".join(b"C %d 2931500 P %d 67500\n" % (i, p) for i, p in enumerate((5529194, 5529195, 5929194, 5929195), 1))
 run("gauge_two_bar_away", ["--explain", "edge.txt"], {"edge.txt": EDGE})
+# the same bank weighed, README's cylinder the first: 177 kg, which is short; two of it weighed and two by their gauges, which can't tell
+WEIGHED = b"N 180000000\nC 1 - W 38500 67500\nC 2 - W 45000 67500\nC 3 2931500 W 49500 67500\nC 4 - W 44000 67500\n"
+IN_PART = b"N 180000000\nC 1 - W 38500 67500\nC 2 - W 45000 67500\nC 3 2931500 P 5730000 67500\nC 4 2931500 P 5730000 67500\n"
+run("weighed_bank", ["bank.txt"], {"bank.txt": WEIGHED})
+run("weighed_bank_explained", ["--explain", "bank.txt"], {"bank.txt": WEIGHED})
+run("weighed_in_part", ["bank.txt"], {"bank.txt": IN_PART})
+run("weighed_in_part_explained", ["--explain", "bank.txt"], {"bank.txt": IN_PART})
+# the first with its 75 kg of steel, and the bank looks covered
+STEEL = WEIGHED.replace(b"W 38500 ", b"W 113500 ")
+run("weighed_with_its_steel", ["bank.txt"], {"bank.txt": STEEL})
+run("weighed_with_its_steel_explained", ["--explain", "bank.txt"], {"bank.txt": STEEL})
+# a cylinder of 67.5 litres is filled with 50,625 g at the most
+run("weighed_a_gram_too_much", ["most.txt", "more.txt"],
+    {"most.txt": b"N 50625000\nC 1 - W 50625 67500\n", "more.txt": b"N 50625001\nC 1 - W 50626 67500\n"})
 # three cylinders, the third copied: they hold 156.6 kg, and with the copy it would be the 208.8 kg of four
 COPIED = LIQUID.replace(b"C ", b"C 2").replace(b"C 24 ", b"C 23 ")
 run("copied_line", ["bank.txt"], {"bank.txt": COPIED})
@@ -97,6 +111,9 @@ run("example_of_the_rules", ["sheet.txt"], {"sheet.txt": EXAMPLE})
 run("example_of_the_rules_explained", ["--explain", "sheet.txt"], {"sheet.txt": EXAMPLE})
 run("sheet_of_the_readme", ["sheet.txt"], {"sheet.txt": README})
 run("sheet_of_the_readme_explained", ["--explain", "sheet.txt"], {"sheet.txt": README})
+run("sheet_of_the_readme_and_one_weighed", ["--explain", "sheet.txt"], {"sheet.txt": README + b"C 4 - W 45000 67500\n"})
+THIRTEEN = b"N 13000\nC 1 - W 12 50000\nC 2 9999999999 W 1 40\n"
+run("example_of_the_rules_weighed", ["sheet.txt", "without.txt"], {"sheet.txt": THIRTEEN + b"C 3 - W 0 40\n", "without.txt": THIRTEEN})
 WINTER = b"N 45000000\nC 1 2170000 P 5000000 40000\nC 2 2531500 D 1050000 40000\nC 3 2531500 P 2500000 40000\nC 4 2531500 D 500000 40000\n"
 run("winter_explained", ["--explain", "winter.txt"], {"winter.txt": WINTER})
 run("one_milligram_missing", ["--explain", "small.txt"], {"small.txt": b"N 29\nC 1 3000000 D 290 100\n"})
@@ -111,6 +128,10 @@ run("zeros_for_blanks", ["--explain", "bank.txt"],
     {"bank.txt": b"N 180000000\nC 1 2931500 P 5730000 0\nC 2 0 P 5730000 67500\nC 3 2931500 P 0 67500\nC 4 2931500 P 6500000 67500\n"})
 run("blanks", ["--explain", "bank.txt"],
     {"bank.txt": b"N 180000000\nC - 2931500 P 5730000 67500\nC 2 - P 5730000 67500\nC 3 2931500 D - 67500\nC 4 2931500 P 5730000 -\n"})
+run("weighed_zeros", ["--explain", "bank.txt"],
+    {"bank.txt": b"N 180000000\nC 1 - W 0 67500\nC 2 0 W 45000 67500\nC 3 - W 49500 0\nC 4 - W 0 0\nC 1 - W 0 67500\n"})
+run("weighed_blanks", ["--explain", "bank.txt"],
+    {"bank.txt": b"N 180000000\nC - - W 38500 67500\nC 2 - W 45000 67500\nC 3 - W - 67500\nC 4 - W 44000 -\nC 5 - P 5730000 67500\nC 6 - D 667000 67500\n"})
 run("sent_back_whole", ["--explain", "need_blank.txt", "need_zero.txt", "no_cylinders.txt", "too_many.txt"], {
     "need_blank.txt": LIQUID.replace(b"180000000", b"-"),
     "need_zero.txt": LIQUID.replace(b"180000000", b"0"),
@@ -137,6 +158,19 @@ SLIPS = {
     "nothing.txt": b"",
 }
 run("slips_of_the_pen", ["--explain", *SLIPS], SLIPS)
+WEIGHED_SLIPS = {
+    "small_letter.txt": b"N 180000000\nC 1 - w 38500 67500\n",
+    "letter_forgotten.txt": b"N 180000000\nC 1 - 38500 67500\n",
+    "blank_without_its_letter.txt": b"N 180000000\nC 1 - - 67500\n",
+    "temperature_forgotten.txt": b"N 180000000\nC 1 W 38500 67500\n",
+    "no_space.txt": b"N 180000000\nC 1 - W38500 67500\n",
+    "in_kg.txt": b"N 180000000\nC 1 - W 38.5 67500\n",
+    "with_its_unit.txt": b"N 180000000\nC 1 - W 38500g 67500\n",
+    "volume_forgotten.txt": b"N 180000000\nC 1 - W 38500\n",
+    "another_letter.txt": b"N 180000000\nC 1 - M 38500 67500\n",
+    "both_readings.txt": b"N 180000000\nC 1 2931500 P 5730000 W 38500 67500\n",
+}
+run("slips_with_a_weighed_mass", ["--explain", *WEIGHED_SLIPS], WEIGHED_SLIPS)
 # standard input
 SMALL = b"N 13000000\nC 7 2931500 P 5728000 67500\n"
 run("standard_input", [], stdin=SMALL)
@@ -159,8 +193,8 @@ run("help", ["--help"], raw=(HELP, ""))
 run("help_by_a_letter", ["-h"], raw=(HELP, ""))
 run("help_behind_a_file", ["bank.txt", "--help"], {"bank.txt": SMALL}, raw=(HELP, ""))
 run("help_before_an_unknown_flag", ["--help", "--expain"], raw=(HELP, ""))
-run("version", ["--version"], raw=("makhroeng 1.5.0\n", ""))
-run("version_before_help", ["--version", "--help"], raw=("makhroeng 1.5.0\n", ""))
+run("version", ["--version"], raw=("makhroeng 1.6.0\n", ""))
+run("version_before_help", ["--version", "--help"], raw=("makhroeng 1.6.0\n", ""))
 THREE = {"bank.txt": SMALL, "dryer.txt": README}
 run("several_files_two_unread", ["bank.txt", "nosuch.txt", "sheets", "dryer.txt"], THREE, folder="sheets")
 run("several_files_two_unread_explained", ["bank.txt", "nosuch.txt", "sheets", "--explain", "dryer.txt"], THREE, folder="sheets")
@@ -177,7 +211,7 @@ run("warnings_where_another_line_is_refused", ["bank.txt"], {"bank.txt": DOUBTED
 run("full_disk_for_two_sheets", ["a.txt", "b.txt"], {"a.txt": EXAMPLE, "b.txt": EXAMPLE}, to="/dev/full", raw=("", "standard output: No space left on device\n"))
 run("two_dashes_twice", ["--", "--"])
 run("two_unknown_flags", ["--one", "--two"], raw=("", "--one: no such flag\n" + USAGE))
-run("version_before_an_unknown_flag", ["--version", "--two"], raw=("makhroeng 1.5.0\n", ""))
+run("version_before_an_unknown_flag", ["--version", "--two"], raw=("makhroeng 1.6.0\n", ""))
 run("a_word_too_long", ["a" * 5000, "sheet.txt"], {"sheet.txt": EXAMPLE}, raw=("== sheet.txt\n" + sheets.report(EXAMPLE), "FILE: File name too long\n"))
 # a sheet that comes in pieces: the first two lines, then the rest
 run("standard_input_in_pieces", [], stdin=LIQUID)

@@ -8,7 +8,7 @@ use lib.ListN.{length, drop, getD, drop-of-length-le}
 use borrow.Author.Tests.{ne-eqb}
 use Rattle.sheet_text.proofs.Parses.{front}
 use Rattle.sheet_line.specs.Cylinder.{kind, CylinderIs}
-use Rattle.sheet_line.specs.declared.cylinder.Kind.the-variants.{Pressure, Density}
+use Rattle.sheet_line.specs.declared.cylinder.Kind.the-variants.{Pressure, Density, Weighed}
 use Rattle.sheet_line.specs.declared.cylinder.Cylinder.{Cylinder}
 use Rattle.sheet_line.specs.declared.cylinder.CylinderAt.{CylinderAt}
 
@@ -26,9 +26,13 @@ module _ (s : List ℕ) (at : ℕ) where
     unfolding kind
     kind-density e = rw (front s at h, e)
 
-    pub kind-other : (getD s at 0 ≡ 80 → ⊥) → (getD s at 0 ≡ 68 → ⊥) → kind (drop at s) ≡ none
+    pub kind-weighed : getD s at 0 ≡ 87 → kind (drop at s) ≡ some (Weighed, drop (at + 1) s)
     unfolding kind
-    kind-other n m = rw (front s at h, ne-eqb _ _ n, ne-eqb _ _ m)
+    kind-weighed e = rw (front s at h, e)
+
+    pub kind-other : (getD s at 0 ≡ 80 → ⊥) → (getD s at 0 ≡ 68 → ⊥) → (getD s at 0 ≡ 87 → ⊥) → kind (drop at s) ≡ none
+    unfolding kind
+    kind-other n m w = rw (front s at h, ne-eqb _ _ n, ne-eqb _ _ m, ne-eqb _ _ w)
 
 pub cylinder-from : (s : List ℕ) (at from : ℕ) (p : Option (Cylinder × List ℕ)) (r : CylinderAt) → CylinderIs s from p r → at < from → CylinderIs s at p r
 cylinder-from s at from p CylinderAt.Bad x h = x

@@ -1,4 +1,4 @@
--- A field's number has at most 10 digits, so a float holds it; and the line that is read is that of the cylinder that is read.
+-- A field's number has at most 10 digits, in the record too, so a float holds it; and the line that is read is that of the cylinder that is read.
 use mathlib.Core.Path.{_≡_, refl, sym, _∙_}
 use mathlib.Core.List.{List}
 use mathlib.Core.Option.{Option, none, some}
@@ -10,8 +10,12 @@ use lib.Ieee.{binary64, inFloat, ofInt, ofBits}
 use Rattle.num_working.specs.Number.{whole}
 use Rattle.sheet_text.specs.Parse.{andThen, give}
 use Rattle.sheet_text.proofs.Parses.{read-once, none-or-some}
-use Rattle.sheet_line.specs.Cylinder.{cylinder}
+use Rattle.sheet_text.specs.Field.{Small}
+use Rattle.sheet_text.specs.declared.Field.{Field}
+use Rattle.sheet_line.specs.Cylinder.{AllSmall, cylinder}
+use Rattle.sheet_line.specs.Record.{recordedOf, recordOf, SmallReading, SmallRecord}
 use Rattle.sheet_line.specs.Line.{lineOf, line}
+use Rattle.sheet_line.specs.declared.cylinder.Kind.{Kind}
 use Rattle.sheet_line.specs.declared.cylinder.Cylinder.{Cylinder}
 use Rattle.sheet_line.specs.declared.line.Line.{Line}
 
@@ -28,6 +32,17 @@ ten-thousand = refl
 pub thousand : ofBits binary64 4652007308841189376 ≡ whole 1000
 unfolding ofBits ofInt whole
 thousand = refl
+
+-- ---- the record of a cylinder
+
+small-reading : (k : Kind) (f : Field) → Small f → SmallReading (recordedOf k f)
+small-reading k Field.Blank h = tt
+small-reading Kind.Pressure (Field.Number n) h = h
+small-reading Kind.Density (Field.Number n) h = h
+small-reading Kind.Weighed (Field.Number n) h = h
+
+pub small-record : (c : Cylinder) → AllSmall c → SmallRecord (recordOf c)
+small-record c h = record { temperature = h .temperature; reading = small-reading (c .kind) (c .value) (h .value) }
 
 -- ---- the cylinder of a line
 

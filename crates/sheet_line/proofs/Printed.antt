@@ -12,7 +12,7 @@ use Rattle.sheet_text.proofs.Parses.{All, bind-all, pass-all, Says, then-says, 
 use Rattle.sheet_text.proofs.Printed.{to-back, to-says, to-small, after-back, after-says, after-small}
 use Rattle.sheet_line.specs.Cylinder.{kindLetter, cylinderText, AllSmall, kind, reading, cylinder}
 use Rattle.sheet_line.specs.declared.cylinder.Kind.{Kind}
-use Rattle.sheet_line.specs.declared.cylinder.Kind.the-variants.{Pressure, Density}
+use Rattle.sheet_line.specs.declared.cylinder.Kind.the-variants.{Pressure, Density, Weighed}
 use Rattle.sheet_line.specs.declared.cylinder.Cylinder.{Cylinder}
 
 -- ---- the text of a line with what follows it, part by part
@@ -37,6 +37,7 @@ kind-back : (k : Kind) (rest : List ℕ) → kind (kindLetter k ∷ rest) ≡ so
 unfolding kind
 kind-back Pressure rest = refl
 kind-back Density rest = refl
+kind-back Weighed rest = refl
 
 pub cylinder-back : (c : Cylinder) → AllSmall c → (rest : List ℕ) → cylinder (cylinderText c ++ rest) ≡ some (c, rest)
 unfolding cylinder reading
@@ -58,7 +59,8 @@ unfolding kind
 kind-says [] = tt
 kind-says (x ∷ rest) =
     by-test (Says (λ (k : Kind). kindLetter k ∷ []) (x ∷ rest)) (eqb x 80) _ _ (λ e. ap (λ (y : ℕ). y ∷ rest) (eqb-true x 80 e))
-    (λ _. by-test (Says (λ (k : Kind). kindLetter k ∷ []) (x ∷ rest)) (eqb x 68) _ _ (λ e. ap (λ (y : ℕ). y ∷ rest) (eqb-true x 68 e)) (λ _. tt))
+    (λ _. by-test (Says (λ (k : Kind). kindLetter k ∷ []) (x ∷ rest)) (eqb x 68) _ _ (λ e. ap (λ (y : ℕ). y ∷ rest) (eqb-true x 68 e))
+    (λ _. by-test (Says (λ (k : Kind). kindLetter k ∷ []) (x ∷ rest)) (eqb x 87) _ _ (λ e. ap (λ (y : ℕ). y ∷ rest) (eqb-true x 87 e)) (λ _. tt)))
 
 pub cylinder-says : (u : List ℕ) → Says cylinderText u (cylinder u)
 unfolding cylinder reading

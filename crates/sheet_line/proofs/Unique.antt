@@ -4,16 +4,18 @@ use mathlib.Core.Path.{_≡_, refl}
 use mathlib.Core.List.{List}
 use mathlib.Core.Option.{Option}
 use Prim.Native.Nat.{ℕ}
-use Rattle.num_working.proofs.Unique.{OneAnswer}
+use Rattle.num_working.proofs.Unique.{OneAnswer, by-equation}
 use Rattle.sheet_text.proofs.Parses.{none-or-some}
 use Rattle.sheet_text.proofs.Places.{leaves-once}
 use Rattle.sheet_line.specs.Cylinder.{CylinderIs}
 use Rattle.sheet_line.specs.Line.{LineIs}
 use Rattle.sheet_line.specs.declared.cylinder.Cylinder.{Cylinder}
 use Rattle.sheet_line.specs.declared.cylinder.CylinderAt.{CylinderAt}
+use Rattle.sheet_line.specs.declared.record.Record.{Record}
 use Rattle.sheet_line.specs.declared.line.Line.{Line}
 use Rattle.sheet_line.specs.declared.line.LineAt.{LineAt}
 use Rattle.sheet_line.proofs.cylinder.read_cylinder.Reads as read-cylinder
+use Rattle.sheet_line.proofs.record.record_of.Reads as record-of
 use Rattle.sheet_line.proofs.line.read_line.Reads as read-line
 
 line-is-once : (s : List ℕ) (at : ℕ) (p : Option (Line × List ℕ)) (r t : LineAt) → LineIs s at p r → LineIs s at p t → r ≡ t
@@ -34,3 +36,6 @@ cylinder-is-once s at p (CylinderAt.Found c n) (CylinderAt.Found d m) x y = let 
 
 pub read-cylinder-once : (κs : Lfts 1) → OneAnswer CylinderAt (read-cylinder.Post κs)
 read-cylinder-once κs a r s x y = cylinder-is-once _ _ _ r s
+
+pub record-of-once : OneAnswer Record (record-of.Post tt)
+record-of-once a r s x y = by-equation

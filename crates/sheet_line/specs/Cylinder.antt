@@ -10,17 +10,18 @@ use Rattle.sheet_text.specs.Field.{Small, fieldText, fieldTo, fieldAfter}
 use Rattle.sheet_text.specs.Place.{Leaves}
 use Rattle.sheet_text.specs.declared.Field.{Field}
 use Rattle.sheet_line.specs.declared.cylinder.Kind.{Kind}
-use Rattle.sheet_line.specs.declared.cylinder.Kind.the-variants.{Pressure, Density}
+use Rattle.sheet_line.specs.declared.cylinder.Kind.the-variants.{Pressure, Density, Weighed}
 use Rattle.sheet_line.specs.declared.cylinder.KindAt.{KindAt}
 use Rattle.sheet_line.specs.declared.cylinder.Cylinder.{Cylinder}
 use Rattle.sheet_line.specs.declared.cylinder.CylinderAt.{CylinderAt}
 
 -- ---- as text: `C` is 67, a space 32, LF 10
 
--- `P` or `D`
+-- `P`, `D` or `W`
 abbrev pub kindLetter : Kind → ℕ
 kindLetter Pressure = 80
 kindLetter Density = 68
+kindLetter Weighed = 87
 
 unfoldable pub cylinderText : Cylinder → List ℕ
 cylinderText c =
@@ -35,12 +36,15 @@ pub record AllSmall (c : Cylinder) : Type 0 where
 
 -- ---- from text
 
--- `P` or `D`
+-- `P`, `D` or `W`
 unfoldable pub kind : Parser Kind
 kind [] = none
-kind (b ∷ rest) = cond (eqb b 80) (some (Pressure, rest)) (cond (eqb b 68) (some (Density, rest)) none)
+kind (b ∷ rest) =
+    cond (eqb b 80) (some (Pressure, rest))
+    (cond (eqb b 68) (some (Density, rest))
+    (cond (eqb b 87) (some (Weighed, rest)) none))
 
--- `P` or `D`, the value and the volume, after a number and a temperature
+-- `P`, `D` or `W`, the value and the volume, after a number and a temperature
 unfoldable pub reading : Field → Field → Parser Cylinder
 reading number temperature = do
   k ← kind

@@ -1,2 +1,3 @@
 pub mod Cylinder
+pub mod Record
 pub mod Line

@@ -9,8 +9,10 @@ use Rattle.sheet_text.specs.Parse.{Parser, _>>=_, give}
 use Rattle.sheet_text.specs.Place.{Leaves}
 use Rattle.sheet_text.specs.declared.Field.{Field}
 use Rattle.sheet_line.specs.Cylinder.{cylinder}
-use Rattle.sheet_line.specs.declared.cylinder.Kind.{Kind}
+use Rattle.sheet_line.specs.Record.{recordOf}
 use Rattle.sheet_line.specs.declared.cylinder.Cylinder.{Cylinder}
+use Rattle.sheet_line.specs.declared.record.Recorded.{Recorded}
+use Rattle.sheet_line.specs.declared.record.Record.{Record}
 use Rattle.sheet_line.specs.declared.line.Temperature.{Temperature}
 use Rattle.sheet_line.specs.declared.line.Reading.{Reading}
 use Rattle.sheet_line.specs.declared.line.Line.{Line}
@@ -21,14 +23,19 @@ abbrev pub temperatureOf : Field → Temperature
 temperatureOf Field.Blank = Temperature.Blank
 temperatureOf (Field.Number n) = Temperature.Kelvin (div binary64 (whole n) (whole 10000))
 
--- a figure stays with its kind, and a blank has none: a pressure is the number, in Pa, a density the number over 1000, in kg/m³, one division
-abbrev pub readingOf : Kind → Field → Reading
-readingOf k Field.Blank = Reading.Blank
-readingOf Kind.Pressure (Field.Number n) = Reading.Pressure (whole n)
-readingOf Kind.Density (Field.Number n) = Reading.Density (div binary64 (whole n) (whole 1000))
+-- a pressure is the number, in Pa, a density the number over 1000, in kg/m³, one division; grams stay what they are
+abbrev pub readingOf : Recorded → Reading
+readingOf Recorded.Blank = Reading.Blank
+readingOf (Recorded.Pressure n) = Reading.Pressure (whole n)
+readingOf (Recorded.Density n) = Reading.Density (div binary64 (whole n) (whole 1000))
+readingOf (Recorded.Weighed g) = Reading.Weighed g
+
+-- of a record, and so of a cylinder's line as it is written
+abbrev pub lineFrom : Record → Line
+lineFrom r = record { number = r .number; temperature = temperatureOf (r .temperature); reading = readingOf (r .reading); volume = r .volume }
 
 abbrev pub lineOf : Cylinder → Line
-lineOf c = record { number = c .number; temperature = temperatureOf (c .temperature); reading = readingOf (c .kind) (c .value); volume = c .volume }
+lineOf c = lineFrom (recordOf c)
 
 -- where a sheet has no line
 abbrev pub blankLine : Line

@@ -1,4 +1,4 @@
-// RULES 6.1 and 6.3: a cylinder's line as it is written: `C`, the cylinder number, the temperature, `P` or `D`, the
+// RULES 6.1 and 6.3: a cylinder's line as it is written: `C`, the cylinder number, the temperature, `P`, `D` or `W`, the
 // value, and the volume.
 ghost use lib.ListN.{drop};
 ghost use Rattle.sheet_line.specs.Cylinder.{kind, reading, cylinder, KindIs, CylinderIs};
@@ -12,6 +12,7 @@ use sheet_text::skip;
 pub enum Kind {
     Pressure,
     Density,
+    Weighed,
 }
 
 // A kind and the place after it.
@@ -46,6 +47,9 @@ fn read_kind(s: &[u8], at: usize) -> KindAt
     }
     if b == b'D' {
         return KindAt::Found(Kind::Density, at + 1);
+    }
+    if b == b'W' {
+        return KindAt::Found(Kind::Weighed, at + 1);
     }
     KindAt::Bad
 }

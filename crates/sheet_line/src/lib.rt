@@ -1,3 +1,4 @@
-// A cylinder's line of the sheet: as it is written (RULES 6.3), and what it says (RULES 6.4).
+// A cylinder's line of the sheet: as it is written (RULES 6.3), in whole numbers and in figures (RULES 6.4).
 pub mod cylinder;
 pub mod line;
+pub mod record;

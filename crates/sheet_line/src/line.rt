@@ -1,13 +1,18 @@
-// RULES 6.4: what a cylinder's line says, its figures in K, Pa and kg/m³. A blank holds no number.
+// RULES 6.4: what a cylinder's line says, its figures in K, Pa and kg/m³, or the grams of a scale. A blank holds no
+// number.
 ghost use mathlib.Core.Path.{_≡_};
 ghost use lib.ListN.{drop};
 ghost use Rattle.sheet_text.specs.Field.{Small};
 ghost use Rattle.sheet_line.specs.Cylinder.{AllSmall};
-ghost use Rattle.sheet_line.specs.Line.{temperatureOf, readingOf, lineOf, line, LineIs};
+ghost use Rattle.sheet_line.specs.Record.{SmallReading, SmallRecord};
+ghost use Rattle.sheet_line.specs.Line.{temperatureOf, readingOf, lineFrom, lineOf, line, LineIs};
 use crate::cylinder::Cylinder;
 use crate::cylinder::CylinderAt;
-use crate::cylinder::Kind;
 use crate::cylinder::read_cylinder;
+use crate::record::Record;
+use crate::record::Recorded;
+use crate::record::record_of;
+use sheet_mass::Grams;
 use sheet_text::Field;
 
 pub enum Temperature {
@@ -20,6 +25,7 @@ pub enum Reading {
     Blank,
     Pressure(f64),
     Density(f64),
+    Weighed(Grams),
 }
 
 pub struct Line {
@@ -46,17 +52,34 @@ fn temperature_of(f: Field) -> Temperature
     }
 }
 
-// From Pa, or g/m³.
-fn reading_of(k: Kind, f: Field) -> Reading
-    requires { ⌜ Small f ⌝ }
-    ensures { λ r. ⌜ r ≡ readingOf k f ⌝ }
+// From Pa or g/m³; grams stay grams.
+fn reading_of(x: Recorded) -> Reading
+    requires { ⌜ SmallReading x ⌝ }
+    ensures { λ r. ⌜ r ≡ readingOf x ⌝ }
 {
-    match f {
-        Field::Blank => Reading::Blank,
-        Field::Number(n) => match k {
-            Kind::Pressure => Reading::Pressure(n as f64),
-            Kind::Density => Reading::Density(n as f64 / 1000.0),
-        },
+    match x {
+        Recorded::Blank => Reading::Blank,
+        Recorded::Pressure(n) => Reading::Pressure(n as f64),
+        Recorded::Density(n) => Reading::Density(n as f64 / 1000.0),
+        Recorded::Weighed(g) => Reading::Weighed(g),
+    }
+}
+
+fn line_from(r: Record) -> Line
+    requires { ⌜ SmallRecord r ⌝ }
+    ensures { λ l. ⌜ l ≡ lineFrom r ⌝ }
+{
+    let number = r.number;
+    let temperature = r.temperature;
+    let recorded = r.reading;
+    let volume = r.volume;
+    let kelvin = temperature_of(temperature);
+    let reading = reading_of(recorded);
+    Line {
+        number: number,
+        temperature: kelvin,
+        reading: reading,
+        volume: volume,
     }
 }
 
@@ -64,19 +87,7 @@ fn line_of(c: Cylinder) -> Line
     requires { ⌜ AllSmall c ⌝ }
     ensures { λ r. ⌜ r ≡ lineOf c ⌝ }
 {
-    let number = c.number;
-    let temperature = c.temperature;
-    let kind = c.kind;
-    let value = c.value;
-    let volume = c.volume;
-    let kelvin = temperature_of(temperature);
-    let reading = reading_of(kind, value);
-    Line {
-        number: number,
-        temperature: kelvin,
-        reading: reading,
-        volume: volume,
-    }
+    line_from(record_of(c))
 }
 
 pub fn read_line(s: &[u8], at: usize) -> LineAt

@@ -5,6 +5,7 @@ use Prim.Native.Nat.{ℕ, _≤_, _<_}
 use native.Mathlib.Omega.{arith}
 use lib.ListN.{length, getD, length-map}
 use lib.Seq.{getD-take, length-take-le}
+use Rattle.sheet_mass.specs.Mass.{asMilligrams}
 use Rattle.sheet_outcome.specs.Outcome.{marksOf}
 use Rattle.sheet_outcome.specs.declared.Weighed.{Weighed}
 use Rattle.sheet_outcome.specs.declared.Mark.{Mark}
@@ -16,7 +17,7 @@ unmapped X Y f l n p = sym (length-map l f) ∙ p
 
 -- what is read past an array's end
 abbrev pub pastEnd : Mark
-pastEnd = record { weighed = Weighed.Mass 0 }
+pastEnd = record { weighed = Weighed.Mass (asMilligrams 0) }
 
 abbrev pub markAt : Marks → ℕ → Mark
 markAt m i = getD (m .marks) i pastEnd

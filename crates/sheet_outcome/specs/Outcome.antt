@@ -5,6 +5,7 @@ use mathlib.Core.List.{List, [], _∷_}
 use lib.Dec.{leb, ltb, eqb}
 use lib.ListN.{take}
 use Rattle.sheet_text.specs.declared.Field.{Field}
+use Rattle.sheet_mass.specs.Mass.{asMilligrams}
 use Rattle.sheet_outcome.specs.declared.Weighed.{Weighed}
 use Rattle.sheet_outcome.specs.declared.Mark.{Mark}
 use Rattle.sheet_outcome.specs.declared.Marks.{Marks}
@@ -38,13 +39,13 @@ abbrev pub marksOf : Marks → List Mark
 marksOf m = take (m .count) (m .marks)
 
 abbrev pub plus : Weighed → Summed → Summed
-plus (Weighed.Mass mg) (Summed.Sum rest) = Summed.Sum (mg + rest)
+plus (Weighed.Mass mg) (Summed.Sum rest) = Summed.Sum (asMilligrams (mg .0 + rest .0))
 plus (Weighed.Mass mg) Summed.Refused = Summed.Refused
 plus (Weighed.Refused n) t = Summed.Refused
 
 -- the exact sum of the lines' milligrams, or that some line was refused
 unfoldable pub total : List Mark → Summed
-total [] = Summed.Sum 0
+total [] = Summed.Sum (asMilligrams 0)
 total (m ∷ ms) = plus (m .weighed) (total ms)
 
 -- ---- after them
@@ -52,4 +53,4 @@ total (m ∷ ms) = plus (m .weighed) (total ms)
 -- 13 where some line was refused; else covered where the sum is the need or more, and short where it is less
 unfoldable pub ending : ℕ → Summed → Ending
 ending need Summed.Refused = Ending.SentBack 13
-ending need (Summed.Sum mg) = cond (leb need mg) (Ending.Covered mg) (Ending.Short mg)
+ending need (Summed.Sum mg) = cond (leb need (mg .0)) (Ending.Covered mg) (Ending.Short mg)

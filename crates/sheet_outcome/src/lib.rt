@@ -2,11 +2,12 @@
 // and its ending after.
 ghost use mathlib.Core.Path.{_≡_};
 ghost use Rattle.sheet_outcome.specs.Outcome.{isNeed, needed, admitted, ending};
+use sheet_mass::Milligrams;
 use sheet_text::Field;
 
 // A cylinder line's milligrams, or the number of its refusal.
 pub enum Weighed {
-    Mass(u64),
+    Mass(Milligrams),
     Refused(u8),
 }
 
@@ -23,8 +24,8 @@ pub struct Marks {
 
 // The total's milligrams and what they come to, or the number that the sheet is sent back with.
 pub enum Ending {
-    Covered(u64),
-    Short(u64),
+    Covered(Milligrams),
+    Short(Milligrams),
     SentBack(u8),
 }
 
@@ -42,7 +43,7 @@ pub enum Admitted {
 
 // The milligrams of all lines, or that some line was refused.
 pub enum Summed {
-    Sum(u64),
+    Sum(Milligrams),
     Refused,
 }
 
@@ -86,7 +87,7 @@ pub fn conclude(need: u64, t: Summed) -> Ending
     let Summed::Sum(mg) = t else {
         return Ending::SentBack(13);
     };
-    if mg >= need {
+    if mg.0 >= need {
         return Ending::Covered(mg);
     }
     Ending::Short(mg)

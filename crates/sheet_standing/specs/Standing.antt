@@ -1,4 +1,4 @@
--- RULES 3.2 and 6.6: the first checks of a line, before it is worked, by its own fields and by the cylinder numbers of the lines before it. Definitions only.
+-- RULES 3.2, 6.6 and 6.7: the first checks of a line, before it is worked, by its own fields and by the cylinder numbers of the lines before it. Definitions only.
 use Prim.Native.Nat.{ℕ, _+_}
 use mathlib.Core.Bool.{Bool, true, false, cond, _||_}
 use mathlib.Core.List.{List, [], _∷_}
@@ -10,29 +10,31 @@ use Rattle.sheet_line.specs.declared.line.Temperature.{Temperature}
 use Rattle.sheet_line.specs.declared.line.Reading.{Reading}
 use Rattle.sheet_line.specs.declared.line.Line.{Line}
 
--- ---- 1: one of the four fields of a line is blank
+-- ---- 1: a field that the line requires is blank
 
 -- its cylinder number
 abbrev pub ifNumbered : Field → (ℕ → Check) → Check
 ifNumbered Field.Blank f = No 1
 ifNumbered (Field.Number n) f = f n
 
--- its temperature, its volume or its value
-abbrev pub noTemperature : Temperature → Bool
-noTemperature Temperature.Blank = true
-noTemperature (Temperature.Kelvin t) = false
-
+-- its volume, or its value
 abbrev pub noVolume : Field → Bool
 noVolume Field.Blank = true
 noVolume (Field.Number v) = false
 
-abbrev pub noReading : Reading → Bool
-noReading Reading.Blank = true
-noReading (Reading.Pressure p) = false
-noReading (Reading.Density d) = false
+abbrev pub noTemperature : Temperature → Bool
+noTemperature Temperature.Blank = true
+noTemperature (Temperature.Kelvin t) = false
+
+-- with the temperature, where a door is asked: a mass that was weighed requires none
+abbrev pub noReading : Temperature → Reading → Bool
+noReading k Reading.Blank = true
+noReading k (Reading.Pressure p) = noTemperature k
+noReading k (Reading.Density d) = noTemperature k
+noReading k (Reading.Weighed g) = false
 
 unfoldable pub lacking : Line → Bool
-lacking l = noTemperature (l .temperature) || (noVolume (l .volume) || noReading (l .reading))
+lacking l = noVolume (l .volume) || noReading (l .temperature) (l .reading)
 
 -- ---- 30: a line before it has its cylinder number
 

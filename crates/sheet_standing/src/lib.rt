@@ -1,8 +1,8 @@
-// RULES 3.2 and 6.6: the first checks of a line, before it is worked: 1, where a field of it is blank, and 30, where a line
-// before it has its cylinder number. And the first line that has a number (RULES 14.3).
+// RULES 3.2, 6.6 and 6.7: the first checks of a line, before it is worked: 1, where a field that it requires is blank, and
+// 30, where a line before it has its cylinder number. And the first line that has a number (RULES 14.3).
 ghost use mathlib.Core.Path.{_≡_};
 ghost use mathlib.Core.List.{[], _∷_};
-ghost use Rattle.sheet_standing.specs.Standing.{lacking, isOn, numbers, standing, firstWith};
+ghost use Rattle.sheet_standing.specs.Standing.{noTemperature, lacking, isOn, numbers, standing, firstWith};
 use door_checks::Check;
 use sheet_line::line::Line;
 use sheet_line::line::Reading;
@@ -10,23 +10,30 @@ use sheet_line::line::Temperature;
 use sheet_read::Sheet;
 use sheet_text::Field;
 
-// Of the fields but the cylinder number.
+fn is_blank(k: Temperature) -> bool
+    ensures { λ r. ⌜ r ≡ noTemperature k ⌝ }
+{
+    match k {
+        Temperature::Blank => true,
+        Temperature::Kelvin(_) => false,
+    }
+}
+
+// Of the fields but the cylinder number. A reading that asks a door takes the temperature with it.
 fn is_lacking(l: Line) -> bool
     ensures { λ r. ⌜ r ≡ lacking l ⌝ }
 {
     let temperature = l.temperature;
     let reading = l.reading;
     let volume = l.volume;
-    let Temperature::Kelvin(_) = temperature else {
-        return true;
-    };
     let Field::Number(_) = volume else {
         return true;
     };
     match reading {
         Reading::Blank => true,
-        Reading::Pressure(_) => false,
-        Reading::Density(_) => false,
+        Reading::Pressure(_) => is_blank(temperature),
+        Reading::Density(_) => is_blank(temperature),
+        Reading::Weighed(_) => false,
     }
 }
 

@@ -10,9 +10,8 @@ use borrow.Author.Tests.{leb-true}
 use Rattle.num_working.specs.Number.{whole}
 use Rattle.num_whole.specs.Whole.{wholeBelow}
 use Rattle.num_whole.specs.declared.Below.{Below}
-use Rattle.door_answers.specs.declared.Answer.{Answer}
 use Rattle.sheet_outcome.specs.declared.Weighed.{Weighed}
-use Rattle.sheet_weigh.specs.Weighing.{isVolume, mass, milligrams, byAnswer, filled}
+use Rattle.sheet_weigh.specs.Weighing.{isVolume, filled, mass, milligrams}
 
 pub in-float : (v : ℕ) → v ≤ 1_000_000 → T (inFloat binary64 (pos v))
 unfolding inFloat
@@ -25,10 +24,10 @@ pub mass-of : (rho : Float) (v : ℕ) (b : Below) → b ≡ wholeBelow (mul bina
 unfolding milligrams
 mass-of rho v b e = ap mass e
 
-pub out-of-range : (v : ℕ) (a : Answer) → isVolume v ≡ false → Weighed.Refused 2 ≡ filled v a
+pub out-of-range : (v : ℕ) (w : Weighed) → isVolume v ≡ false → Weighed.Refused 2 ≡ filled v w
 unfolding filled
-out-of-range v a e = rw e refl
+out-of-range v w e = rw e refl
 
-pub in-range : (v : ℕ) (a : Answer) → isVolume v ≡ true → byAnswer a v ≡ filled v a
+pub in-range : (v : ℕ) (w : Weighed) → isVolume v ≡ true → w ≡ filled v w
 unfolding filled
-in-range v a e = rw e refl
+in-range v w e = rw e refl

@@ -2,26 +2,33 @@
 use mathlib.Core.Path.{_≡_, refl}
 use mathlib.Core.List.{List}
 use Prim.Native.Nat.{ℕ, _^_, _<_}
+use native.Mathlib.Omega.{arith}
 use lib.Ieee.{Float, binary64, mul}
 use Rattle.num_working.specs.Number.{whole}
 use Rattle.num_working.proofs.Cases.{by-test}
 use Rattle.num_whole.specs.Whole.{wholeBelow}
 use Rattle.num_whole.specs.declared.Below.{Below}
 use Rattle.num_whole.proofs.Wholes.{is-at-or-below}
+use Rattle.equation.specs.Equation.{of1996}
 use Rattle.door_limits.specs.declared.Limits.{Limits}
 use Rattle.door_checks.specs.declared.Check.{Check}
 use Rattle.door_answers.specs.declared.Answer.{Answer}
+use Rattle.door_pressure.specs.PressureDoor.{pressureDoor}
+use Rattle.door_density.specs.DensityDoor.{densityDoor}
 use Rattle.sheet_text.specs.declared.Field.{Field}
+use Rattle.sheet_mass.specs.Mass.{fromScale}
+use Rattle.sheet_mass.specs.declared.Scaled.{Scaled}
+use Rattle.sheet_mass.proofs.Masses.{Most, scaled-most}
 use Rattle.sheet_line.specs.declared.line.Temperature.{Temperature}
 use Rattle.sheet_line.specs.declared.line.Reading.{Reading}
 use Rattle.sheet_line.specs.declared.line.Line.{Line}
 use Rattle.sheet_standing.specs.Standing.{standing}
 use Rattle.sheet_outcome.specs.declared.Weighed.{Weighed}
-use Rattle.sheet_weigh.specs.Weighing.{ifNumber, ifKelvin, isVolume, mass, milligrams, byAnswer, filled, ifPassed, byReading, weighed, weighedAfter}
+use Rattle.sheet_weigh.specs.Weighing.{ifNumber, ifKelvin, isVolume, filled, onScale, mass, milligrams, byAnswer, ifPassed, byReading, weighed, weighedAfter}
 
 -- one that was refused has none
 abbrev pub Under : Weighed → Type 0
-Under (Weighed.Mass mg) = mg < 2 ^ 53
+Under (Weighed.Mass mg) = mg .0 < 2 ^ 53
 Under (Weighed.Refused n) = Unit {0}
 
 mass-under : (x : Float) (b : Below) → wholeBelow x ≡ b → Under (mass b)
@@ -41,9 +48,13 @@ kelvin-under : (k : Temperature) (g : Float → Weighed) → ((t : Float) → Un
 kelvin-under Temperature.Blank g h = tt
 kelvin-under (Temperature.Kelvin t) g h = h t
 
-filled-under : (v : ℕ) (a : Answer) → Under (filled v a)
+scaled-under : (s : Scaled) → Most s → Under (onScale s)
+scaled-under (Scaled.At mg) h = omega (arith, h)
+scaled-under Scaled.Out h = tt
+
+filled-under : (v : ℕ) (w : Weighed) → Under w → Under (filled v w)
 unfolding filled
-filled-under v a = by-test Under (isVolume v) (byAnswer a v) (Weighed.Refused 2) (λ _. answered-under a v) (λ _. tt)
+filled-under v w u = by-test Under (isVolume v) w (Weighed.Refused 2) (λ _. u) (λ _. tt)
 
 passed-under : (c : Check) (w : Weighed) → Under w → Under (ifPassed c w)
 passed-under (Check.No n) w u = tt
@@ -53,8 +64,9 @@ module _ (L : Limits) where
   reading-under : (k : Temperature) (v : ℕ) (r : Reading) → Under (byReading L k v r)
   unfolding byReading
   reading-under k v Reading.Blank = tt
-  reading-under k v (Reading.Pressure p) = kelvin-under k _ (λ t. filled-under v _)
-  reading-under k v (Reading.Density d) = kelvin-under k _ (λ t. filled-under v _)
+  reading-under k v (Reading.Pressure p) = kelvin-under k _ (λ t. filled-under v _ (answered-under (pressureDoor of1996 L t p) v))
+  reading-under k v (Reading.Density d) = kelvin-under k _ (λ t. filled-under v _ (answered-under (densityDoor of1996 L t d) v))
+  reading-under k v (Reading.Weighed g) = filled-under v _ (scaled-under (fromScale g) (scaled-most g))
 
   pub weighed-under : (l : Line) → Under (weighed L l)
   unfolding weighed

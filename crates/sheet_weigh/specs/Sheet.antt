@@ -4,6 +4,7 @@ use mathlib.Core.Path.{_≡_}
 use mathlib.Core.List.{List, [], _∷_, _++_}
 use lib.ListN.{length, take, getD}
 use Rattle.door_limits.specs.declared.Limits.{Limits}
+use Rattle.sheet_mass.specs.declared.Milligrams.{Milligrams}
 use Rattle.sheet_line.specs.declared.line.Line.{Line}
 use Rattle.sheet_read.specs.Padded.{padded}
 use Rattle.sheet_read.specs.declared.SheetRead.{SheetRead}
@@ -45,4 +46,4 @@ module _ (L : Limits) where
 
 -- ---- what code inside asks for, to add: each line's milligrams are below 2⁵³
 abbrev pub Light : List Mark → Type 0
-Light ms = (i mg : ℕ) (d : Mark) → i < length ms → getD ms i d .weighed ≡ Weighed.Mass mg → mg < 2 ^ 53
+Light ms = (i : ℕ) (mg : Milligrams) (d : Mark) → i < length ms → getD ms i d .weighed ≡ Weighed.Mass mg → mg .0 < 2 ^ 53

@@ -1,13 +1,14 @@
-// RULES 3.2, 3.4, 6.5 and 6.6: what comes of a line, refused by 1, 30, 2, its door or 7, in this order, or its milligrams;
-// and of a sheet, sent back by 14, 10, 11, 12 or 13, in this order, or the total.
+// RULES 3.2, 3.4, 6.5, 6.6 and 6.7: what comes of a line, refused by 1, 30, 2, 23, its door or 7, in this order, or its
+// milligrams; and of a sheet, sent back by 14, 10, 11, 12 or 13, in this order, or the total.
 ghost use mathlib.Core.Path.{_≡_};
 ghost use mathlib.Core.List.{[]};
 ghost use Prim.Native.Nat.{_≤_};
 ghost use lib.ListN.{take};
+ghost use Rattle.sheet_mass.specs.Mass.{fromScale};
 ghost use Rattle.sheet_outcome.specs.Outcome.{marksOf, total};
 ghost use Rattle.sheet_outcome.specs.declared.Admitted.{Admitted};
 ghost use Rattle.sheet_line.specs.declared.line.Reading.{Reading};
-ghost use Rattle.sheet_weigh.specs.Weighing.{isVolume, milligrams, byAnswer, byReading, weighed, weighedAfter};
+ghost use Rattle.sheet_weigh.specs.Weighing.{isVolume, milligrams, byAnswer, onScale, filled, byReading, weighed, weighedAfter};
 ghost use Rattle.sheet_weigh.specs.Sheet.{marksFor, finished, marked, outcome, Light};
 use door_answers::Answer;
 use door_answers::refusal_number;
@@ -21,6 +22,10 @@ use num_whole::whole_below;
 use sheet_line::line::Line;
 use sheet_line::line::Reading;
 use sheet_line::line::Temperature;
+use sheet_mass::Grams;
+use sheet_mass::Milligrams;
+use sheet_mass::Scaled;
+use sheet_mass::from_scale;
 use sheet_outcome::Admitted;
 use sheet_outcome::Ending;
 use sheet_outcome::Mark;
@@ -48,7 +53,7 @@ fn milligrams(rho: f64, v: u64) -> Weighed
     let Below::At(mg) = whole_below(rho * (v as f64)) else {
         return Weighed::Refused(7);
     };
-    Weighed::Mass(mg)
+    Weighed::Mass(Milligrams(mg))
 }
 
 // By the state's density, or the door's refusal handed on.
@@ -86,6 +91,19 @@ fn by_density(limits: Limits, k: Temperature, d: f64, v: u64) -> Weighed
     by_answer(from_density(limits, t, d), v)
 }
 
+// No door is asked, and no temperature.
+fn by_scale(g: Grams, v: u64) -> Weighed
+    ensures { λ r. ⌜ r ≡ filled v (onScale (fromScale g)) ⌝ }
+{
+    if !is_volume(v) {
+        return Weighed::Refused(2);
+    }
+    let Scaled::At(mg) = from_scale(g) else {
+        return Weighed::Refused(23);
+    };
+    Weighed::Mass(mg)
+}
+
 // A reading that asks a door takes the temperature with it.
 fn by_reading(limits: Limits, k: Temperature, v: u64, r: Reading) -> Weighed
     ensures { λ w. ⌜ w ≡ byReading limits k v r ⌝ }
@@ -94,6 +112,7 @@ fn by_reading(limits: Limits, k: Temperature, v: u64, r: Reading) -> Weighed
         Reading::Blank => Weighed::Refused(1),
         Reading::Pressure(p) => by_pressure(limits, k, p, v),
         Reading::Density(d) => by_density(limits, k, d, v),
+        Reading::Weighed(g) => by_scale(g, v),
     }
 }
 
@@ -168,10 +187,10 @@ fn total(m: Marks) -> Summed
         let Weighed::Mass(mg) = w else {
             return Summed::Refused;
         };
-        sum += mg;
+        sum += mg.0;
         i += 1;
     }
-    Summed::Sum(sum)
+    Summed::Sum(Milligrams(sum))
 }
 
 // A sheet that is sent back before its lines are worked.

@@ -11,11 +11,11 @@ returns c = rw (c .enum-told .given .1)
 
 returns-2 : tie.Need-returns-2
 unfolding ending
-returns-2 c = rw (c .before .before .t .given .1, le-leb _ _ (c .if1 .taken))
+returns-2 c = rw (c .before .before .before .t .given .1, le-leb _ _ (c .if1 .taken))
 
 returns-3 : tie.Need-returns-3
 unfolding ending
-returns-3 c = rw (c .before .before .t .given .1, lt-leb _ _ (c .if1 .left))
+returns-3 c = rw (c .before .before .before .t .given .1, lt-leb _ _ (c .if1 .left))
 
 pub conclude-spec : {M : Type 1} → statement M
 conclude-spec =

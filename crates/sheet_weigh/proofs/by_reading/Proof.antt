@@ -1,4 +1,4 @@
--- A blank is refused by 1; a pressure goes to the one door, a density to the other. Assumes nothing.
+-- A blank is refused by 1; a pressure goes to the one door, a density to the other, and grams to none. Assumes nothing.
 use mathlib.Core.Path.{_∙_}
 use borrow.Author.Needs.{needs}
 use Rattle.sheet_weigh.specs.Weighing.{byReading}
@@ -15,6 +15,10 @@ returns-2 c = rw (c .before .before .r .given .1) (c .by-pressure .ensures)
 returns-3 : tie.Need-returns-3
 returns-3 c = rw (c .before .before .r2 .given .1) (c .by-density .ensures)
 
+returns-4 : tie.Need-returns-4
+unfolding byReading
+returns-4 c = rw (c .before .before .r3 .given .1) (c .by-scale .ensures)
+
 pub by-reading-spec : {M : Type 1} → statement M
 by-reading-spec =
     tie.close
@@ -24,6 +28,9 @@ by-reading-spec =
     (λ c κs. search needs)
     (λ c. search needs)
     (λ c κs. search needs)
+    (λ c. search needs)
+    (λ c κs. search needs)
     returns
     returns-2
-    returns-3)
+    returns-3
+    returns-4)

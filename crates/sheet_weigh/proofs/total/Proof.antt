@@ -31,11 +31,11 @@ returns c =
 -- the milligrams that a turn comes to
 add-sum : tie.Need-add-sum Inv-loop μ-loop
 add-sum c =
-    let l = c .before .before .before .before .before in
+    let l = c .before .before .before .before .before .before in
     let m = l .before .args .t1 in
     let size : length (m .marks) ≡ 32 = search (needs, unmapped) in
     let h = counted m size (omega arith) in
-    let w = mark-there m size (omega arith) (l .loop .i) _ (omega arith) (c .before .w .given .1) in
+    let w = mark-there m size (omega arith) (l .loop .i) _ (omega arith) (c .before .before .w .given .1) in
     let u = l .before .pre .1 (l .loop .i) _ pastEnd (omega (arith, h)) w in
     omega (arith, u)
 
@@ -44,11 +44,11 @@ loop-less c = omega arith
 
 loop-again : tie.Need-loop-again Inv-loop μ-loop
 loop-again c =
-    let l = c .before .before .before .before .before in
+    let l = c .before .before .before .before .before .before in
     let m = l .before .args .t1 in
     let size : length (m .marks) ≡ 32 = search (needs, unmapped) in
     let h = counted m size (omega arith) in
-    let w = mark-there m size (omega arith) (l .loop .i) _ (omega arith) (c .before .w .given .1) in
+    let w = mark-there m size (omega arith) (l .loop .i) _ (omega arith) (c .before .before .w .given .1) in
     let u = l .before .pre .1 (l .loop .i) _ pastEnd (omega (arith, h)) w in
     (omega arith, omega (arith, u), one-more (marksOf m) (l .loop .sum) (l .loop .i) (l .loop .inv .2) pastEnd (omega (arith, h)) _ w)
 

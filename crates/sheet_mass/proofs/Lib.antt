@@ -1,0 +1,2 @@
+pub mod Masses
+pub mod Unique

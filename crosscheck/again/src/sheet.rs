@@ -9,6 +9,7 @@ type Field = Option<u64>;
 pub enum Kind {
     Pressure,
     Density,
+    Weighed,
 }
 
 #[derive(Debug)]
@@ -61,6 +62,7 @@ pub fn read(text: &[u8]) -> Option<Sheet> {
             kind: match kind {
                 b"P" => Kind::Pressure,
                 b"D" => Kind::Density,
+                b"W" => Kind::Weighed,
                 _ => return None,
             },
             value: field(value)?,
@@ -70,10 +72,24 @@ pub fn read(text: &[u8]) -> Option<Sheet> {
     Some(sheet)
 }
 
-/// A line's milligrams or its refusal, behind the lines that come before it (RULES 3.2, 6.4, 6.5 and 6.6).
+/// What a line without the blanks of refusal 1 is worked from (RULES 6.4 and 6.7), in the units of the doors or in grams.
+enum Read {
+    Pressure { t: f64, p: f64 },
+    Density { t: f64, rho: f64 },
+    Weighed { grams: u64 },
+}
+
+/// A line's milligrams or its refusal, behind the lines that come before it (RULES 3.2, 6.4, 6.5, 6.6 and 6.7).
 pub fn weigh(line: &Line, before: &[Line]) -> Result<u64, u32> {
-    let (Some(_), Some(temperature), Some(value), Some(volume)) = (line.number, line.temperature, line.value, line.volume) else {
+    let (Some(_), Some(value), Some(volume)) = (line.number, line.value, line.volume) else {
         return Err(1);
+    };
+    // whole numbers of 10 digits are exact
+    let read = match (line.kind, line.temperature.map(|temperature| temperature as f64 / 10000.0)) {
+        (Kind::Weighed, _) => Read::Weighed { grams: value },
+        (_, None) => return Err(1),
+        (Kind::Pressure, Some(t)) => Read::Pressure { t, p: value as f64 },
+        (Kind::Density, Some(t)) => Read::Density { t, rho: value as f64 / 1000.0 },
     };
     if before.iter().any(|earlier| earlier.number == line.number) {
         return Err(30);
@@ -81,11 +97,11 @@ pub fn weigh(line: &Line, before: &[Line]) -> Result<u64, u32> {
     if !(1..=1_000_000).contains(&volume) {
         return Err(2);
     }
-    // whole numbers of 10 digits are exact
-    let t = temperature as f64 / 10000.0;
-    let (_, state) = match line.kind {
-        Kind::Pressure => from_pressure(t, value as f64)?,
-        Kind::Density => from_density(t, value as f64 / 1000.0)?,
+    let (_, state) = match read {
+        Read::Weighed { grams: grams @ 1..=9_999_999_999 } => return Ok(1000 * grams),
+        Read::Weighed { .. } => return Err(23),
+        Read::Pressure { t, p } => from_pressure(t, p)?,
+        Read::Density { t, rho } => from_density(t, rho)?,
     };
     let [_, _, rho, ..] = state.eight;
     let mass = rho * volume as f64;
@@ -230,6 +246,74 @@ mod tests {
         let came = come_to(&all.iter().map(String::as_str).collect::<Vec<_>>());
         assert_eq!(came.iter().position(|line| *line != Ok(7)), Some(31));
         assert_eq!(came[31], Err(30));
+    }
+
+    #[test]
+    fn weighed_cylinders_of_the_rules() {
+        let text = "N 13000\nC 1 - W 12 50000\nC 2 9999999999 W 1 40\n";
+        assert_eq!(reported(text), "L 1 M 12000\nL 2 M 1000\nTOTAL 13000 COVERED\n");
+        assert_eq!(reported(&format!("{text}C 3 - W 0 40\n")), "L 1 M 12000\nL 2 M 1000\nL 3 R 23\nSENT BACK 13\n");
+        assert_eq!(reported(&text.replace("13000", "13001")), "L 1 M 12000\nL 2 M 1000\nTOTAL 13000 SHORT\n");
+        // README's
+        assert_eq!(come_to(&["1 - W 38500 67500", "4 - W 45000 67500"]), [Ok(38500000), Ok(45000000)]);
+    }
+
+    #[test]
+    fn masses() {
+        for grams in [1, 2, 65536, 4294968, 16777217, 4294967295, 4294967296, 9007199255, 9999999998, 9999999999] {
+            assert_eq!(come_to(&[&format!("1 - W {grams} 40000")]), [Ok(1000 * grams)], "{grams}");
+        }
+        // a temperature that is given is not used
+        for temperature in ["-", "0", "2165919", "2931500", "5230001", "9999999999"] {
+            assert_eq!(come_to(&[&format!("1 {temperature} W 38500 67500")]), [Ok(38500000)], "{temperature}");
+            assert_eq!(come_to(&[&format!("1 {temperature} W 0 67500")]), [Err(23)], "{temperature}");
+        }
+        let volumes = ["1", "1000000", "0", "1000001", "9999999999", "-"].map(|volume| format!("{volume} - W 38500 {volume}"));
+        assert_eq!(come_to(&volumes.each_ref().map(String::as_str)), [Ok(38500000), Ok(38500000), Err(2), Err(2), Err(2), Err(1)]);
+        let all: String = (1..=32).map(|number| format!("C {number} - W 9999999999 1\n")).collect();
+        let report = reported(&format!("N 9999999999\n{all}"));
+        assert!(report.ends_with("\nL 32 M 9999999999000\nTOTAL 319999999968000 COVERED\n"), "{report}");
+        assert_eq!(report.len(), 693);
+    }
+
+    #[test]
+    fn order_in_a_weighed_line() {
+        // 1, for its value whatever the temperature is, and for its number and its volume
+        for blank in ["7 - W - 40000", "7 2931500 W - 40000", "- - W 38500 40000", "7 - W 0 -", "- - W 0 0", "7 - W - 0"] {
+            assert_eq!(come_to(&[blank]), [Err(1)], "{blank}");
+            assert_eq!(come_to(&["7 - W 1 1", blank]), [Ok(1000), Err(1)], "{blank}");
+        }
+        // 2 before 23, and 30 before both; an earlier line counts whatever came of it
+        for (line, came) in [("7 - W 0 0", 2), ("7 - W 0 1000001", 2), ("7 - W 0 1", 23), ("7 - W 0 1000000", 23)] {
+            assert_eq!(come_to(&[line, "7 - W 1 1"]), [Err(came), Err(30)], "{line}");
+            assert_eq!(come_to(&["7 - W 1 1", line]), [Ok(1000), Err(30)], "{line}");
+        }
+        assert_eq!(come_to(&["7 - W - 1", "7 - W 1 1"]), [Err(1), Err(30)]);
+        // weighed and read
+        assert_eq!(come_to(&["8 good", "8 - W 1 1", "9 - W 1 1", "9 good"]), [Ok(7), Err(30), Ok(1000), Err(30)]);
+        // by a door a blank temperature is still 1
+        assert_eq!(come_to(&["1 - W 1 1", "2 - P 5000000 40000", "3 - D 128400 40000", "4 - W 1 1"]), [Ok(1000), Err(1), Err(1), Ok(1000)]);
+    }
+
+    #[test]
+    fn weighed_and_not_in_the_form() {
+        for bad in [
+            "- w 1 1",
+            "- WW 1 1",
+            "- W 1",
+            "- W1 1",
+            "- W  1",
+            "W 1 1",
+            "- V 1 1",
+            "- - 1 1",
+            "- W 1.5 1",
+            "- W 01 1",
+            "- W 10000000000 1",
+            "1 P W 1 1",
+        ] {
+            assert_eq!(reported(&format!("N 1\nC 7 {bad}\n")), "SENT BACK 14\n", "{bad}");
+        }
+        assert_eq!(reported("W 1\nC 7 - W 1 1\n"), "SENT BACK 14\n");
     }
 
     #[test]

@@ -23,7 +23,7 @@ mod tests {
     #[test]
     fn a_line_for_each_refusal() {
         let numbers: Vec<u32> = (0..=1000).filter(|&number| words(number).is_some()).collect();
-        assert_eq!(numbers, [1, 2, 3, 4, 5, 6, 7, 8, 9, 10, 11, 12, 13, 14, 15, 19, 30]);
+        assert_eq!(numbers, [1, 2, 3, 4, 5, 6, 7, 8, 9, 10, 11, 12, 13, 14, 15, 19, 23, 30]);
         for words in numbers.into_iter().filter_map(words) {
             assert!(words.bytes().all(|byte| (32..127).contains(&byte)), "{words}");
             assert!(words.len() <= 512 && words.contains(". ") && words.ends_with('.'), "{words}");

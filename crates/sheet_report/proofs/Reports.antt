@@ -24,14 +24,14 @@ line-length i w = length-append (ascii "L " ++ decimal i ++ ascii " ") (weighedB
 
 -- the milligrams, or the number of the refusal
 abbrev pub number-of : Weighed → ℕ
-number-of (Weighed.Mass mg) = mg
+number-of (Weighed.Mass mg) = mg .0
 number-of (Weighed.Refused number) = number
 
 pub line-size : (i : ℕ) (w : Weighed) → length (lineBytes i w) ≡ length (decimal i) + length (decimal (number-of w)) + 6
 unfolding weighedBytes
 line-size i (Weighed.Mass mg) =
     let front = between-length (ascii "L ") i (ascii " ") in
-    omega (arith, line-length i (Weighed.Mass mg), front, between-length (ascii "M ") mg (ascii "\n"))
+    omega (arith, line-length i (Weighed.Mass mg), front, between-length (ascii "M ") (mg .0) (ascii "\n"))
 line-size i (Weighed.Refused n) =
     let front = between-length (ascii "L ") i (ascii " ") in
     omega (arith, line-length i (Weighed.Refused n), front, between-length (ascii "R ") n (ascii "\n"))

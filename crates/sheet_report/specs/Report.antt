@@ -14,7 +14,7 @@ use Rattle.sheet_report.specs.declared.Written.{Written}
 
 -- `M mg` or `R no`, and the line's end
 unfoldable pub weighedBytes : Weighed → List ℕ
-weighedBytes (Weighed.Mass mg) = ascii "M " ++ decimal mg ++ ascii "\n"
+weighedBytes (Weighed.Mass mg) = ascii "M " ++ decimal (mg .0) ++ ascii "\n"
 weighedBytes (Weighed.Refused number) = ascii "R " ++ decimal number ++ ascii "\n"
 
 -- RULES 7.1: `L i M mg` or `L i R no`
@@ -28,8 +28,8 @@ linesBytes i (m ∷ ms) = lineBytes i (m .weighed) ++ linesBytes (i + 1) ms
 
 -- RULES 7.2: the last line
 unfoldable pub endingBytes : Ending → List ℕ
-endingBytes (Ending.Covered mg) = ascii "TOTAL " ++ decimal mg ++ ascii " COVERED\n"
-endingBytes (Ending.Short mg) = ascii "TOTAL " ++ decimal mg ++ ascii " SHORT\n"
+endingBytes (Ending.Covered mg) = ascii "TOTAL " ++ decimal (mg .0) ++ ascii " COVERED\n"
+endingBytes (Ending.Short mg) = ascii "TOTAL " ++ decimal (mg .0) ++ ascii " SHORT\n"
 endingBytes (Ending.SentBack number) = ascii "SENT BACK " ++ decimal number ++ ascii "\n"
 
 -- the lines are counted from 1, and the ending stands after them

@@ -39,7 +39,7 @@ fn put_weighed(out: &mut [u8], w: Weighed) -> usize
     ensures { λ r. ⌜ Wrote (now (out .entry)) (now (out .exit)) r (weighedBytes w) ⌝ }
 {
     match w {
-        Weighed::Mass(mg) => put_between(out, b"M ", mg, b"\n"),
+        Weighed::Mass(mg) => put_between(out, b"M ", mg.0, b"\n"),
         Weighed::Refused(number) => put_between(out, b"R ", number as u64, b"\n"),
     }
 }
@@ -81,8 +81,8 @@ fn put_ending(out: &mut [u8], e: Ending) -> usize
     ensures { λ r. ⌜ Wrote (now (out .entry)) (now (out .exit)) r (endingBytes e) ⌝ }
 {
     match e {
-        Ending::Covered(mg) => put_between(out, b"TOTAL ", mg, b" COVERED\n"),
-        Ending::Short(mg) => put_between(out, b"TOTAL ", mg, b" SHORT\n"),
+        Ending::Covered(mg) => put_between(out, b"TOTAL ", mg.0, b" COVERED\n"),
+        Ending::Short(mg) => put_between(out, b"TOTAL ", mg.0, b" SHORT\n"),
         Ending::SentBack(number) => put_between(out, b"SENT BACK ", number as u64, b"\n"),
     }
 }
@@ -92,7 +92,7 @@ fn line_len(i: u64, w: Weighed) -> usize
 {
     let n = number_len(i);
     match w {
-        Weighed::Mass(mg) => n + number_len(mg) + 6,
+        Weighed::Mass(mg) => n + number_len(mg.0) + 6,
         Weighed::Refused(number) => n + number_len(number as u64) + 6,
     }
 }
@@ -116,8 +116,8 @@ fn ending_len(e: Ending) -> usize
     ensures { λ r. ⌜ (r ≡ length (endingBytes e)) × (r ≤ 40) ⌝ }
 {
     match e {
-        Ending::Covered(mg) => number_len(mg) + 15,
-        Ending::Short(mg) => number_len(mg) + 13,
+        Ending::Covered(mg) => number_len(mg.0) + 15,
+        Ending::Short(mg) => number_len(mg.0) + 13,
         Ending::SentBack(number) => number_len(number as u64) + 11,
     }
 }

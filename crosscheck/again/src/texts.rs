@@ -2,11 +2,11 @@
 
 use crate::library;
 use crate::rng::Rng;
-use crate::sheet::{score, Ending, Outcome};
+use crate::sheet::{read, score, Ending, Kind, Outcome};
 use crate::tally::{digest, run, Tally};
 use std::time::Duration;
 
-const KINDS: [&str; 17] = [
+const KINDS: [&str; 25] = [
     "good, 1 to 32 lines",
     "need is the total",
     "need is the total and one",
@@ -24,11 +24,20 @@ const KINDS: [&str; 17] = [
     "the same, and refused besides",
     "blank cylinders, and cylinder 0",
     "cylinders nearly the same",
+    "weighed, 1 to 32 lines",
+    "weighed, need about the total",
+    "weighed, any masses and volumes",
+    "weighed, edges of every range",
+    "weighed, blanks, letters exchanged",
+    "weighed, a cylinder several times",
+    "weighed, totals of up to 15 digits",
+    "a letter that is not in the form",
 ];
-/// Out of 100.
-const SHARES: [u64; 17] = [14, 8, 8, 10, 10, 6, 6, 4, 1, 11, 3, 2, 1, 5, 5, 3, 3];
-/// The ending that is asked for, whether or not it fits; then what did not fit; then lines, answered and by refusal.
-const COLUMNS: [&str; 22] = [
+/// Out of 125.
+const SHARES: [u64; 25] = [14, 8, 8, 10, 10, 6, 6, 4, 1, 11, 3, 2, 1, 5, 5, 3, 3, 2, 4, 3, 4, 4, 4, 1, 3];
+/// The ending that is asked for, whether or not it fits; then what did not fit, and texts in the form with a weighed line; then lines, answered and
+/// by refusal.
+const COLUMNS: [&str; 24] = [
     "COVERED",
     "SHORT",
     "SB 10",
@@ -38,6 +47,7 @@ const COLUMNS: [&str; 22] = [
     "SB 14",
     "too long",
     "just fits",
+    "with W",
     "L M",
     "R 1",
     "R 2",
@@ -49,6 +59,7 @@ const COLUMNS: [&str; 22] = [
     "R 8",
     "R 9",
     "R 19",
+    "R 23",
     "R 30",
     "L other",
 ];
@@ -97,13 +108,17 @@ fn number(rng: &mut Rng, digits: u64) -> u64 {
     }
 }
 
-/// A line that a door will most likely answer.
-fn good_line(rng: &mut Rng) -> Fields {
-    let volume = match rng.below(4) {
+fn good_volume(rng: &mut Rng) -> u64 {
+    match rng.below(4) {
         0 => rng.pick(&[1, 10, 1000, 40000, 67500, 1000000]),
         1 => rng.between(1, 1000000),
         _ => rng.between(1, 80) * 1000,
-    };
+    }
+}
+
+/// A line that a door will most likely answer.
+fn good_line(rng: &mut Rng) -> Fields {
+    let volume = good_volume(rng);
     let (temperature, kind, value) = match rng.below(10) {
         // at 30 MPa a vapour of 523 K has more than 380 kg/m³
         0..=2 => (rng.between(3051283, 5230000), "D", rng.between(600, 300000)),
@@ -147,8 +162,97 @@ fn edge_line(rng: &mut Rng) -> Fields {
     [number(rng, 10).to_string(), temperature.to_string(), if pressure { "P" } else { "D" }.to_string(), value.to_string(), volume.to_string()]
 }
 
+/// A weighed line (RULES 6.7), with a temperature that is not looked at: most often none, else any.
+fn weighed_line(rng: &mut Rng, cylinder: u64, grams: impl ToString, volume: impl ToString) -> Fields {
+    let temperature = match rng.below(6) {
+        0 => rng.between(2165920, 5230000).to_string(),
+        1 => number(rng, 10).to_string(),
+        2 => rng.pick(&["0", "1", "2165919", "5230001", "3031282", "9999999999"]).to_string(),
+        _ => "-".to_string(),
+    };
+    [cylinder.to_string(), temperature, "W".to_string(), grams.to_string(), volume.to_string()]
+}
+
+/// One that is answered: up to a gram for a millilitre, which is more than a cylinder is filled with.
+fn good_weighed(rng: &mut Rng) -> Fields {
+    let (cylinder, volume) = (number(rng, 4), good_volume(rng));
+    let grams = rng.between(1, volume);
+    weighed_line(rng, cylinder, grams, volume)
+}
+
+/// Some 10⁹ mg.
+fn full_weighed(rng: &mut Rng) -> Fields {
+    let (cylinder, grams) = (number(rng, 4), rng.between(800000, 1200000));
+    weighed_line(rng, cylinder, grams, 1000000)
+}
+
+/// Up to 9,999,999,999 g, which are 13 digits of mg.
+fn heavy_weighed(rng: &mut Rng) -> Fields {
+    let (cylinder, volume) = (number(rng, 4), good_volume(rng));
+    let grams = match rng.below(4) {
+        0 => 9999999999,
+        1 => rng.between(4200000000, 4400000000),
+        _ => rng.between(1, 9) * 1000000000 + rng.below(1000000000),
+    };
+    weighed_line(rng, cylinder, grams, volume)
+}
+
+fn any_weighed(rng: &mut Rng) -> Fields {
+    let (cylinder, grams) = (number(rng, 10), if rng.one_in(8) { 0 } else { number(rng, 10) });
+    let volume = if rng.one_in(8) { rng.between(0, 1100000) } else { rng.between(1, 1000000) };
+    weighed_line(rng, cylinder, grams, volume)
+}
+
+/// The first and last masses and volumes, those beside them, and masses that fewer bits would cut; blanks too.
+fn edge_weighed(rng: &mut Rng) -> Fields {
+    let grams = match rng.below(8) {
+        0 => "-".to_string(),
+        1..=3 => rng.pick(&["0", "0", "1", "2"]).to_string(),
+        4..=5 => rng.pick(&["9999999999", "9999999999", "9999999998", "999999999", "1000000000"]).to_string(),
+        6 => (rng.pick(&[1 << 24, 1 << 31, (1 << 31) / 1000 + 1, 1 << 32, (1 << 32) / 1000 + 1]) + rng.below(3) - 1).to_string(),
+        _ => number(rng, 10).to_string(),
+    };
+    let volume = rng.pick(&["-", "0", "0", "1", "2", "999999", "1000000", "1000001", "1000001", "9999999999", "40000", "40000", "67500", "67500"]);
+    let cylinder = number(rng, 10);
+    weighed_line(rng, cylinder, grams, volume)
+}
+
+/// How lines are made: read for a door, and weighed.
+#[derive(Clone, Copy)]
+struct Maker {
+    read: fn(&mut Rng) -> Fields,
+    weighed: fn(&mut Rng) -> Fields,
+}
+
+const GOOD: Maker = Maker { read: good_line, weighed: good_weighed };
+const FULL: Maker = Maker { read: full_line, weighed: full_weighed };
+const HEAVY: Maker = Maker { read: full_line, weighed: heavy_weighed };
+const ANY: Maker = Maker { read: any_line, weighed: any_weighed };
+const EDGE: Maker = Maker { read: edge_line, weighed: edge_weighed };
+
+impl Maker {
+    /// A line that is weighed so many times out of six.
+    fn line(self, rng: &mut Rng, of_six: u64) -> Fields {
+        if rng.below(6) < of_six {
+            (self.weighed)(rng)
+        } else {
+            (self.read)(rng)
+        }
+    }
+}
+
+/// How many of six lines are weighed, on a sheet of no particular kind: on two of three none.
+fn some_weighed(rng: &mut Rng) -> u64 {
+    rng.pick(&[0, 0, 0, 0, 1, 3])
+}
+
+fn sheet(rng: &mut Rng, most: u64, maker: Maker) -> Draft {
+    let of_six = some_weighed(rng);
+    sheet_of(rng, most, maker, of_six)
+}
+
 /// No cylinder stands on two of its lines: a number that was drawn before is drawn again.
-fn sheet(rng: &mut Rng, most: u64, line: fn(&mut Rng) -> Fields) -> Draft {
+fn sheet_of(rng: &mut Rng, most: u64, maker: Maker, of_six: u64) -> Draft {
     let need = match rng.below(4) {
         0 => number(rng, 10).max(1),
         _ => rng.between(1, 100000000),
@@ -156,7 +260,7 @@ fn sheet(rng: &mut Rng, most: u64, line: fn(&mut Rng) -> Fields) -> Draft {
     let count = if rng.one_in(4) { most } else { rng.between(1, most) };
     let mut lines: Vec<Fields> = Vec::new();
     for _ in 0..count {
-        let mut new = line(rng);
+        let mut new = maker.line(rng, of_six);
         while lines.iter().any(|earlier| earlier[0] == new[0]) {
             new[0] = number(rng, 4).to_string();
         }
@@ -165,7 +269,8 @@ fn sheet(rng: &mut Rng, most: u64, line: fn(&mut Rng) -> Fields) -> Draft {
     Draft { need: need.to_string(), lines }
 }
 
-/// A line that is refused for what stands on it, by 1, by 2 or by its door. Its cylinder number stays.
+/// A line that is refused for what stands on it, by 1, by 2, by 23 or by its door; but a weighed line's temperature spoils nothing. Its cylinder
+/// number stays.
 fn spoil(rng: &mut Rng, line: &mut Fields) {
     let (field, wrong) = match rng.below(6) {
         0 => (4, rng.pick(&["0", "1000001"])),
@@ -178,9 +283,9 @@ fn spoil(rng: &mut Rng, line: &mut Fields) {
 
 /// A sheet with a cylinder on several lines (RULES 6.6), or with several such: a line copied whole or its number alone, just behind the first, at
 /// the sheet's end or anywhere between. `spoilt`: the first, the later or both would be refused without it.
-fn repeated(rng: &mut Rng, line: fn(&mut Rng) -> Fields, spoilt: bool) -> Draft {
+fn repeated(rng: &mut Rng, maker: Maker, of_six: u64, spoilt: bool) -> Draft {
     let times = rng.between(1, 3);
-    let mut draft = sheet(rng, 32 - times, line);
+    let mut draft = sheet_of(rng, 32 - times, maker, of_six);
     if rng.one_in(8) {
         *draft.any_cylinder(rng) = "0".to_string();
     }
@@ -193,7 +298,7 @@ fn repeated(rng: &mut Rng, line: fn(&mut Rng) -> Fields, spoilt: bool) -> Draft 
             _ => rng.between(at + 1, count),
         };
         let first = &mut draft.lines[at as usize];
-        let mut later = if rng.one_in(2) { first.clone() } else { line(rng) };
+        let mut later = if rng.one_in(2) { first.clone() } else { maker.line(rng, of_six) };
         later[0] = first[0].clone();
         let which = if spoilt { rng.between(1, 3) } else { 0 };
         if which & 1 == 1 {
@@ -225,7 +330,7 @@ fn nearly(rng: &mut Rng, number: u64) -> u64 {
 
 /// A good sheet on which each cylinder number is nearly that of an earlier line, and no two are the same.
 fn nearly_repeated(rng: &mut Rng) -> Draft {
-    let mut draft = sheet(rng, 32, good_line);
+    let mut draft = sheet(rng, 32, GOOD);
     let mut numbers = vec![number(rng, 10)];
     while numbers.len() < draft.lines.len() {
         let earlier = rng.pick(&numbers);
@@ -241,16 +346,28 @@ fn nearly_repeated(rng: &mut Rng) -> Draft {
 }
 
 /// A good sheet whose need is the sum of its lines and so many more. Such a sheet may be one that has no sum, or one over 10 digits.
-fn weighed(rng: &mut Rng, more: u64) -> Vec<u8> {
-    let mut draft = sheet(rng, 12, good_line);
+fn needing(rng: &mut Rng, more: u64) -> Vec<u8> {
+    let mut draft = sheet(rng, 12, GOOD);
     if let Some(total) = score(&draft.text()).total() {
         draft.need = (total + more).to_string();
     }
     draft.text()
 }
 
+/// The need beside the sum of the lines, or what it would be beside if the sum were in grams or of fewer bits.
+fn need_about(rng: &mut Rng, total: u64) -> u64 {
+    let about = match rng.below(8) {
+        0 => total / 1000,
+        1 => total % (1 << 32),
+        2 => total - total % 1000,
+        _ => total,
+    };
+    let need = (about + rng.pick(&[0, 1, 2, 1000, 1001, 1002, 2001])).saturating_sub(1001);
+    need.clamp(1, 9999999999)
+}
+
 fn of_the_form(rng: &mut Rng) -> u8 {
-    rng.pick(b"NCPD  --00123456789\n\n")
+    rng.pick(b"NCPDW  --00123456789\n\n")
 }
 
 fn damage(rng: &mut Rng, text: &mut Vec<u8>) {
@@ -279,11 +396,25 @@ fn damage(rng: &mut Rng, text: &mut Vec<u8>) {
     }
 }
 
+/// A line's letter that is another, or two, or none, or without the space beside it.
+fn wrong_letter(rng: &mut Rng, text: &mut Vec<u8>) {
+    let letters: Vec<usize> = (0..text.len()).filter(|&i| b"PDW".contains(&text[i])).collect();
+    let at = rng.pick(&letters);
+    match rng.below(8) {
+        0..=2 => text[at] = text[at].to_ascii_lowercase(),
+        3 => text[at] = rng.pick(b"VXMGTNCKQ-01 \0"),
+        4 => text.insert(at, rng.pick(b"PDWW-")),
+        5 => text.insert(at, text[at]),
+        6 => drop(text.remove(at)),
+        _ => drop(text.remove(rng.pick(&[at - 1, at + 1]))),
+    }
+}
+
 /// A text in the form, or nearly, of just so many bytes: lines of the same number as often as it takes, and digits to fill up.
 fn long_text(rng: &mut Rng) -> Vec<u8> {
     let bytes = rng.between(65535, 65538) as usize;
     let mut text = b"N 1\n".to_vec();
-    let shortest = b"C 1 1 P 1 1\n";
+    let shortest = rng.pick(&[b"C 1 1 P 1 1\n", b"C 1 1 P 1 1\n", b"C 1 - W 1 1\n"]);
     while bytes - text.len() >= 2 * shortest.len() {
         text.extend(shortest);
     }
@@ -296,26 +427,26 @@ fn long_text(rng: &mut Rng) -> Vec<u8> {
 
 fn text_of(rng: &mut Rng, kind: usize) -> Vec<u8> {
     match kind {
-        0 => sheet(rng, 32, good_line).text(),
-        1 => weighed(rng, 0),
-        2 => weighed(rng, 1),
-        3 => sheet(rng, 32, any_line).text(),
+        0 => sheet(rng, 32, GOOD).text(),
+        1 => needing(rng, 0),
+        2 => needing(rng, 1),
+        3 => sheet(rng, 32, ANY).text(),
         4 => {
-            let mut draft = sheet(rng, 32, edge_line);
+            let mut draft = sheet(rng, 32, EDGE);
             if rng.one_in(4) {
                 draft.need = rng.pick(&["0", "1", "9999999999", "9999999998", "10000000000", "-"]).to_string();
             }
             draft.text()
         }
         5 => {
-            let mut draft = sheet(rng, 12, good_line);
+            let mut draft = sheet(rng, 12, GOOD);
             for _ in 0..rng.between(1, 4) {
                 *draft.any_field(rng) = "-".to_string();
             }
             draft.text()
         }
         6 => {
-            let mut draft = sheet(rng, 12, good_line);
+            let mut draft = sheet(rng, 12, GOOD);
             for _ in 0..rng.between(1, 4) {
                 let number = match rng.below(8) {
                     0 => format!("0{}", number(rng, 9)),
@@ -332,8 +463,9 @@ fn text_of(rng: &mut Rng, kind: usize) -> Vec<u8> {
                 20..=22 => rng.between(33, 1500),
                 _ => rng.between(33, 40),
             };
-            let mut draft = sheet(rng, 1, any_line);
-            draft.lines = (0..lines).map(|_| any_line(rng)).collect();
+            let mut draft = sheet(rng, 1, ANY);
+            let of_six = some_weighed(rng);
+            draft.lines = (0..lines).map(|_| ANY.line(rng, of_six)).collect();
             for _ in 0..rng.below(3) {
                 *draft.any_field(rng) = "-".to_string();
             }
@@ -345,20 +477,24 @@ fn text_of(rng: &mut Rng, kind: usize) -> Vec<u8> {
         }
         8 => long_text(rng),
         9 => {
-            let mut text = sheet(rng, 6, good_line).text();
+            let mut text = sheet(rng, 6, GOOD).text();
             damage(rng, &mut text);
             text
         }
         10 => (0..rng.below(60)).map(|_| of_the_form(rng)).collect(),
         11 => (0..rng.below(200)).map(|_| rng.below(256) as u8).collect(),
-        12 => sheet(rng, 32, full_line).text(),
-        13 => repeated(rng, good_line, false).text(),
+        12 => sheet(rng, 32, FULL).text(),
+        13 => {
+            let of_six = some_weighed(rng);
+            repeated(rng, GOOD, of_six, false).text()
+        }
         14 => {
-            let line = rng.pick(&[good_line, any_line, edge_line]);
-            repeated(rng, line, true).text()
+            let (maker, of_six) = (rng.pick(&[GOOD, ANY, EDGE]), some_weighed(rng));
+            repeated(rng, maker, of_six, true).text()
         }
         15 => {
-            let mut draft = repeated(rng, good_line, false);
+            let of_six = some_weighed(rng);
+            let mut draft = repeated(rng, GOOD, of_six, false);
             for _ in 0..rng.between(2, 4) {
                 *draft.any_cylinder(rng) = "-".to_string();
             }
@@ -370,7 +506,60 @@ fn text_of(rng: &mut Rng, kind: usize) -> Vec<u8> {
             }
             draft.text()
         }
-        _ => nearly_repeated(rng).text(),
+        16 => nearly_repeated(rng).text(),
+        17 => sheet_of(rng, 32, GOOD, 6).text(),
+        18 => {
+            let of_six = rng.pick(&[1, 3, 6, 6]);
+            let mut draft = sheet_of(rng, 12, GOOD, of_six);
+            if let Some(total) = score(&draft.text()).total() {
+                draft.need = need_about(rng, total).to_string();
+            }
+            draft.text()
+        }
+        19 => {
+            let of_six = rng.pick(&[3, 6]);
+            sheet_of(rng, 32, ANY, of_six).text()
+        }
+        20 => {
+            let of_six = rng.pick(&[3, 6]);
+            let mut draft = sheet_of(rng, 12, EDGE, of_six);
+            if rng.one_in(8) {
+                draft.need = rng.pick(&["0", "1", "9999999999", "10000000000", "-"]).to_string();
+            }
+            draft.text()
+        }
+        21 => {
+            let mut draft = sheet_of(rng, 12, GOOD, 3);
+            for _ in 0..rng.between(1, 6) {
+                *draft.any_field(rng) = "-".to_string();
+            }
+            for _ in 0..rng.below(3) {
+                let line = rng.below(draft.lines.len() as u64) as usize;
+                draft.lines[line][2] = rng.pick(&["P", "D", "W"]).to_string();
+            }
+            draft.text()
+        }
+        22 => {
+            let (maker, of_six) = (rng.pick(&[GOOD, GOOD, ANY, EDGE]), rng.pick(&[3, 6]));
+            let spoilt = !rng.one_in(4);
+            repeated(rng, maker, of_six, spoilt).text()
+        }
+        23 => {
+            let of_six = rng.pick(&[5, 6]);
+            let mut draft = sheet_of(rng, 32, HEAVY, of_six);
+            if rng.one_in(4) {
+                draft.lines.iter_mut().filter(|line| line[2] == "W").for_each(|line| line[3] = "9999999999".to_string());
+            }
+            if rng.one_in(2) {
+                draft.need = "9999999999".to_string();
+            }
+            draft.text()
+        }
+        _ => {
+            let mut text = sheet_of(rng, 6, GOOD, 3).text();
+            wrong_letter(rng, &mut text);
+            text
+        }
     }
 }
 
@@ -404,13 +593,13 @@ const GUARD: usize = 16;
 
 fn case(seed: u64, index: u64, tally: &mut Tally) {
     let mut rng = Rng::of_case(seed, 2, index);
-    let mut share = rng.below(100);
+    let mut share = rng.below(SHARES.iter().sum());
     let kind = SHARES.iter().position(|&of_kind| {
         let here = share < of_kind;
         share = share.wrapping_sub(of_kind);
         here
     });
-    let kind = kind.expect("the shares are 100 in all");
+    let kind = kind.expect("one of the shares");
     let mut text = text_of(&mut rng, kind);
     let text_len = text.len();
     let outcome = score(&text);
@@ -445,14 +634,16 @@ fn case(seed: u64, index: u64, tally: &mut Tally) {
     count[ending] += 1;
     count[7] += u64::from(!fits);
     count[8] += u64::from(report.len() == lent);
+    count[9] += u64::from(read(&text[..text_len]).is_some_and(|sheet| sheet.lines.iter().any(|line| line.kind == Kind::Weighed)));
     if let Outcome::Weighed { lines, .. } = &outcome {
         for line in lines {
             let column = match line {
-                Ok(_) => 9,
-                Err(number @ 1..=9) => 9 + *number as usize,
-                Err(19) => 19,
-                Err(30) => 20,
-                Err(_) => 21,
+                Ok(_) => 10,
+                Err(number @ 1..=9) => 10 + *number as usize,
+                Err(19) => 20,
+                Err(23) => 21,
+                Err(30) => 22,
+                Err(_) => 23,
             };
             count[column] += 1;
         }

@@ -199,8 +199,8 @@ fn has_lines(e: Ending) -> bool {
 
 fn say_ending(p: Paper, limits: Limits, s: &[u8], need: Field, e: Ending) -> Paper {
     match e {
-        Ending::Covered(mg) => say_margin(p, mg, need, count_doubts(limits, s)),
-        Ending::Short(mg) => say_margin(p, mg, need, count_doubts(limits, s)),
+        Ending::Covered(mg) => say_margin(p, mg.0, need, count_doubts(limits, s)),
+        Ending::Short(mg) => say_margin(p, mg.0, need, count_doubts(limits, s)),
         Ending::SentBack(n) => {
             if n == 13 {
                 say_no_verdict(p, need)

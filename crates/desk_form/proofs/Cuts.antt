@@ -14,7 +14,7 @@ use Rattle.sheet_text.specs.declared.Field.the-variants.{Blank, Number}
 use Rattle.sheet_text.proofs.Decimals.{decimal-small, decimal-large}
 use Rattle.sheet_line.specs.Cylinder.{kindLetter, cylinderText}
 use Rattle.sheet_line.specs.declared.cylinder.Kind.{Kind}
-use Rattle.sheet_line.specs.declared.cylinder.Kind.the-variants.{Pressure, Density}
+use Rattle.sheet_line.specs.declared.cylinder.Kind.the-variants.{Pressure, Density, Weighed}
 use Rattle.sheet_line.specs.declared.cylinder.Cylinder.{Cylinder}
 use Rattle.desk_form.specs.Wrong.{onto, cut, linesOf}
 
@@ -97,6 +97,7 @@ field-line f t = free-line (fieldText f) t (field-free f)
 kind-line : (k : Kind) (t : List ℕ) → OneLine t → OneLine (kindLetter k ∷ t)
 kind-line Pressure t = byte-line 80 t refl
 kind-line Density t = byte-line 68 t refl
+kind-line Weighed t = byte-line 87 t refl
 
 -- the need's line and a cylinder's
 pub need-line : (f : Field) → OneLine (78 ∷ 32 ∷ fieldText f ++ (10 ∷ []))

@@ -81,10 +81,10 @@ fn has(s: &[u8], at: usize, b: u8) -> bool {
     if at < s.len() { s[at] == b } else { false }
 }
 
-// A byte of a line's form, which has `L` for `P` or `D`.
+// A byte of a line's form, which has `L` for `P`, `D` or `W`.
 fn fits(form: u8, b: u8) -> bool {
     if form == b'L' {
-        b == b'P' || b == b'D'
+        b == b'P' || b == b'D' || b == b'W'
     } else {
         b == form
     }

@@ -3,6 +3,7 @@ use desk_look::gauge::Doubt;
 use desk_look::gauge::Gauge;
 use desk_look::held::Held;
 use desk_look::held::Look;
+use desk_look::held::Weight;
 use desk_look::held::is_heavy;
 use desk_paper::paper::Paper;
 use desk_paper::paper::say;
@@ -56,6 +57,7 @@ fn say_value(p: Paper, kind: Kind, f: Field) -> Paper {
     match kind {
         Kind::Pressure => say_bar(p, f),
         Kind::Density => say(say_thousandth(p, f), b" kg/m3"),
+        Kind::Weighed => say(say_thousandth(p, f), b" kg"),
     }
 }
 
@@ -86,11 +88,17 @@ fn say_read(p: Paper, c: Cylinder) -> Paper {
 }
 
 fn say_held(p: Paper, h: Held) -> Paper {
+    let mg = h.mg;
     let phase = h.phase;
-    let a = say_shown(p, kilograms_down(h.mg));
+    let a = say_shown(p, kilograms_down(mg.0));
     let b = say_figure(say(a, b" kg, "), density(h.rho));
     let c = say_phase(say(b, b" kg/m3, "), phase);
     say(c, b"\n")
+}
+
+fn say_weight(p: Paper, x: Weight) -> Paper {
+    let mg = x.mg;
+    say(say_shown(p, kilograms_down(mg.0)), b" kg, weighed\n")
 }
 
 // Behind the words of 30, the first line that has the cylinder's number.
@@ -107,6 +115,7 @@ pub fn say_line(p: Paper, i: usize, c: Cylinder, k: Look, first: usize) -> Paper
     let a = say_read(say_place(p, i, number), c);
     match k {
         Look::Mass(h) => say_held(a, h),
+        Look::Weighed(x) => say_weight(a, x),
         Look::Refused(n) => {
             let b = say_refused(say(a, b"refused by "), n);
             say(say_first(b, n, first), b"\n")
@@ -130,18 +139,34 @@ fn say_doubt(p: Paper, d: Doubt, temperature: Field, value: Field) -> Paper {
     let f = say_mass(say(e, b" kg if all is vapour, "), liquid);
     say(
         f,
-        b" kg if all is liquid, and anything between if it holds both. Weigh it, or warm it evenly to 40 to 45 C, minding its pressure, and read again.\n",
+        b" kg if all is liquid, and anything between if it holds both. Weigh it and write W and the grams of agent, or warm it evenly to 40 to 45 C, minding its pressure, and read again.\n",
     )
 }
 
-fn say_heavy(p: Paper, k: Look) -> Paper {
-    let Look::Mass(h) = k else {
-        return p;
-    };
+fn say_dense(p: Paper, h: Held) -> Paper {
     say(
         say_figure(p, density(h.rho)),
         b" kg/m3 is more than a cylinder is filled with (750 kg/m3). Check its volume and its reading.\n",
     )
+}
+
+fn say_overfull(p: Paper, value: Field, volume: Field) -> Paper {
+    let a = say_thousandth(p, value);
+    let b = say_thousandth(say(a, b" kg in "), volume);
+    say(
+        b,
+        b" L is more than a cylinder is filled with (750 kg/m3). Check its volume, and that the empty cylinder's weight was taken off.\n",
+    )
+}
+
+fn say_heavy(p: Paper, c: Cylinder, k: Look) -> Paper {
+    let value = c.value;
+    let volume = c.volume;
+    match k {
+        Look::Mass(h) => say_dense(p, h),
+        Look::Weighed(_) => say_overfull(p, value, volume),
+        Look::Refused(_) => p,
+    }
 }
 
 // A file's name and a colon, where there is one.
@@ -167,7 +192,7 @@ pub fn say_warnings(p: Paper, name: &[u8], i: usize, c: Cylinder, k: Look, g: Ga
         );
     }
     if is_heavy(k) {
-        out = say_heavy(say_place(say_front(out, name), i, number), k);
+        out = say_heavy(say_place(say_front(out, name), i, number), c, k);
     }
     out
 }

@@ -44,6 +44,7 @@ gaugeAt L Temperature.Blank r v = Gauge.Tells
 gaugeAt L (Temperature.Kelvin t) Reading.Blank v = Gauge.Tells
 gaugeAt L (Temperature.Kelvin t) (Reading.Pressure p) v = gaugeIn L t p v
 gaugeAt L (Temperature.Kelvin t) (Reading.Density d) v = Gauge.Tells
+gaugeAt L (Temperature.Kelvin t) (Reading.Weighed g) v = Gauge.Tells
 
 -- none of the line's fields is blank
 abbrev pub gaugeOf : Limits → Field → Field → Temperature → Reading → Gauge

@@ -94,6 +94,7 @@ fn gauge_at(limits: Limits, k: Temperature, r: Reading, v: u64) -> Gauge
         Reading::Blank => Gauge::Tells,
         Reading::Pressure(p) => gauge_in(limits, t, p, v),
         Reading::Density(_) => Gauge::Tells,
+        Reading::Weighed(_) => Gauge::Tells,
     }
 }
 

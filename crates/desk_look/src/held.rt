@@ -1,7 +1,10 @@
-// RULES 14.3 and 14.4: a line's mass with the density and the phase of its state, or its refusal; whether that density is
-// above what a cylinder is filled with; and what is to spare or missing.
+// RULES 14.3 and 14.4: a line's mass with the density and the phase of its state, or weighed, or its refusal; whether that
+// is more than a cylinder is filled with; and what is to spare or missing.
 ghost use mathlib.Core.Path.{_≡_};
-ghost use Rattle.desk_look.specs.Held.{answered, held, look, heavy, margin};
+ghost use Rattle.equation.specs.Equation.{of1996};
+ghost use Rattle.door_pressure.specs.PressureDoor.{pressureDoor};
+ghost use Rattle.door_density.specs.DensityDoor.{densityDoor};
+ghost use Rattle.desk_look.specs.Held.{held, atDoor, overfull, seen, look, heavy, margin};
 use door_answers::Answer;
 use door_density::from_density;
 use door_limits::Limits;
@@ -10,17 +13,27 @@ use eos_state::Phase;
 use sheet_line::line::Line;
 use sheet_line::line::Reading;
 use sheet_line::line::Temperature;
+use sheet_mass::Milligrams;
 use sheet_outcome::Weighed;
+use sheet_text::Field;
+use sheet_weigh::is_volume;
 
-// In mg and kg/m³.
+// With the density in kg/m³.
 pub struct Held {
-    pub mg: u64,
+    pub mg: Milligrams,
     pub rho: f64,
     pub phase: Phase,
 }
 
+// On a scale, and whether it is more than its cylinder is filled with.
+pub struct Weight {
+    pub mg: Milligrams,
+    pub overfull: bool,
+}
+
 pub enum Look {
     Mass(Held),
+    Weighed(Weight),
     Refused(u8),
 }
 
@@ -30,21 +43,7 @@ pub enum Margin {
     Missing(u64),
 }
 
-// What the door of a reading says; a blank has none, and is refused by 1.
-fn answer_to(limits: Limits, k: Temperature, r: Reading) -> Answer
-    ensures { λ a. ⌜ a ≡ answered limits k r ⌝ }
-{
-    let Temperature::Kelvin(t) = k else {
-        return Answer::Refused(1);
-    };
-    match r {
-        Reading::Blank => Answer::Refused(1),
-        Reading::Pressure(p) => from_pressure(limits, t, p),
-        Reading::Density(d) => from_density(limits, t, d),
-    }
-}
-
-fn held_with(mg: u64, a: Answer) -> Look
+fn held_with(mg: Milligrams, a: Answer) -> Look
     ensures { λ r. ⌜ r ≡ held mg a ⌝ }
 {
     match a {
@@ -60,14 +59,61 @@ fn held_with(mg: u64, a: Answer) -> Look
     }
 }
 
-// What came of the line decides; its milligrams are told with the state that they are of.
+fn by_pressure(limits: Limits, mg: Milligrams, k: Temperature, p: f64) -> Look
+    ensures { λ r. ⌜ r ≡ atDoor mg k (λ t. pressureDoor of1996 limits t p) ⌝ }
+{
+    let Temperature::Kelvin(t) = k else {
+        return Look::Refused(1);
+    };
+    held_with(mg, from_pressure(limits, t, p))
+}
+
+fn by_density(limits: Limits, mg: Milligrams, k: Temperature, d: f64) -> Look
+    ensures { λ r. ⌜ r ≡ atDoor mg k (λ t. densityDoor of1996 limits t d) ⌝ }
+{
+    let Temperature::Kelvin(t) = k else {
+        return Look::Refused(1);
+    };
+    held_with(mg, from_density(limits, t, d))
+}
+
+// Above 750 mg a mL.
+fn is_overfull(mg: Milligrams, volume: Field) -> bool
+    ensures { λ r. ⌜ r ≡ overfull mg volume ⌝ }
+{
+    let Field::Number(v) = volume else {
+        return false;
+    };
+    if is_volume(v) {
+        return mg.0 > 750 * v;
+    }
+    false
+}
+
+// With the state that the milligrams are of, or that they were weighed.
+fn seen_by(limits: Limits, mg: Milligrams, k: Temperature, volume: Field, r: Reading) -> Look
+    ensures { λ l. ⌜ l ≡ seen limits mg k volume r ⌝ }
+{
+    match r {
+        Reading::Blank => Look::Refused(1),
+        Reading::Pressure(p) => by_pressure(limits, mg, k, p),
+        Reading::Density(d) => by_density(limits, mg, k, d),
+        Reading::Weighed(_) => Look::Weighed(Weight {
+            mg: mg,
+            overfull: is_overfull(mg, volume),
+        }),
+    }
+}
+
+// What came of the line decides.
 pub fn look_at(limits: Limits, w: Weighed, l: Line) -> Look
     ensures { λ r. ⌜ r ≡ look limits w l ⌝ }
 {
     let temperature = l.temperature;
     let reading = l.reading;
+    let volume = l.volume;
     match w {
-        Weighed::Mass(mg) => held_with(mg, answer_to(limits, temperature, reading)),
+        Weighed::Mass(mg) => seen_by(limits, mg, temperature, volume, reading),
         Weighed::Refused(n) => Look::Refused(n),
     }
 }
@@ -78,6 +124,7 @@ pub fn is_heavy(l: Look) -> bool
 {
     match l {
         Look::Mass(h) => 750.0 < h.rho,
+        Look::Weighed(x) => x.overfull,
         Look::Refused(_) => false,
     }
 }

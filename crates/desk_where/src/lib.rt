@@ -14,7 +14,7 @@ fn say_expected(p: Paper, e: Expected) -> Paper {
     match e {
         Expected::Need => say(p, b"N"),
         Expected::Cylinder => say(p, b"C"),
-        Expected::Letter => say(p, b"P or D"),
+        Expected::Letter => say(p, b"P, D or W"),
         Expected::Space => say(p, b"a space"),
         Expected::LineEnd => say(p, b"LF"),
         Expected::Number => say(p, b"a digit or -"),
@@ -104,7 +104,7 @@ fn byte_hint(p: Paper, b: u8, x: Stop, front: bool) -> Paper {
         return digit_hint(p, behind);
     }
     if b == b'-' && is_letter(expected) {
-        return say(p, b" A blank keeps its letter: P - or D -.");
+        return say(p, b" A blank keeps its letter: P -, D - or W -.");
     }
     if b == b'\n' && front {
         return say(p, b" No line is empty.");

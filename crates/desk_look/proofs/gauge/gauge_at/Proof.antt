@@ -1,4 +1,4 @@
--- A blank or a density has no gauge. Assumes nothing.
+-- A blank, a density or a scale has no gauge. Assumes nothing.
 use mathlib.Core.Path.{refl}
 use borrow.Author.Needs.{needs}
 use Rattle.desk_look.proofs.gauge.gauge_at.Statement.{statement}
@@ -15,6 +15,9 @@ returns-3 c =
 returns-4 : tie.Need-returns-4
 returns-4 c = rw (c .before .before .before .k .given .1, c .enum-told3 .given .1) refl
 
+returns-5 : tie.Need-returns-5
+returns-5 c = rw (c .before .before .before .k .given .1, c .enum-told4 .given .1) refl
+
 pub gauge-at-spec : {M : Type 1} → statement M
 gauge-at-spec =
     tie.close
@@ -26,6 +29,8 @@ gauge-at-spec =
     (λ c. search needs)
     (λ c κs. search needs)
     (λ c. search needs)
+    (λ c. search needs)
     returns-2
     returns-3
-    returns-4)
+    returns-4
+    returns-5)

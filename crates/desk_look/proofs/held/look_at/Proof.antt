@@ -1,4 +1,4 @@
--- What came of the line decides, and its door's state is had with its milligrams. Assumes nothing.
+-- What came of the line decides, and its milligrams are looked at by its reading. Assumes nothing.
 use mathlib.Core.Path.{refl}
 use Rattle.desk_look.specs.Held.{look}
 use borrow.Author.Needs.{needs}
@@ -7,9 +7,7 @@ use Rattle.desk_look.proofs.held.look_at.Tie as tie
 
 returns : tie.Need-returns
 unfolding look
-returns c =
-    let a = c .before in
-    rw (a .before .before .w .given .1, ← a .answer-to .ensures) (c .held-with .ensures)
+returns c = rw (c .before .before .w .given .1) (c .seen-by .ensures)
 
 returns-2 : tie.Need-returns-2
 unfolding look
@@ -20,7 +18,6 @@ look-at-spec =
     tie.close
     (tie.spec
     (λ c. search needs)
-    (λ c κs. search needs)
     (λ c κs. search needs)
     (λ c. search needs)
     returns

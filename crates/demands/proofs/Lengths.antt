@@ -6,6 +6,7 @@ use native.Mathlib.Omega.{arith}
 use lib.ListN.{length, getD, length-append, length-map}
 use Rattle.sheet_text.specs.Decimal.{decimal}
 use Rattle.sheet_text.proofs.Decimals.{digits-most}
+use Rattle.sheet_mass.specs.Mass.{asMilligrams}
 use Rattle.sheet_line.specs.Line.{lineOf}
 use Rattle.sheet_line.specs.declared.cylinder.Cylinder.{Cylinder}
 use Rattle.sheet_read.specs.Form.{Bank, inForm}
@@ -20,7 +21,7 @@ use Rattle.sheet_outcome.specs.declared.Ending.{Ending}
 use Rattle.sheet_report.proofs.Reports.{between-length, number-of, line-size}
 use Rattle.sheet_score.specs.Score.{report}
 use Rattle.demands.specs.Demands.{Numbered, to-9, is-19}
-use Rattle.demands.specs.Twice.{noMark, came, NumberedAt, as-alone, is-30}
+use Rattle.demands.specs.Twice.{noMark, came, NumberedAlone, as-door, is-23, NumberedAt, as-alone, is-30}
 use Rattle.demands.specs.Sheets as sheets
 use Rattle.demands.specs.Sheets.{sum, AllWeighed, Lined, Reported, not-in-form, no-lines, many-lines, no-need, one-refused, named-twice, covered, short}
 use Rattle.demands.proofs.Twice.{refusals-at}
@@ -37,7 +38,8 @@ numbered-most (to-9 n h k) = omega arith
 numbered-most is-19 = omega arith
 
 at-most : {n : ℕ} → NumberedAt n → n < 10 ^ 20
-at-most (as-alone k) = numbered-most k
+at-most (as-alone (as-door k)) = numbered-most k
+at-most (as-alone is-23) = omega arith
 at-most is-30 = omega arith
 
 -- a line's number: its milligrams, or its refusal's
@@ -65,14 +67,14 @@ lines-most i (m ∷ ms) each h =
 
 -- what an ending writes
 abbrev number-in : Ending → ℕ
-number-in (Ending.Covered mg) = mg
-number-in (Ending.Short mg) = mg
+number-in (Ending.Covered mg) = mg .0
+number-in (Ending.Short mg) = mg .0
 number-in (Ending.SentBack n) = n
 
 ending-most : (e : Ending) → number-in e < 10 ^ 20 → (1 ≤ length (endingBytes e)) × (length (endingBytes e) ≤ 40)
 unfolding endingBytes
-ending-most (Ending.Covered mg) h = (omega arith, omega (arith, between-most (ascii "TOTAL ") mg (ascii " COVERED\n") h))
-ending-most (Ending.Short mg) h = (omega arith, omega (arith, between-most (ascii "TOTAL ") mg (ascii " SHORT\n") h))
+ending-most (Ending.Covered mg) h = (omega arith, omega (arith, between-most (ascii "TOTAL ") (mg .0) (ascii " COVERED\n") h))
+ending-most (Ending.Short mg) h = (omega arith, omega (arith, between-most (ascii "TOTAL ") (mg .0) (ascii " SHORT\n") h))
 ending-most (Ending.SentBack n) h = (omega arith, omega (arith, between-most (ascii "SENT BACK ") n (ascii "\n") h))
 
 -- ---- the report
@@ -103,8 +105,8 @@ module _ (L : Limits) (t : List ℕ) where
   report-length (no-need l n) = alone 12 (omega arith)
   report-length (one-refused n r) = after-lines (n .lined) (Ending.SentBack 13) (omega arith)
   report-length (named-twice n w) = after-lines (n .lined) (Ending.SentBack 13) (omega arith)
-  report-length (covered {b} {need} {mgs} n once a h) = after-lines (n .lined) (Ending.Covered (sum mgs)) (total-most (n .lined) a)
-  report-length (short {b} {need} {mgs} n once a h) = after-lines (n .lined) (Ending.Short (sum mgs)) (total-most (n .lined) a)
+  report-length (covered {b} {need} {mgs} n once a h) = after-lines (n .lined) (Ending.Covered (asMilligrams (sum mgs))) (total-most (n .lined) a)
+  report-length (short {b} {need} {mgs} n once a h) = after-lines (n .lined) (Ending.Short (asMilligrams (sum mgs))) (total-most (n .lined) a)
 
 -- EVERY REPORT has at least one byte and at most 1,512
 pub length-of-report : (L : Limits) (t : List ℕ) → (1 ≤ length (report L (inForm t))) × (length (report L (inForm t)) ≤ 1512)

@@ -1,5 +1,5 @@
--- The number of a line's refusal: from 1 to 9, or 19; on its sheet also 30, and that only of a number that stands there twice. Assumes nothing.
-use Prim.Native.Nat.{ℕ, _<_}
+-- The number of a line's refusal: from 1 to 9, 19 or 23; on its sheet also 30, and that only of a number that stands there twice. Assumes nothing.
+use Prim.Native.Nat.{ℕ, _≤_, _<_}
 use mathlib.Core.Path.{_≡_, refl, subst}
 use mathlib.Core.List.{List, map}
 use native.Mathlib.Omega.{arith}
@@ -17,8 +17,8 @@ use Rattle.door_answers.specs.declared.Answer.{Answer}
 use Rattle.sheet_outcome.specs.declared.Weighed.{Weighed}
 use Rattle.demands.specs.Demands.{Exactly, Numbered, to-9, is-19, Settled, given, not-given}
 use Rattle.demands.specs.Lines as lines
-use Rattle.demands.specs.Lines.{Dashed, Asked, by-pressure, by-density, RefusesLine, no-volume, by-door, no-product}
-use Rattle.demands.specs.Twice.{at, Again, came, RefusesAt, lacks, is-again, alone, NumberedAt, as-alone, is-30}
+use Rattle.demands.specs.Lines.{Dashed, Asked, by-pressure, by-density, RefusesLine, no-volume, no-volume-weighed, no-mass, by-door, no-product}
+use Rattle.demands.specs.Twice.{at, Again, came, RefusesAt, lacks, is-again, alone, NumberedAlone, as-door, is-23, NumberedAt, as-alone, is-30}
 use Rattle.demands.proofs.Demands.{pressure-settles, density-settles}
 use Rattle.demands.proofs.Twice.{stands-again, refusals-at}
 
@@ -36,23 +36,29 @@ door-number : {n : ℕ} → Settled (Answer.Refused n) → Numbered 1 n
 door-number (given x e) = let z : _≡_ {A = ℕ} 0 1 = cc in absurd (omega arith)
 door-number {n} (not-given m e k) = let z : m ≡ n = cc in subst (Numbered 1) z (from-1 k)
 
--- a line is refused by a number from 1 to 9, or by 19
-pub line-number : {L : Limits} {c : Cylinder} {n : ℕ} → RefusesLine L c n → Numbered 1 n
-line-number (lines.blank d) = to-9 1 (omega arith) (omega arith)
-line-number (no-volume f r) = to-9 2 (omega arith) (omega arith)
-line-number (by-door f r) = door-number (asked-settles (f .asked))
-line-number (no-product f r e) = to-9 7 (omega arith) (omega arith)
+one-to-9 : (n : ℕ) → 1 ≤ n → n ≤ 9 → NumberedAlone n
+one-to-9 n h k = as-door (to-9 n h k)
+
+-- a line is refused by a number from 1 to 9, by 19 or by 23
+pub line-number : {L : Limits} {c : Cylinder} {n : ℕ} → RefusesLine L c n → NumberedAlone n
+line-number (lines.blank d) = one-to-9 1 (omega arith) (omega arith)
+line-number (no-volume f r) = one-to-9 2 (omega arith) (omega arith)
+line-number (no-volume-weighed f r) = one-to-9 2 (omega arith) (omega arith)
+line-number (no-mass f r m) = is-23
+line-number (by-door f r) = as-door (door-number (asked-settles (f .asked)))
+line-number (no-product f r e) = one-to-9 7 (omega arith) (omega arith)
 
 -- ---- on its sheet
 
 pub number-at : {L : Limits} {cs : List Cylinder} {i n : ℕ} → RefusesAt L cs i n → NumberedAt n
-number-at (lacks d) = as-alone (to-9 1 (omega arith) (omega arith))
+number-at (lacks d) = as-alone (one-to-9 1 (omega arith) (omega arith))
 number-at (is-again d a) = is-30
 number-at (alone d a r) = as-alone (line-number r)
 
-not-30 : {n : ℕ} → Numbered 1 n → n ≡ 30 → ⊥
-not-30 (to-9 n h k) e = omega (arith, e)
-not-30 is-19 e = omega (arith, e)
+not-30 : {n : ℕ} → NumberedAlone n → n ≡ 30 → ⊥
+not-30 (as-door (to-9 n h k)) e = omega (arith, e)
+not-30 (as-door is-19) e = omega (arith, e)
+not-30 is-23 e = omega (arith, e)
 
 -- THE LINE AT i IS REFUSED BY 30 exactly when none of its fields is blank and some line before it has its number
 pub refused-by-30 : (L : Limits) (cs : List Cylinder) (i : ℕ) → i < length cs

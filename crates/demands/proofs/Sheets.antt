@@ -14,6 +14,8 @@ use lib.ListN.{length, drop, getD, length-map}
 use lib.Seq.{getD-append-add, getD-drop}
 use borrow.Author.Tests.{eqb-true, eqb-false, ltb-true, ltb-false, leb-true, leb-false, ne-eqb, lt-ltb, le-ltb, le-leb, lt-leb}
 use Rattle.sheet_text.specs.declared.Field.{Field}
+use Rattle.sheet_mass.specs.Mass.{asMilligrams}
+use Rattle.sheet_mass.specs.declared.Milligrams.{Milligrams}
 use Rattle.sheet_line.specs.Line.{lineOf, blankLine}
 use Rattle.sheet_line.specs.declared.cylinder.Cylinder.{Cylinder}
 use Rattle.sheet_line.specs.declared.line.Line.{Line}
@@ -46,17 +48,17 @@ use Rattle.demands.proofs.Twice.{no-mass, line-at, SomeRefused, some-al
 -- ---- the total of marks: refused where one of them is, and else the sum of their milligrams
 
 abbrev massed : List ℕ → List Mark
-massed mgs = map (λ (mg : ℕ). record { weighed = Weighed.Mass mg }) mgs
+massed mgs = map (λ (mg : ℕ). record { weighed = Weighed.Mass (asMilligrams mg) }) mgs
 
 pub data Tally (ms : List Mark) : Summed → Type 0 where
   refused : (i n : ℕ) → i < length ms → getD ms i noMark .weighed ≡ Weighed.Refused n → Tally ms Summed.Refused
-  summed : (mgs : List ℕ) → ms ≡ massed mgs → Tally ms (Summed.Sum (sum mgs))
+  summed : (mgs : List ℕ) → ms ≡ massed mgs → Tally ms (Summed.Sum (asMilligrams (sum mgs)))
 
 one-mark : (m : Mark) (ms : List Mark) (w : Weighed) → m .weighed ≡ w → (t : Summed) → Tally ms t → Tally (m ∷ ms) (plus w t)
 one-mark m ms (Weighed.Refused n) e t r = refused 0 n (omega arith) e
 one-mark m ms (Weighed.Mass mg) e t (refused i n h r) = refused (suc i) n (omega arith) r
 one-mark m ms (Weighed.Mass mg) e t (summed mgs a) =
-    summed (mg ∷ mgs) (ap (λ (w : Weighed). record { weighed = w } ∷ ms) e ∙ ap (λ (l : List Mark). record { weighed = Weighed.Mass mg } ∷ l) a)
+    summed (mg .0 ∷ mgs) (ap (λ (w : Weighed). record { weighed = w } ∷ ms) e ∙ ap (λ (l : List Mark). record { weighed = Weighed.Mass mg } ∷ l) a)
 
 pub tally : (ms : List Mark) → Tally ms (total ms)
 unfolding total
@@ -104,7 +106,7 @@ module _ (L : Limits) where
   all-weighed (l ∷ ls) [] e = let z : suc (length (markedBefore L ls)) ≡ 0 = ap length e in absurd (omega arith)
   all-weighed (l ∷ ls) (mg ∷ mgs) e = one-more (ap (λ (ms : List Mark). getD ms 0 noMark .weighed) e) (all-weighed ls mgs (ap (drop 1) e))
 
-  weighed-total : {ls : List Line} {mgs : List ℕ} → AllWeighed L ls mgs → total (markedBefore L ls) ≡ Summed.Sum (sum mgs)
+  weighed-total : {ls : List Line} {mgs : List ℕ} → AllWeighed L ls mgs → total (markedBefore L ls) ≡ Summed.Sum (asMilligrams (sum mgs))
   unfolding total
   weighed-total none-left = refl
   weighed-total (one-more e a) = rw (e, weighed-total a)
@@ -128,10 +130,10 @@ module _ (L : Limits) where
     pub twice-total : Twice cs → total marks ≡ Summed.Refused
     twice-total t = some-total (some-twice L cs t)
 
-    pub total-once : (mg : ℕ) → total marks ≡ Summed.Sum mg → Twice cs → ⊥
+    pub total-once : (mg : Milligrams) → total marks ≡ Summed.Sum mg → Twice cs → ⊥
     total-once mg e t = let f = twice-total t in let z : _≡_ {A = ℕ} 0 1 = cc in omega arith
 
-    once-total : {mgs : List ℕ} → (Twice cs → ⊥) → AllWeighed L (map lineOf cs) mgs → total marks ≡ Summed.Sum (sum mgs)
+    once-total : {mgs : List ℕ} → (Twice cs → ⊥) → AllWeighed L (map lineOf cs) mgs → total marks ≡ Summed.Sum (asMilligrams (sum mgs))
     once-total once a = ap total (marked-as-before L cs once) ∙ weighed-total a
 
     -- no mark is refused: so no number stands twice, and each line is answered by itself
@@ -189,7 +191,7 @@ module _ (L : Limits) (t : List ℕ) where
     of-total need n s (summed mgs a) =
         let once = none-twice L (b .cylinders) mgs a in
         let all = each-alone L (b .cylinders) mgs a in
-        by-test (λ (e : Ending). Reported L t (linesBytes 1 bank ++ endingBytes e)) (leb need (sum mgs)) (Ending.Covered (sum mgs)) (Ending.Short (sum mgs))
+        by-test (λ (e : Ending). Reported L t (linesBytes 1 bank ++ endingBytes e)) (leb need (sum mgs)) (Ending.Covered (asMilligrams (sum mgs))) (Ending.Short (asMilligrams (sum mgs)))
         (λ e. covered n once all (leb-true need (sum mgs) e)) (λ e. short n once all (leb-false need (sum mgs) e))
 
     abbrev ListedAs : Admitted → Type 0
@@ -300,12 +302,12 @@ module _ (L : Limits) where
       omega arith
 
   -- A SHEET WITH A VERDICT NAMES NO NUMBER TWICE
-  pub covered-once : (t : List ℕ) {b : Bank} {need : ℕ} → Needs t b need → (mg : ℕ)
+  pub covered-once : (t : List ℕ) {b : Bank} {need : ℕ} → Needs t b need → (mg : Milligrams)
       → report L (inForm t) ≡ linesBytes 1 (marked L (lines b)) ++ endingBytes (Ending.Covered mg) → Twice (b .cylinders) → ⊥
   unfolding endingBytes
   covered-once t n mg r w = no-t t n w (Ending.Covered mg) refl r
 
-  pub short-once : (t : List ℕ) {b : Bank} {need : ℕ} → Needs t b need → (mg : ℕ)
+  pub short-once : (t : List ℕ) {b : Bank} {need : ℕ} → Needs t b need → (mg : Milligrams)
       → report L (inForm t) ≡ linesBytes 1 (marked L (lines b)) ++ endingBytes (Ending.Short mg) → Twice (b .cylinders) → ⊥
   unfolding endingBytes
   short-once t n mg r w = no-t t n w (Ending.Short mg) refl r

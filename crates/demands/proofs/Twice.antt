@@ -11,14 +11,18 @@ use lib.ListN.{length, take, getD, length-map, length-take}
 use lib.Seq.{getD-take, ext-getD}
 use Rattle.door_limits.specs.declared.Limits.{Limits}
 use Rattle.sheet_text.specs.declared.Field.{Field}
+use Rattle.sheet_mass.specs.Mass.{asMilligrams}
+use Rattle.sheet_mass.specs.declared.Milligrams.{Milligrams}
+use Rattle.sheet_line.specs.Record.{recordedOf}
 use Rattle.sheet_line.specs.Line.{temperatureOf, readingOf, lineOf, blankLine}
 use Rattle.sheet_line.specs.declared.cylinder.Kind.{Kind}
 use Rattle.sheet_line.specs.declared.cylinder.Cylinder.{Cylinder}
+use Rattle.sheet_line.specs.declared.line.Temperature.{Temperature}
 use Rattle.sheet_line.specs.declared.line.Line.{Line}
 use Rattle.sheet_read.specs.Form.{Bank}
 use Rattle.door_checks.specs.declared.Check.{Check}
 use Rattle.door_checks.specs.declared.Check.the-variants.{Passed, No}
-use Rattle.sheet_standing.specs.Standing.{ifNumbered, noTemperature, noVolume, noReading, lacking, isOn, numbers, standing}
+use Rattle.sheet_standing.specs.Standing.{ifNumbered, noVolume, noReading, lacking, isOn, numbers, standing}
 use Rattle.sheet_standing.proofs.Named.{named, is-named}
 use Rattle.sheet_outcome.specs.Outcome.{admitted}
 use Rattle.sheet_outcome.specs.declared.Admitted.{Admitted}
@@ -29,36 +33,45 @@ use Rattle.sheet_weigh.specs.Sheet.{marked}
 use Rattle.sheet_weigh.proofs.Markings.{marked-length, marked-at}
 use Rattle.sheet_score.specs.Score.{listed, report}
 use Rattle.demands.specs.Demands.{Exactly}
-use Rattle.demands.specs.Lines.{Dashed, in-number, in-temperature, in-value, in-volume}
+use Rattle.demands.specs.Lines.{AtDoor, for-pressure, for-density, Dashed, in-number, in-temperature, in-value, in-volume}
 use Rattle.demands.specs.Twice.{at, Again, Twice, noMark, came, RefusesAt, lacks, is-again, alone, WeighsAt, markedBefore, reportBefore}
-use Rattle.demands.proofs.Lines.{dash-refused, line-refusals, line-answers}
+use Rattle.demands.proofs.Lines.{not-weighed, dash-refused, line-refusals, line-answers}
 
 -- ---- 1: a field is blank, as it is written and as it is read
 
 module _ (c : Cylinder) where
   is-dashed : lacking (lineOf c) ≡ true → Dashed c
   unfolding lacking
-  is-dashed e = go (c .temperature) refl (c .volume) refl (c .value) refl (c .kind) e
+  is-dashed e = go (c .temperature) refl (c .volume) refl (c .value) refl (c .kind) refl e
     where
-      go : (t : Field) → c .temperature ≡ t → (v : Field) → c .volume ≡ v → (x : Field) → c .value ≡ x → (k : Kind)
-          → noTemperature (temperatureOf t) || (noVolume v || noReading (readingOf k x)) ≡ true → Dashed c
-      go Field.Blank q v r x s k e = in-temperature q
-      go (Field.Number t) q Field.Blank r x s k e = in-volume r
-      go (Field.Number t) q (Field.Number v) r Field.Blank s k e = in-value s
-      go (Field.Number t) q (Field.Number v) r (Field.Number x) s Kind.Pressure e = absurd (true≢false (sym e))
-      go (Field.Number t) q (Field.Number v) r (Field.Number x) s Kind.Density e = absurd (true≢false (sym e))
+      go : (t : Field) → c .temperature ≡ t → (v : Field) → c .volume ≡ v → (x : Field) → c .value ≡ x → (k : Kind) → c .kind ≡ k
+          → noVolume v || noReading (temperatureOf t) (readingOf (recordedOf k x)) ≡ true → Dashed c
+      go t q Field.Blank r x s k p e = in-volume r
+      go t q (Field.Number v) r Field.Blank s k p e = in-value s
+      go Field.Blank q (Field.Number v) r (Field.Number x) s Kind.Pressure p e = in-temperature (rw p for-pressure) q
+      go Field.Blank q (Field.Number v) r (Field.Number x) s Kind.Density p e = in-temperature (rw p for-density) q
+      go (Field.Number t) q (Field.Number v) r (Field.Number x) s Kind.Pressure p e = absurd (true≢false (sym e))
+      go (Field.Number t) q (Field.Number v) r (Field.Number x) s Kind.Density p e = absurd (true≢false (sym e))
+      go t q (Field.Number v) r (Field.Number x) s Kind.Weighed p e = absurd (true≢false (sym e))
 
   second : (a b : Bool) → b ≡ true → a || b ≡ true
   second true b e = refl
   second false b e = e
 
+  -- without a temperature that its kind asks for there is no reading
+  no-door : (k : Kind) (x : Field) → AtDoor k → noReading Temperature.Blank (readingOf (recordedOf k x)) ≡ true
+  no-door k Field.Blank a = refl
+  no-door Kind.Pressure (Field.Number x) a = refl
+  no-door Kind.Density (Field.Number x) a = refl
+  no-door Kind.Weighed (Field.Number x) a = absurd (not-weighed a refl)
+
   -- its number, or another of its fields
   lacks-one : Dashed c → (c .number ≡ Field.Blank) ⊎ (lacking (lineOf c) ≡ true)
   unfolding lacking
   lacks-one (in-number e) = inl e
-  lacks-one (in-temperature e) = inr (rw e)
-  lacks-one (in-volume e) = inr (rw e (second (noTemperature (temperatureOf (c .temperature))) _ refl))
-  lacks-one (in-value e) = inr (rw e (second (noTemperature (temperatureOf (c .temperature))) _ (second (noVolume (c .volume)) _ refl)))
+  lacks-one (in-temperature a e) = inr (rw e (second (noVolume (c .volume)) _ (no-door (c .kind) (c .value) a)))
+  lacks-one (in-volume e) = inr (rw e)
+  lacks-one (in-value e) = inr (rw e (second (noVolume (c .volume)) _ refl))
 
   lacks-none : (Dashed c → ⊥) → lacking (lineOf c) ≡ false
   lacks-none h = go (lacking (lineOf c)) refl
@@ -166,7 +179,7 @@ module _ (cs : List Cylinder) (i : ℕ) where
 same-number : {m n : ℕ} → Weighed.Refused m ≡ Weighed.Refused n → m ≡ n
 same-number e = cc
 
-pub no-mass : {A : Type 0} {n mg : ℕ} → Weighed.Refused n ≡ Weighed.Mass mg → A
+pub no-mass : {A : Type 0} {n : ℕ} {mg : Milligrams} → Weighed.Refused n ≡ Weighed.Mass mg → A
 no-mass e = let z : _≡_ {A = ℕ} 0 1 = cc in absurd (omega arith)
 
 abbrev markAlone : Limits → Line → Mark
@@ -207,7 +220,7 @@ module _ (L : Limits) where
     is-refused-at (is-again d a) = came-again d a
     is-refused-at (alone {n} d a r) = came-ready d a ∙ line-refusals L (at cs i) n .1 r
 
-    weighs-at : (mg : ℕ) → came L cs i ≡ Weighed.Mass mg → WeighsAt L cs i mg
+    weighs-at : (mg : ℕ) → came L cs i ≡ Weighed.Mass (asMilligrams mg) → WeighsAt L cs i mg
     weighs-at mg e = go (how cs i)
       where
         go : Stands cs i → WeighsAt L cs i mg
@@ -215,7 +228,7 @@ module _ (L : Limits) where
         go (standing-again d a) = no-mass (sym (came-again d a) ∙ e)
         go (standing-ready d a) = record { first = a; weighs = line-answers L (at cs i) mg .0 (sym (came-ready d a) ∙ e) }
 
-    is-weighed-at : {mg : ℕ} → WeighsAt L cs i mg → came L cs i ≡ Weighed.Mass mg
+    is-weighed-at : {mg : ℕ} → WeighsAt L cs i mg → came L cs i ≡ Weighed.Mass (asMilligrams mg)
     is-weighed-at {mg} w =
         let e = line-answers L (at cs i) mg .1 (w .weighs) in
         came-ready (λ d. no-mass (sym (dash-refused L (at cs i) d) ∙ e)) (w .first) ∙ e
@@ -224,7 +237,7 @@ module _ (L : Limits) where
   pub refusals-at : (cs : List Cylinder) (i : ℕ) → i < length cs → (n : ℕ) → Exactly (came L cs i ≡ Weighed.Refused n) (RefusesAt L cs i n)
   refusals-at cs i h n = (refused-at cs i h n, is-refused-at cs i h)
 
-  pub answers-at : (cs : List Cylinder) (i : ℕ) → i < length cs → (mg : ℕ) → Exactly (came L cs i ≡ Weighed.Mass mg) (WeighsAt L cs i mg)
+  pub answers-at : (cs : List Cylinder) (i : ℕ) → i < length cs → (mg : ℕ) → Exactly (came L cs i ≡ Weighed.Mass (asMilligrams mg)) (WeighsAt L cs i mg)
   answers-at cs i h mg = (weighs-at cs i h mg, is-weighed-at cs i h)
 
   -- ---- some line of a sheet is refused

@@ -146,7 +146,7 @@ module _ (E : Equation) (L : Limits) where
 abbrev pub Exactly : Type 0 → Type 0 → Type 0
 Exactly A B = (A → B) × (B → A)
 
--- RULES 3.1: the numbers of refusals from one on, a door's from 3 and from 1 those of a line by itself, up to 9; and 19
+-- RULES 3.1: the numbers of refusals from one on, a door's from 3 and from 1 those of a line that asks a door, up to 9; and 19
 pub data Numbered (first : ℕ) : ℕ → Type 0 where
   to-9 : (n : ℕ) → first ≤ n → n ≤ 9 → Numbered first n
   is-19 : Numbered first 19

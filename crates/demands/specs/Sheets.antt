@@ -7,6 +7,7 @@ use denote.Ref.{RefT, now}
 use lib.ListN.{length, getD}
 use Rattle.door_limits.specs.declared.Limits.{Limits}
 use Rattle.sheet_text.specs.declared.Field.{Field}
+use Rattle.sheet_mass.specs.Mass.{asMilligrams}
 use Rattle.sheet_line.specs.Line.{lineOf}
 use Rattle.sheet_line.specs.declared.line.Line.{Line}
 use Rattle.sheet_read.specs.Form.{Bank, inForm}
@@ -55,7 +56,7 @@ module _ (L : Limits) where
   -- every line is answered by itself, and these are their milligrams
   pub data AllWeighed : List Line → List ℕ → Type 0 where
     none-left : AllWeighed [] []
-    one-more : {l : Line} {ls : List Line} {mg : ℕ} {mgs : List ℕ} → weighed L l ≡ Weighed.Mass mg → AllWeighed ls mgs → AllWeighed (l ∷ ls) (mg ∷ mgs)
+    one-more : {l : Line} {ls : List Line} {mg : ℕ} {mgs : List ℕ} → weighed L l ≡ Weighed.Mass (asMilligrams mg) → AllWeighed ls mgs → AllWeighed (l ∷ ls) (mg ∷ mgs)
 
   -- RULES 7.1 and 7.2: the report of a text
   pub data Reported (t : List ℕ) : List ℕ → Type 0 where
@@ -66,9 +67,9 @@ module _ (L : Limits) where
     one-refused : {b : Bank} {need : ℕ} → Needs t b need → OneRefused (lines b) → Reported t (linesBytes 1 (marked L (lines b)) ++ sentBack 13)
     named-twice : {b : Bank} {need : ℕ} → Needs t b need → Twice (b .cylinders) → Reported t (linesBytes 1 (marked L (lines b)) ++ sentBack 13)
     covered : {b : Bank} {need : ℕ} {mgs : List ℕ} → Needs t b need → (Twice (b .cylinders) → ⊥) → AllWeighed (lines b) mgs → need ≤ sum mgs
-        → Reported t (linesBytes 1 (marked L (lines b)) ++ endingBytes (Ending.Covered (sum mgs)))
+        → Reported t (linesBytes 1 (marked L (lines b)) ++ endingBytes (Ending.Covered (asMilligrams (sum mgs))))
     short : {b : Bank} {need : ℕ} {mgs : List ℕ} → Needs t b need → (Twice (b .cylinders) → ⊥) → AllWeighed (lines b) mgs → sum mgs < need
-        → Reported t (linesBytes 1 (marked L (lines b)) ++ endingBytes (Ending.Short (sum mgs)))
+        → Reported t (linesBytes 1 (marked L (lines b)) ++ endingBytes (Ending.Short (asMilligrams (sum mgs))))
 
   -- RULES 7.3: and what the lent output holds then, byte by byte: the report and after it what was there; or, where it doesn't fit, what was there
   pub data Delivered (t old new : List ℕ) : Written → Type 0 where

@@ -21,6 +21,7 @@ use Rattle.sheet_weigh.specs.Sheet.{marked}
 use Rattle.sheet_score.specs.Score.{sentBack, listed}
 use Rattle.demands.specs.Demands.{Numbered}
 use Rattle.demands.specs.Lines.{Dashed, RefusesLine, Weighs}
+use Rattle.sheet_mass.specs.Mass.{asMilligrams}
 
 -- where a sheet has no line
 abbrev pub noCylinder : Cylinder
@@ -28,7 +29,7 @@ noCylinder = record { number = Field.Blank; temperature = Field.Blank; kind = Ki
 
 -- and where there is no mark
 abbrev pub noMark : Mark
-noMark = record { weighed = Weighed.Mass 0 }
+noMark = record { weighed = Weighed.Mass (asMilligrams 0) }
 
 -- the line at a place, the first being 0
 abbrev pub at : List Cylinder → ℕ → Cylinder
@@ -48,8 +49,12 @@ pub record Twice (cs : List Cylinder) : Type 0 where
   pub again : Again cs place
 
 -- RULES 3.1: the numbers of a line's refusals on its sheet, those of the line alone, and 30
+pub data NumberedAlone : ℕ → Type 0 where
+  as-door : {n : ℕ} → Numbered 1 n → NumberedAlone n
+  is-23 : NumberedAlone 23
+
 pub data NumberedAt : ℕ → Type 0 where
-  as-alone : {n : ℕ} → Numbered 1 n → NumberedAt n
+  as-alone : {n : ℕ} → NumberedAlone n → NumberedAt n
   is-30 : NumberedAt 30
 
 module _ (L : Limits) where

@@ -6,6 +6,7 @@ use Rattle.num_working.specs.Number.{whole, decimal, fraction}
 use Rattle.sheet_text.specs.Decimal as Decimal
 use Rattle.sheet_text.specs.Parse.{byte}
 use Rattle.sheet_text.specs.Field.{digitsAfter, field, fieldTo, fieldAfter}
+use Rattle.sheet_mass.specs.Mass.{milligramsOf, fromScale}
 use Rattle.sheet_line.specs.Cylinder.{kind, reading, cylinder}
 use Rattle.sheet_read.specs.Form.{cylinders, bank, inForm}
 use Rattle.door_limits.specs.Limits.{document01}
@@ -22,6 +23,6 @@ use Rattle.demands.specs.Examples.{Example, examples}
 
 pub all-printed : map (λ (e : Example). report document01 (inForm (e .text))) examples ≡ map (λ (e : Example). ascii (e .report)) examples
 unfolding examples report admitted marked markedAfter weighedAfter standing lacking isOn numbers total ending linesBytes lineBytes weighedBytes endingBytes Decimal.decimal Decimal.decimalWithin inForm bank
-    fieldAfter fieldTo field digitsAfter byte kind reading cylinder cylinders weighed byReading filled pressureDoor unboxed document01 ranged boxed
+    fieldAfter fieldTo field digitsAfter byte kind reading cylinder cylinders weighed byReading filled fromScale milligramsOf pressureDoor unboxed document01 ranged boxed
     whole decimal fraction ofInt round div lt
 all-printed = refl

@@ -11,6 +11,7 @@ pub mod Lines
 pub mod Twice
 pub mod Numbers
 pub mod Sheets
+pub mod Scales
 pub mod Lengths
 pub mod Readings
 pub mod Examples

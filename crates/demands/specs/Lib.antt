@@ -4,6 +4,7 @@ pub mod Counts
 pub mod Conductivities
 pub mod Lines
 pub mod Twice
+pub mod Scales
 pub mod Sheets
 pub mod Readings
 pub mod Examples

@@ -1,0 +1,178 @@
+-- A weighed line: by what it is refused and with what it is answered, that its temperature is not used, the largest total, and what is as it was. Assumes
+-- nothing.
+use Prim.Native.Nat.{ℕ, _<_}
+use mathlib.Core.Path.{_≡_, refl, ap, subst, _∙_}
+use mathlib.Core.Bool.{true}
+use mathlib.Core.List.{List, [], _∷_, _++_, map}
+use mathlib.Core.Option.{Option, none, some}
+use native.Mathlib.Omega.{arith}
+use lib.ListN.{length}
+use lib.Ieee.{Float}
+use Rattle.door_limits.specs.declared.Limits.{Limits}
+use Rattle.door_answers.specs.declared.Answer.{Answer}
+use Rattle.sheet_text.specs.declared.Field.{Field}
+use Rattle.sheet_mass.specs.Mass.{asMilligrams, milligramsOf, fromScale}
+use Rattle.sheet_line.specs.Line.{lineOf}
+use Rattle.sheet_line.specs.declared.cylinder.Kind.{Kind}
+use Rattle.sheet_line.specs.declared.cylinder.Cylinder.{Cylinder}
+use Rattle.sheet_line.specs.declared.line.Line.{Line}
+use Rattle.sheet_read.specs.Form.{Bank}
+use Rattle.sheet_read.proofs.Inverse.{read-back}
+use Rattle.sheet_standing.specs.Standing.{lacking, isOn, numbers, standing}
+use Rattle.sheet_outcome.specs.Outcome.{admitted, total}
+use Rattle.sheet_outcome.specs.declared.Weighed.{Weighed}
+use Rattle.sheet_outcome.specs.declared.Mark.{Mark}
+use Rattle.sheet_weigh.specs.Weighing.{ifPassed, filled, byReading, weighed, weighedAfter}
+use Rattle.sheet_weigh.specs.Sheet.{mark, markedAfter, marked}
+use Rattle.sheet_score.specs.Score.{listed, report}
+use Rattle.demands.specs.Lines as lines
+use Rattle.demands.specs.Lines.{AtDoor, for-pressure, for-density, Dashed, in-number, in-temperature, in-value, in-volume, Asked, by-pressure, by-density}
+use Rattle.demands.specs.Lines.{OnScale, RefusesLine, no-volume, no-volume-weighed, no-mass, by-door, no-product, Weighs, by-product, by-scale}
+use Rattle.demands.specs.Twice.{at, Again, came, RefusesAt, lacks, is-again, alone, WeighsAt}
+use Rattle.demands.specs.Scales.{Lacks, lacks-number, lacks-value, lacks-volume, RefusesScale, by-1, by-30, by-2, by-23, AnswersScale, thousandfold}
+use Rattle.demands.specs.Scales.{ScaleRefusals, ScaleAnswers, withTemperature, ButForTemperatures, no-more, alike, other, TemperatureNotUsed}
+use Rattle.demands.specs.Scales.{heaviest, LargestReached, NoneWeighed, not-one, not-this, lineThen, standingThen, weighedThen, markedThen, AsThen, TextAsThen}
+use Rattle.demands.proofs.Lines.{not-weighed}
+use Rattle.demands.proofs.Twice.{refusals-at, answers-at}
+
+-- ---- what a weighed line lacks
+
+dashed : {c : Cylinder} → Lacks c → Dashed c
+dashed (lacks-number e) = in-number e
+dashed (lacks-value e) = in-value e
+dashed (lacks-volume e) = in-volume e
+
+lacked : {c : Cylinder} → c .kind ≡ Kind.Weighed → Dashed c → Lacks c
+lacked k (in-number e) = lacks-number e
+lacked k (in-temperature a e) = absurd (not-weighed a k)
+lacked k (in-value e) = lacks-value e
+lacked k (in-volume e) = lacks-volume e
+
+apart : {A : Type 0} {n : ℕ} {f : Field} → f ≡ Field.Blank → f ≡ Field.Number n → A
+apart p q = let z : _≡_ {A = ℕ} 0 1 = cc in absurd (omega arith)
+
+whole-line : {c : Cylinder} {v g : ℕ} → OnScale c v g → Dashed c → ⊥
+whole-line f (in-number e) = apart e (f .number)
+whole-line f (in-temperature a e) = not-weighed a (f .kind)
+whole-line f (in-value e) = apart e (f .value)
+whole-line f (in-volume e) = apart e (f .volume)
+
+asked-at-door : {L : Limits} {t : Float} {k : Kind} {x : Field} {a : Answer} → Asked L t k x a → AtDoor k
+asked-at-door (by-pressure n) = for-pressure
+asked-at-door (by-density n) = for-density
+
+module _ (L : Limits) where
+  module _ (cs : List Cylinder) (i : ℕ) (k : at cs i .kind ≡ Kind.Weighed) where
+    by-scale-alone : {n : ℕ} → (Dashed (at cs i) → ⊥) → (Again cs i → ⊥) → RefusesLine L (at cs i) n → RefusesScale cs i n
+    by-scale-alone d a (lines.blank b) = absurd (d b)
+    by-scale-alone d a (no-volume f r) = absurd (not-weighed (asked-at-door (f .asked)) k)
+    by-scale-alone d a (no-volume-weighed f r) = by-2 a f r
+    by-scale-alone d a (no-mass f r m) = by-23 a f r m
+    by-scale-alone d a (by-door f r) = absurd (not-weighed (asked-at-door (f .asked)) k)
+    by-scale-alone d a (no-product f r e) = absurd (not-weighed (asked-at-door (f .asked)) k)
+
+    to-scale : {n : ℕ} → RefusesAt L cs i n → RefusesScale cs i n
+    to-scale (lacks d) = by-1 (lacked k d)
+    to-scale (is-again d a) = by-30 (λ l. d (dashed l)) a
+    to-scale (alone d a r) = by-scale-alone d a r
+
+    from-scale : {n : ℕ} → RefusesScale cs i n → RefusesAt L cs i n
+    from-scale (by-1 l) = lacks (dashed l)
+    from-scale (by-30 l a) = is-again (λ d. l (lacked k d)) a
+    from-scale (by-2 a f r) = alone (whole-line f) a (no-volume-weighed f r)
+    from-scale (by-23 a f r m) = alone (whole-line f) a (no-mass f r m)
+
+    answers-scale : {mg : ℕ} → (Again cs i → ⊥) → Weighs L (at cs i) mg → AnswersScale cs i mg
+    answers-scale a (by-product f r e) = absurd (not-weighed (asked-at-door (f .asked)) k)
+    answers-scale a (by-scale f r m) = thousandfold a f r m
+
+    scale-answers : {mg : ℕ} → AnswersScale cs i mg → WeighsAt L cs i mg
+    scale-answers (thousandfold a f r m) = record { first = a; weighs = by-scale f r m }
+
+  -- A WEIGHED LINE is refused by 1, 30, 2 and 23, each exactly under its condition, and by nothing else; and its milligrams are 1000 times its grams
+  pub weighed-refusals : ScaleRefusals L
+  weighed-refusals cs i h k n = (λ e. to-scale cs i k (refusals-at L cs i h n .0 e), λ r. refusals-at L cs i h n .1 (from-scale cs i k r))
+
+  pub weighed-answers : ScaleAnswers L
+  weighed-answers cs i h k mg =
+      (λ e. let w = answers-at L cs i h mg .0 e in answers-scale cs i k (w .first) (w .weighs), λ a. answers-at L cs i h mg .1 (scale-answers cs i k a))
+
+  -- ---- the temperature of a weighed line
+
+  abbrev weighedLine : Field → Field → Field → Field → Cylinder
+  weighedLine n t x v = record { number = n; temperature = t; kind = Kind.Weighed; value = x; volume = v }
+
+  any-temperature : (before : List ℕ) (n s t x v : Field)
+      → weighedAfter L before (lineOf (weighedLine n s x v)) ≡ weighedAfter L before (lineOf (weighedLine n t x v))
+  unfolding weighedAfter standing lacking weighed byReading
+  any-temperature before n s t Field.Blank v = refl
+  any-temperature before n s t (Field.Number g) v = refl
+
+  other-mark : (before : List ℕ) (c : Cylinder) (t : Field) → c .kind ≡ Kind.Weighed
+      → mark L before (lineOf c) ≡ mark L before (lineOf (withTemperature t c))
+  other-mark before c t e =
+      ap (λ (w : Weighed). record { weighed = w })
+      (rw e (any-temperature before (c .number) (c .temperature) t (c .value) (c .volume)))
+
+  same-marks : (before : List ℕ) {cs ds : List Cylinder} → ButForTemperatures cs ds
+      → markedAfter L before (map lineOf cs) ≡ markedAfter L before (map lineOf ds)
+  unfolding markedAfter numbers
+  same-marks before no-more = refl
+  same-marks before (alike {c} p) = ap (λ (ms : List Mark). mark L before (lineOf c) ∷ ms) (same-marks (before ++ numbers (lineOf c ∷ [])) p)
+  same-marks before (other {c} {cs} {ds} t e p) =
+      ap (λ (m : Mark). m ∷ markedAfter L (before ++ numbers (lineOf c ∷ [])) (map lineOf cs)) (other-mark before c t e)
+      ∙ ap (λ (ms : List Mark). mark L before (lineOf (withTemperature t c)) ∷ ms) (same-marks (before ++ numbers (lineOf c ∷ [])) p)
+
+  same-count : {cs ds : List Cylinder} → ButForTemperatures cs ds → length cs ≡ length ds
+  same-count no-more = refl
+  same-count (alike p) = rw (same-count p)
+  same-count (other t e p) = rw (same-count p)
+
+  -- A REPORT DOES NOT DEPEND ON THE TEMPERATURE OF A WEIGHED LINE
+  pub temperature-not-used : TemperatureNotUsed L
+  unfolding report marked
+  temperature-not-used need cs ds p = rw (same-count p, same-marks [] p)
+
+  -- ---- THE LARGEST TOTAL IS REACHED
+
+  pub largest-reached : LargestReached L
+  unfolding heaviest total marked markedAfter numbers weighedAfter standing lacking isOn weighed byReading filled fromScale milligramsOf
+  largest-reached = refl
+
+  -- ---- A SHEET WITHOUT A WEIGHED LINE HAS THE REPORT THAT IT HAD
+
+  abbrev came-then : List ℕ → Line → Weighed
+  came-then before l = ifPassed (standingThen before l) (weighedThen L l)
+
+  -- by which fields are blank
+  by-fields : (before : List ℕ) (n t : Field) (k : Kind) (x v : Field) → AtDoor k
+      → (let c : Cylinder = record { number = n; temperature = t; kind = k; value = x; volume = v } in weighedAfter L before (lineOf c) ≡ came-then before (lineThen c))
+  unfolding weighedAfter standing lacking weighed byReading filled
+  by-fields before Field.Blank t k x v a = refl
+  by-fields before (Field.Number n) Field.Blank k x Field.Blank a = refl
+  by-fields before (Field.Number n) Field.Blank k Field.Blank (Field.Number v) a = refl
+  by-fields before (Field.Number n) Field.Blank Kind.Pressure (Field.Number x) (Field.Number v) a = refl
+  by-fields before (Field.Number n) Field.Blank Kind.Density (Field.Number x) (Field.Number v) a = refl
+  by-fields before (Field.Number n) (Field.Number t) k x Field.Blank a = refl
+  by-fields before (Field.Number n) (Field.Number t) k Field.Blank (Field.Number v) a = refl
+  by-fields before (Field.Number n) (Field.Number t) Kind.Pressure (Field.Number x) (Field.Number v) a = refl
+  by-fields before (Field.Number n) (Field.Number t) Kind.Density (Field.Number x) (Field.Number v) a = refl
+  by-fields before (Field.Number n) t Kind.Weighed (Field.Number x) (Field.Number v) a = absurd (not-weighed a refl)
+
+  marks-as-then : (before : List ℕ) {cs : List Cylinder} → NoneWeighed cs → markedAfter L before (map lineOf cs) ≡ markedThen L before (map lineThen cs)
+  unfolding markedAfter markedThen numbers
+  marks-as-then before not-one = refl
+  marks-as-then before (not-this {c} {cs} a p) =
+      let later = before ++ numbers (lineOf c ∷ []) in
+      ap (λ (w : Weighed). record { weighed = w } ∷ markedAfter L later (map lineOf cs))
+      (by-fields before (c .number) (c .temperature) (c .kind) (c .value) (c .volume) a)
+      ∙ ap (λ (ms : List Mark). record { weighed = came-then before (lineThen c) } ∷ ms) (marks-as-then later p)
+
+  pub as-then : AsThen L
+  unfolding report marked
+  as-then none h = refl
+  as-then (some b) h = ap (listed (admitted true (length (b .cylinders)) (b .need))) (marks-as-then [] (h b refl))
+
+  -- and so has its text, letter by letter
+  pub text-as-then : TextAsThen L
+  text-as-then b f n h = rw (read-back b f n) (as-then (some b) (λ c e. let z : b ≡ c = cc in subst (λ (x : Bank). NoneWeighed (x .cylinders)) z h))

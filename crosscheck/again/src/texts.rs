@@ -396,17 +396,24 @@ fn damage(rng: &mut Rng, text: &mut Vec<u8>) {
     }
 }
 
-/// A line's letter that is another, or two, or none, or without the space beside it.
+/// A line's letter that is another, or two, or none, or without the space beside it, or without the number in front of it or behind it.
 fn wrong_letter(rng: &mut Rng, text: &mut Vec<u8>) {
     let letters: Vec<usize> = (0..text.len()).filter(|&i| b"PDW".contains(&text[i])).collect();
     let at = rng.pick(&letters);
-    match rng.below(8) {
-        0..=2 => text[at] = text[at].to_ascii_lowercase(),
-        3 => text[at] = rng.pick(b"VXMGTNCKQ-01 \0"),
-        4 => text.insert(at, rng.pick(b"PDWW-")),
-        5 => text.insert(at, text[at]),
-        6 => drop(text.remove(at)),
-        _ => drop(text.remove(rng.pick(&[at - 1, at + 1]))),
+    match rng.below(10) {
+        0..=1 => text[at] = text[at].to_ascii_lowercase(),
+        2 => text[at] = rng.pick(b"VXMGTNCKQ-01 \0"),
+        3 => text.insert(at, rng.pick(b"PDWW-")),
+        4 => text.insert(at, text[at]),
+        5 => drop(text.remove(at)),
+        6..=7 => drop(text.remove(rng.pick(&[at - 1, at + 1]))),
+        _ => {
+            let (before, behind) = (&text[..at - 1], &text[at + 2..]);
+            let front = before.iter().rposition(|&byte| byte == b' ').expect("a number in front");
+            let end = behind.iter().position(|&byte| byte == b' ').expect("a number behind");
+            let without = rng.pick(&[(front, at - 1), (at + 1, at + 2 + end)]);
+            text.drain(without.0..without.1);
+        }
     }
 }
 

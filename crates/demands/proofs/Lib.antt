@@ -4,6 +4,7 @@ pub mod PressureDoors
 pub mod DensityDoors
 pub mod Demands
 pub mod Fluids
+pub mod Mosts
 pub mod Before
 pub mod Counts
 pub mod Conductivities

@@ -1,6 +1,6 @@
 -- A weighed line: by what it is refused and with what it is answered, that its temperature is not used, the largest total, and what is as it was. Assumes
 -- nothing.
-use Prim.Native.Nat.{ℕ, _<_}
+use Prim.Native.Nat.{ℕ, _*_, _≤_, _<_}
 use mathlib.Core.Path.{_≡_, refl, ap, subst, _∙_}
 use mathlib.Core.Bool.{true}
 use mathlib.Core.List.{List, [], _∷_, _++_, map}
@@ -8,6 +8,7 @@ use mathlib.Core.Option.{Option, none, some}
 use native.Mathlib.Omega.{arith}
 use lib.ListN.{length}
 use lib.Ieee.{Float}
+use Rattle.door_limits.specs.Limits.{document01}
 use Rattle.door_limits.specs.declared.Limits.{Limits}
 use Rattle.door_answers.specs.declared.Answer.{Answer}
 use Rattle.sheet_text.specs.declared.Field.{Field}
@@ -20,6 +21,7 @@ use Rattle.sheet_read.specs.Form.{Bank}
 use Rattle.sheet_read.proofs.Inverse.{read-back}
 use Rattle.sheet_standing.specs.Standing.{lacking, isOn, numbers, standing}
 use Rattle.sheet_outcome.specs.Outcome.{admitted, total}
+use Rattle.sheet_outcome.specs.declared.Summed.{Summed}
 use Rattle.sheet_outcome.specs.declared.Weighed.{Weighed}
 use Rattle.sheet_outcome.specs.declared.Mark.{Mark}
 use Rattle.sheet_weigh.specs.Weighing.{ifPassed, filled, byReading, weighed, weighedAfter}
@@ -31,9 +33,16 @@ use Rattle.demands.specs.Lines.{OnScale, RefusesLine, no-volume, no-volu
 use Rattle.demands.specs.Twice.{at, Again, came, RefusesAt, lacks, is-again, alone, WeighsAt}
 use Rattle.demands.specs.Scales.{Lacks, lacks-number, lacks-value, lacks-volume, RefusesScale, by-1, by-30, by-2, by-23, AnswersScale, thousandfold}
 use Rattle.demands.specs.Scales.{ScaleRefusals, ScaleAnswers, withTemperature, ButForTemperatures, no-more, alike, other, TemperatureNotUsed}
-use Rattle.demands.specs.Scales.{heaviest, LargestReached, NoneWeighed, not-one, not-this, lineThen, standingThen, weighedThen, markedThen, AsThen, TextAsThen}
-use Rattle.demands.proofs.Lines.{not-weighed}
+use Rattle.demands.specs.Sheets.{sum, AllWeighed, none-left, one-more}
+use Rattle.demands.specs.Scales.{largest, LargestTotal, heaviest, LargestReached, NoneWeighed, not-one, not-this, lineThen, standingThen, weighedThen, markedThen, AsThen, TextAsThen}
+use Rattle.demands.proofs.Mosts.{line-most}
+use Rattle.demands.proofs.Lines.{not-weighed, line-answers}
 use Rattle.demands.proofs.Twice.{refusals-at, answers-at}
+use Rattle.demands.proofs.Sheets.{Tally, refused, summed, tally, each-alone}
+
+abbrev held : Summed → ℕ
+held (Summed.Sum mg) = mg .0
+held Summed.Refused = 0
 
 -- ---- what a weighed line lacks
 
@@ -60,6 +69,25 @@ whole-line f (in-volume e) = apart e (f .volume)
 asked-at-door : {L : Limits} {t : Float} {k : Kind} {x : Field} {a : Answer} → Asked L t k x a → AtDoor k
 asked-at-door (by-pressure n) = for-pressure
 asked-at-door (by-density n) = for-density
+
+-- ---- NO TOTAL IS LARGER than that of 32 lines of 9,999,999,999 g
+
+weighs-most : {c : Cylinder} {mg : ℕ} → Weighs document01 c mg → mg ≤ 9_999_999_999_000
+weighs-most {c} {mg} (by-product {v} {s = s} f r e) = omega (arith, line-most c v mg s f r e)
+weighs-most (by-scale f r m) = omega (arith, m .at-most)
+
+sum-most : (cs : List Cylinder) {mgs : List ℕ} → AllWeighed document01 (map lineOf cs) mgs → sum mgs ≤ length cs * 9_999_999_999_000
+sum-most [] none-left = omega arith
+sum-most (c ∷ cs) (one-more {mg = mg} e a) = omega (arith, weighs-most (line-answers document01 c mg .0 e), sum-most cs a)
+
+pub largest-total-of-all : LargestTotal
+largest-total-of-all cs mg h e = go (total (marked document01 (map lineOf cs))) (tally (marked document01 (map lineOf cs))) e
+  where
+    go : (s : Summed) → Tally (marked document01 (map lineOf cs)) s → s ≡ Summed.Sum mg → mg .0 ≤ largest
+    go s (refused i n k r) p = let z : _≡_ {A = ℕ} 0 1 = cc in absurd (omega arith)
+    go s (summed mgs a) p =
+        let m : sum mgs ≡ mg .0 = ap held p in
+        omega (arith, m, sum-most cs (each-alone document01 cs mgs a))
 
 module _ (L : Limits) where
   module _ (cs : List Cylinder) (i : ℕ) (k : at cs i .kind ≡ Kind.Weighed) where
@@ -133,7 +161,7 @@ module _ (L : Limits) where
   unfolding report marked
   temperature-not-used need cs ds p = rw (same-count p, same-marks [] p)
 
-  -- ---- THE LARGEST TOTAL IS REACHED
+  -- ---- the largest total is reached
 
   pub largest-reached : LargestReached L
   unfolding heaviest total marked markedAfter numbers weighedAfter standing lacking isOn weighed byReading filled fromScale milligramsOf

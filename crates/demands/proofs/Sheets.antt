@@ -143,7 +143,7 @@ module _ (L : Limits) where
         let n : length marks ≡ length mgs = ap length a ∙ length-map mgs _ in
         mass-at mgs (r .place) (r .number) (omega (arith, r .within, marks-many)) (ap (λ (ms : List Mark). getD ms (r .place) noMark .weighed) (sym a) ∙ r .refused)
 
-    each-alone : (mgs : List ℕ) → marks ≡ massed mgs → AllWeighed L (map lineOf cs) mgs
+    pub each-alone : (mgs : List ℕ) → marks ≡ massed mgs → AllWeighed L (map lineOf cs) mgs
     each-alone mgs a = all-weighed (map lineOf cs) mgs (sym (marked-as-before L cs (none-twice mgs a)) ∙ a)
 
     -- one mark is refused: so a line is by itself, or a number stands twice

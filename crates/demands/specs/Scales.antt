@@ -9,6 +9,7 @@ use lib.ListN.{length}
 use lib.Ieee.{binary64, div}
 use Rattle.num_working.specs.Number.{whole}
 use Rattle.equation.specs.Equation.{of1996}
+use Rattle.door_limits.specs.Limits.{document01}
 use Rattle.door_limits.specs.declared.Limits.{Limits}
 use Rattle.door_checks.specs.declared.Check.{Check}
 use Rattle.door_checks.specs.declared.Check.the-variants.{Passed, No}
@@ -17,6 +18,7 @@ use Rattle.door_pressure.specs.PressureDoor.{pressureDoor}
 use Rattle.door_density.specs.DensityDoor.{densityDoor}
 use Rattle.sheet_text.specs.declared.Field.{Field}
 use Rattle.sheet_mass.specs.Mass.{asMilligrams}
+use Rattle.sheet_mass.specs.declared.Milligrams.{Milligrams}
 use Rattle.sheet_line.specs.Line.{temperatureOf, lineOf}
 use Rattle.sheet_line.specs.declared.cylinder.Kind.{Kind}
 use Rattle.sheet_line.specs.declared.cylinder.Cylinder.{Cylinder}
@@ -87,7 +89,12 @@ TemperatureNotUsed L =
 abbrev pub largest : ℕ
 largest = 319_999_999_968_000
 
--- n such lines, numbered from a number on
+-- by the limits of RULES 2.2 and 2.3 no sheet has a larger one
+abbrev pub LargestTotal : Type 0
+LargestTotal =
+    (cs : List Cylinder) (mg : Milligrams) → length cs ≤ 32 → total (marked document01 (map lineOf cs)) ≡ Summed.Sum mg → mg .0 ≤ largest
+
+-- and a sheet has it, by any limits: n such lines, numbered from a number on
 unfoldable pub heaviest : ℕ → ℕ → List Cylinder
 heaviest zero number = []
 heaviest (suc n) number =

@@ -585,7 +585,10 @@ fn kind_of(line: &[u8]) -> String {
 fn changes(got: &[u8], right: &[u8]) -> Vec<String> {
     let [got, right] = [got, right].map(|report| report.split(|&byte| byte == b'\n').collect::<Vec<_>>());
     if got.len() != right.len() {
-        return vec!["a report of other lines".to_string()];
+        // behind the last LF stands nothing, so that one line alone is two parts
+        let told = |lines: Vec<&[u8]>| if lines.len() == 2 { format!("`{}` alone", kind_of(lines[0])) } else { "a line for each cylinder".into() };
+        let [got, right] = [got, right].map(told);
+        return vec![format!("{got} written where {right} is right")];
     }
     let pairs = got.iter().zip(&right).filter(|(got, right)| got != right);
     let told: Vec<_> = pairs.map(|(got, right)| format!("`{}` written where `{}` is right", kind_of(got), kind_of(right))).collect();
@@ -641,7 +644,8 @@ fn case(seed: u64, index: u64, tally: &mut Tally) {
     count[ending] += 1;
     count[7] += u64::from(!fits);
     count[8] += u64::from(report.len() == lent);
-    count[9] += u64::from(read(&text[..text_len]).is_some_and(|sheet| sheet.lines.iter().any(|line| line.kind == Kind::Weighed)));
+    let weighed = read(&text[..text_len]).is_some_and(|sheet| sheet.lines.iter().any(|line| line.kind == Kind::Weighed));
+    count[9] += u64::from(weighed);
     if let Outcome::Weighed { lines, .. } = &outcome {
         for line in lines {
             let column = match line {
@@ -659,7 +663,7 @@ fn case(seed: u64, index: u64, tally: &mut Tally) {
         let mut out = [0; 1512];
         let len = library::report(&text[..text_len], &mut out) as usize;
         for change in changes(&out[..len], &report) {
-            tally.change(format!("makhroeng_report: {change}"));
+            tally.change(format!("makhroeng_report: {change}{}", if weighed { ", with a weighed line" } else { "" }));
         }
     }
     let digest = digest([expected_len].into_iter().chain(text[..text_len].iter().chain(&expected).map(|&byte| u64::from(byte))));

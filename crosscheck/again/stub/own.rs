@@ -258,6 +258,8 @@ fn words_of(number: u32) -> Option<String> {
     let number = match number {
         6 | 8 if fault("words-of-6-and-8-exchanged") => 14 - number,
         16 if fault("words-of-15-for-16") => 15,
+        22 if fault("words-of-23-for-22") => 23,
+        23 if fault("no-words-of-23") => 0,
         30 if fault("no-words-of-30") => 0,
         _ if fault("words-by-the-lowest-byte") => number % 256,
         _ => number,
@@ -265,6 +267,7 @@ fn words_of(number: u32) -> Option<String> {
     let words = words::words(number)?;
     match words.split_once(". ") {
         Some((says, _)) if fault("words-without-what-to-do") => Some(says.to_string()),
+        Some(_) if fault("words-of-6-and-8-as-before") => Some(words.replace(" and write W and the grams of agent", "")),
         _ => Some(words),
     }
 }
@@ -336,8 +339,101 @@ fn with_slips(report: Vec<u8>) -> Vec<u8> {
     })
 }
 
+fn is_weighed(line: &sheet::Line) -> bool {
+    line.kind == sheet::Kind::Weighed
+}
+
+/// The milligrams of so many grams, in a cylinder of that volume (RULES 6.7), or what a fault takes for them.
+fn milligrams(grams: u64, volume: u64) -> u64 {
+    if fault("grams-as-milligrams") {
+        grams
+    } else if fault("1024-milligrams-a-gram") {
+        1024 * grams
+    } else if fault("grams-as-kilograms") {
+        1_000_000 * grams
+    } else if fault("whole-kilograms-alone") {
+        grams / 1000 * 1_000_000
+    } else if fault("grams-cut-to-32-bits") {
+        1000 * u64::from(grams as u32)
+    } else if fault("milligrams-cut-to-32-bits") {
+        u64::from((1000 * grams) as u32)
+    } else if fault("grams-through-an-f32") {
+        1000 * (grams as f32 as u64)
+    } else if fault("milligrams-through-an-f32") {
+        (1000.0 * grams as f32) as u64
+    } else if fault("kilograms-through-an-f64") {
+        (grams as f64 / 1000.0 * 1_000_000.0) as u64
+    } else if fault("weighed-mass-times-its-volume") {
+        grams * volume
+    } else {
+        1000 * grams
+    }
+}
+
+/// What a weighed line comes to by itself (RULES 3.2 and 6.7), likewise.
+fn weighed_alone(line: &sheet::Line) -> Result<u64, u32> {
+    let sheet::Line { temperature, value, volume, .. } = *line;
+    let unread = temperature.is_none();
+    let with_value = |value: u64| sheet::weigh(&sheet::Line { value: Some(value), ..*line }, &[]);
+    let with_volume = |volume: u64| sheet::weigh(&sheet::Line { volume: Some(volume), ..*line }, &[]);
+    let by_a_door = |kind: sheet::Kind, value: u64| sheet::weigh(&sheet::Line { kind, value: Some(value), ..*line }, &[]);
+    match (sheet::weigh(line, &[]), value, volume) {
+        _ if unread && fault("temperature-asked-for-on-a-weighed-line") => Err(1),
+        (_, Some(grams), _) if fault("weighed-mass-as-a-density") => by_a_door(sheet::Kind::Density, grams),
+        (_, Some(grams), _) if !unread && fault("weighed-as-a-pressure-beside-a-temperature") => by_a_door(sheet::Kind::Pressure, grams),
+        (Err(1), None, _) if fault("a-blank-mass-as-0") => with_value(0),
+        (Err(1), None, _) if unread && fault("a-blank-mass-as-0-without-a-temperature") => with_value(0),
+        (Err(1), None, _) if !unread && fault("a-blank-mass-as-0-beside-a-temperature") => with_value(0),
+        (Err(1), None, _) if !unread && fault("a-blank-mass-as-a-pressure-of-0") => by_a_door(sheet::Kind::Pressure, 0),
+        (Err(1), _, None) if fault("weighed-volume-not-asked-for") => with_volume(1),
+        (Err(1), _, None) if fault("weighed-volume-blank-as-0") => with_volume(0),
+        (Err(1), Some(0), _) if fault("23-before-1") => Err(23),
+        (Err(2), _, _) if fault("weighed-volume-not-tested") => with_volume(1),
+        (Err(2), _, Some(0)) if fault("weighed-volume-of-0-taken") => with_volume(1),
+        (Err(2), _, Some(1000001)) if fault("weighed-volume-of-1000001-taken") => with_volume(1),
+        (Err(2), Some(0), _) if fault("23-before-2") => Err(23),
+        (Err(2), _, _) if fault("23-for-2") => Err(23),
+        (Err(23), _, _) if fault("0-g-accepted") => Ok(0),
+        (Err(23), _, _) if fault("1-for-23") => Err(1),
+        (Err(23), _, _) if fault("2-for-23") => Err(2),
+        (Err(23), _, _) if fault("5-for-23") => Err(5),
+        (Ok(_), Some(1), _) if fault("1-g-refused") => Err(23),
+        (Ok(_), Some(9999999999), _) if fault("9999999999-g-refused") => Err(23),
+        (Ok(_), Some(1000000000..), _) if fault("nine-digits-of-grams-at-most") => Err(23),
+        (Ok(_), _, Some(1000000)) if fault("weighed-volume-of-1000000-refused") => Err(2),
+        (Ok(_), Some(grams), Some(volume)) if fault("more-than-750-kg-m3-refused") && 1000 * grams > 750 * volume => Err(23),
+        (Ok(_), _, _) if fault("temperature-of-a-weighed-line-tested") && temperature.is_some_and(|t| !(2165920..=5230000).contains(&t)) => Err(4),
+        (Ok(_), _, _) if fault("temperature-0-of-a-weighed-line-refused") && temperature == Some(0) => Err(4),
+        (Ok(_), Some(grams), Some(volume)) => Ok(milligrams(grams, volume)),
+        (refused, _, _) => refused,
+    }
+}
+
+/// What a line comes to by itself, likewise.
+fn alone(line: &sheet::Line) -> Result<u64, u32> {
+    let with_temperature = |temperature: u64| sheet::weigh(&sheet::Line { temperature: Some(temperature), ..*line }, &[]);
+    match (line.kind, line.temperature) {
+        (sheet::Kind::Weighed, _) => weighed_alone(line),
+        (sheet::Kind::Pressure, None) if fault("blank-temperature-by-pressure-as-0") => with_temperature(0),
+        (sheet::Kind::Pressure, None) if fault("blank-temperature-by-pressure-as-20-C") => with_temperature(2931500),
+        (sheet::Kind::Density, None) if fault("blank-temperature-by-density-as-0") => with_temperature(0),
+        (sheet::Kind::Density, None) if fault("blank-temperature-by-density-as-40-C") => with_temperature(3131500),
+        _ => sheet::weigh(line, &[]),
+    }
+}
+
 /// Whether two lines are of one cylinder (RULES 6.6), or what a fault takes for it.
 fn same_cylinder(earlier: &sheet::Line, line: &sheet::Line) -> bool {
+    if is_weighed(earlier)
+        && (fault("weighed-lines-not-counted-for-30") || earlier.temperature.is_none() && fault("30-not-by-a-line-without-a-temperature"))
+    {
+        return false;
+    }
+    if earlier.kind != line.kind && fault("30-among-lines-of-one-letter")
+        || is_weighed(earlier) != is_weighed(line) && fault("weighed-and-read-as-two-cylinders")
+    {
+        return false;
+    }
     let (Some(a), Some(b)) = (earlier.number, line.number) else {
         return fault("a-blank-as-cylinder-0") && line.number == Some(0);
     };
@@ -368,6 +464,8 @@ fn is_repeated(lines: &[sheet::Line], came: &[Result<u64, u32>]) -> bool {
         before.any(|(_, came)| came.is_ok())
     } else if fault("30-not-by-a-line-refused-by-1") {
         before.any(|(_, came)| *came != Err(1))
+    } else if fault("30-not-by-a-line-refused-by-23") {
+        before.any(|(_, came)| *came != Err(23))
     } else if fault("third-line-of-a-cylinder-worked") {
         before.count() == 1
     } else if fault("first-line-of-a-cylinder-refused") {
@@ -384,11 +482,16 @@ fn weighed(lines: &[sheet::Line]) -> Vec<Result<u64, u32>> {
     let mut came = Vec::new();
     for line in lines {
         let blank = |line: &sheet::Line| line.number.is_none();
-        let new = match sheet::weigh(line, &[]) {
+        let unread = is_weighed(line) && line.temperature.is_none();
+        let new = match alone(line) {
             Err(1) if fault("two-blanks-as-one-cylinder") && blank(line) && lines[..came.len()].iter().any(blank) => Err(30),
             Err(1) if !fault("30-before-1") => Err(1),
             Err(2) if fault("30-behind-2") => Err(2),
+            Err(23) if fault("23-before-30") => Err(23),
             Err(number) if fault("30-behind-the-door") => Err(number),
+            alone if is_weighed(line) && fault("no-30-for-a-weighed-line") => alone,
+            alone if unread && fault("no-30-without-a-temperature") => alone,
+            _ if unread && is_repeated(lines, &came) && fault("1-for-30-without-a-temperature") => Err(1),
             _ if is_repeated(lines, &came) => Err(30),
             alone => alone,
         };
@@ -399,9 +502,81 @@ fn weighed(lines: &[sheet::Line]) -> Vec<Result<u64, u32>> {
 
 fn scored(text: &[u8]) -> sheet::Outcome {
     match (sheet::score(text), sheet::read(text)) {
+        (_, Some(sheet)) if sheet.lines.iter().any(is_weighed) && fault("no-letter-W") => sheet::Outcome::Alone(14),
+        (_, Some(sheet)) if !sheet.lines.is_empty() && sheet.lines.iter().all(is_weighed) && fault("weighed-lines-not-counted-for-10") => {
+            sheet::Outcome::Alone(10)
+        }
+        (sheet::Outcome::Alone(11), Some(sheet)) if fault("weighed-lines-not-counted-for-11") => {
+            let others = sheet.lines.iter().filter(|line| !is_weighed(line)).count();
+            match sheet.need {
+                Some(need @ 1..) if others <= 32 => sheet::Outcome::Weighed { lines: weighed(&sheet.lines), need },
+                _ => sheet::Outcome::Alone(11),
+            }
+        }
         (sheet::Outcome::Weighed { need, .. }, Some(sheet)) => sheet::Outcome::Weighed { lines: weighed(&sheet.lines), need },
         (alone, _) => alone,
     }
+}
+
+/// The report's last line by what a fault takes for the total, where a sheet has lines; `text` is the sheet's, and `outcome` what it comes to.
+fn another_ending(text: &[u8], outcome: &sheet::Outcome) -> Option<String> {
+    let (sheet::Outcome::Weighed { lines: came, need }, Some(sheet)) = (outcome, sheet::read(text)) else { return None };
+    let ends = |shown: u64, compared: u64| Some(format!("TOTAL {shown} {}\n", if compared >= *need { "COVERED" } else { "SHORT" }));
+    let Some(total) = outcome.total() else {
+        let answered = came.iter().filter_map(|line| line.ok()).sum();
+        let others = came.iter().any(|line| !matches!(line, Ok(_) | Err(23)));
+        return if fault("23-left-out-of-the-total") && !others { ends(answered, answered) } else { None };
+    };
+    let low = u64::from(total as u32);
+    let read: u64 = sheet.lines.iter().zip(came).filter(|(line, _)| !is_weighed(line)).filter_map(|(_, came)| came.ok()).sum();
+    if fault("total-cut-to-32-bits") {
+        ends(low, low)
+    } else if fault("verdict-by-32-bits") {
+        ends(total, low)
+    } else if fault("total-through-an-f32") {
+        ends(total as f32 as u64, total)
+    } else if fault("verdict-through-an-f32") {
+        ends(total, if total as f32 >= *need as f32 { *need } else { 0 })
+    } else if fault("total-of-ten-digits-at-most") {
+        ends(total.min(9_999_999_999), total)
+    } else if fault("total-without-what-was-weighed") {
+        ends(read, read)
+    } else if fault("verdict-without-what-was-weighed") {
+        ends(total, read)
+    } else if fault("verdict-by-grams") {
+        ends(total, total / 1000)
+    } else {
+        None
+    }
+}
+
+/// A text as a fault reads it.
+fn as_read(text: &[u8]) -> Vec<u8> {
+    let line_as_read = |line: &[u8]| -> Vec<u8> {
+        let parts: Vec<&[u8]> = line.split(|&byte| byte == b' ').collect();
+        match parts[..] {
+            [b"C", number, temperature, b"w", value, volume] if fault("w-taken-for-W") => {
+                [b"C", number, temperature, b"W", value, volume].join(&b' ')
+            }
+            [b"C", number, temperature, b"WW", value, volume] if fault("WW-taken-for-W") => {
+                [b"C", number, temperature, b"W", value, volume].join(&b' ')
+            }
+            [b"C", number, temperature, letter, value, volume]
+                if letter.len() == 1 && !b"PDW".contains(&letter[0]) && fault("any-other-letter-taken-for-W") =>
+            {
+                [b"C", number, temperature, b"W", value, volume].join(&b' ')
+            }
+            [b"C", number, temperature, letter, volume] if letter.len() > 1 && letter[0] == b'W' && fault("W-without-a-space-behind-it-taken") => {
+                [b"C", number, temperature, b"W", &letter[1..], volume].join(&b' ')
+            }
+            [b"C", number, b"W", value, volume] if fault("weighed-line-of-five-parts-taken") => [b"C", number, b"-", b"W", value, volume].join(&b' '),
+            [b"C", number, temperature, b"W", value] if fault("weighed-line-without-its-volume-taken") => {
+                [b"C", number, temperature, b"W", value, b"1"].join(&b' ')
+            }
+            _ => line.to_vec(),
+        }
+    };
+    text.split(|&byte| byte == b'\n').map(line_as_read).collect::<Vec<_>>().join(&b'\n')
 }
 
 /// # Safety
@@ -412,7 +587,18 @@ pub unsafe extern "C" fn makhroeng_report(text: *const u8, text_len: usize, out:
     if fault("reads-past-the-text") {
         text = std::slice::from_raw_parts(text.as_ptr(), text_len + 1);
     }
-    let mut report = scored(text).report();
+    let read = as_read(text);
+    let text = &read[..];
+    let outcome = scored(text);
+    let mut report = outcome.report();
+    if let Some(ending) = another_ending(text, &outcome) {
+        let front = report[..report.len() - 1].iter().rposition(|&byte| byte == b'\n').map_or(0, |last| last + 1);
+        report.truncate(front);
+        report.extend(ending.bytes());
+    }
+    if fault("sent-back-with-23-alone") && report.windows(6).any(|part| part == b" R 23\n") {
+        report = b"SENT BACK 23\n".to_vec();
+    }
     if fault("sent-back-with-30-alone") && report.windows(6).any(|part| part == b" R 30\n") {
         report = b"SENT BACK 30\n".to_vec();
     }

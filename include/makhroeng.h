@@ -86,8 +86,9 @@ uint32_t makhroeng_saturation(double temperature, double *figures, size_t len);
 /* Scores the sheet in text[0] to text[text_len - 1], whatever bytes these are, and writes its report to `out`.
  * Returns the report's length, 13 to 1,512 bytes; bytes of `out` after it are as they were. Where the report is longer
  * than out_len: 0, and every byte of `out` is as it was. 1,512 bytes are enough for any sheet.
- * Since version 1.5.0 a line without blanks whose cylinder number stands on a line above it is refused by 30 (RULES 6.6).
- * Since version 1.6.0 a line may have `W` and the grams that were weighed (RULES 6.7), where before the text was not in the form.
+ * Since version 1.5.0 a line that lacks no field and whose cylinder number stands on a line above it is refused by 30
+ * (RULES 6.6). Since version 1.6.0 a line may have `W` and the grams of agent that were weighed, and needs no temperature
+ * then (RULES 6.7); before, such a text was not in the form.
  * `text` and `out` must not overlap. */
 uint64_t makhroeng_report(const uint8_t *text, size_t text_len, uint8_t *out, size_t out_len);
 

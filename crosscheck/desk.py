@@ -104,7 +104,7 @@ def of_gauge(_number, temperature, kind, value, volume):
     held = [down(at_or_below(rho * float(int(volume)))) for rho in (vapour, liquid)]
     return (f"the gauge can't tell. At {celsius(temperature)} C the vapour pressure is {bar(p)} bar, and {of_sheet(value, 5)} bar is within 2 bar of it. "
             f"At the vapour pressure the cylinder holds {held[0]} kg if all is vapour, {held[1]} kg if all is liquid, and anything between if it holds both. "
-            "Weigh it and write W and the grams of agent, or warm it evenly to 40 to 45 C, minding its pressure, and read again.")
+            "Weigh it and write W and the grams of agent in the place of P and the pressure, or warm it evenly to 40 to 45 C, minding its pressure, and read again.")
 
 
 def of_mass(value, volume):
@@ -165,7 +165,9 @@ def explanation(text):
         held, need = int(second), int(re.match(sheets.NEED, text)[1])
         margin = f"{down(held - need)} kg to spare" if third == "COVERED" else f"{up(need - held)} kg missing"
         doubts = sum("the gauge can't tell" in told for told in lines)
-        lines.append(f"Held {down(held)} kg, needed {up(need)} kg: {margin}." + (f" Gauges that can't tell: {doubts}." if doubts else ""))
+        heavy = sum("more than a cylinder is filled with" in told for told in lines)
+        counts = (f" Gauges that can't tell: {doubts}." if doubts else "") + (f" Lines above 750 kg/m3: {heavy}." if heavy else "")
+        lines.append(f"Held {down(held)} kg, needed {up(need)} kg: {margin}.{counts}")
     else:
         need = f"Needed {up(int(re.match(sheets.NEED, text)[1]))} kg. " if third == "13" else ""
         lines.append(f"{need}Sent back by {third}. {WORDS[int(third)]}")
@@ -197,6 +199,7 @@ def hint(mark, there, expected, front):
         (there == b"\r", "Lines end in LF alone, not in CR LF."),
         (there == b"", "Every line ends in LF, the last too."),
         (there == b"-" and expected == "P, D or W", "A blank keeps its letter: P -, D - or W -."),
+        (there in (b"P", b"D", b"W") and expected == "a digit or -", "What was not read is written -, in its place."),
         (there in (b".", b","), "Every number is whole: scorer --help shows the units."),
         (digit and behind == b"0", "No number has a 0 in front."),
         (digit and behind.isdigit() and len(behind) == 10, "No number has more than ten digits."),

@@ -88,7 +88,7 @@ uint32_t makhroeng_saturation(double temperature, double *figures, size_t len);
  * than out_len: 0, and every byte of `out` is as it was. 1,512 bytes are enough for any sheet.
  * Since version 1.5.0 a line that lacks no field and whose cylinder number stands on a line above it is refused by 30
  * (RULES 6.6). Since version 1.6.0 a line may have `W` and the grams of agent that were weighed, and needs no temperature
- * then (RULES 6.7); before, such a text was not in the form.
+ * then; one of 0 grams is refused by 23 (RULES 6.7). Before, such a text was not in the form.
  * `text` and `out` must not overlap. */
 uint64_t makhroeng_report(const uint8_t *text, size_t text_len, uint8_t *out, size_t out_len);
 

@@ -60,7 +60,7 @@ not-30 (as-door (to-9 n h k)) e = omega (arith, e)
 not-30 (as-door is-19) e = omega (arith, e)
 not-30 is-23 e = omega (arith, e)
 
--- THE LINE AT i IS REFUSED BY 30 exactly when none of its fields is blank and some line before it has its number
+-- THE LINE AT i IS REFUSED BY 30 exactly when no field that it requires is blank and some line before it has its number
 pub refused-by-30 : (L : Limits) (cs : List Cylinder) (i : ℕ) → i < length cs
     → Exactly (came L cs i ≡ Weighed.Refused 30) ((Dashed (at cs i) → ⊥) × Again cs i)
 refused-by-30 L cs i h = (λ e. go 30 refl (refusals-at L cs i h 30 .0 e), λ p. refusals-at L cs i h 30 .1 (is-again (p .0) (p .1)))

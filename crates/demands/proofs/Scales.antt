@@ -1,5 +1,5 @@
--- A weighed line: by what it is refused and with what it is answered, that its temperature is not used, the largest total, and what is as it was. Assumes
--- nothing.
+-- A line's record, and a weighed line: by what it is refused and with what it is answered, that its temperature is not used, the largest total, and what is as
+-- it was. Assumes nothing.
 use Prim.Native.Nat.{ℕ, _*_, _≤_, _<_}
 use mathlib.Core.Path.{_≡_, refl, ap, subst, _∙_}
 use mathlib.Core.Bool.{true}
@@ -11,14 +11,19 @@ use lib.Ieee.{Float}
 use Rattle.door_limits.specs.Limits.{document01}
 use Rattle.door_limits.specs.declared.Limits.{Limits}
 use Rattle.door_answers.specs.declared.Answer.{Answer}
+use Rattle.sheet_text.specs.Field.{fieldText}
 use Rattle.sheet_text.specs.declared.Field.{Field}
+use Rattle.sheet_text.proofs.Parses.{none-or-some}
 use Rattle.sheet_mass.specs.Mass.{asMilligrams, milligramsOf, fromScale}
+use Rattle.sheet_line.specs.Cylinder.{kindLetter, cylinderText}
+use Rattle.sheet_line.specs.Record.{recordedOf, recordOf}
 use Rattle.sheet_line.specs.Line.{lineOf}
 use Rattle.sheet_line.specs.declared.cylinder.Kind.{Kind}
 use Rattle.sheet_line.specs.declared.cylinder.Cylinder.{Cylinder}
 use Rattle.sheet_line.specs.declared.line.Line.{Line}
-use Rattle.sheet_read.specs.Form.{Bank}
-use Rattle.sheet_read.proofs.Inverse.{read-back}
+use Rattle.sheet_line.proofs.Printed.{opened}
+use Rattle.sheet_read.specs.Form.{Bank, cylindersText, text, inForm}
+use Rattle.sheet_read.proofs.Inverse.{the-form}
 use Rattle.sheet_standing.specs.Standing.{lacking, isOn, numbers, standing}
 use Rattle.sheet_outcome.specs.Outcome.{admitted, total}
 use Rattle.sheet_outcome.specs.declared.Summed.{Summed}
@@ -34,7 +39,8 @@ use Rattle.demands.specs.Twice.{at, Again, came, RefusesAt, lacks, is-ag
 use Rattle.demands.specs.Scales.{Lacks, lacks-number, lacks-value, lacks-volume, RefusesScale, by-1, by-30, by-2, by-23, AnswersScale, thousandfold}
 use Rattle.demands.specs.Scales.{ScaleRefusals, ScaleAnswers, withTemperature, ButForTemperatures, no-more, alike, other, TemperatureNotUsed}
 use Rattle.demands.specs.Sheets.{sum, AllWeighed, none-left, one-more}
-use Rattle.demands.specs.Scales.{largest, LargestTotal, heaviest, LargestReached, NoneWeighed, not-one, not-this, lineThen, standingThen, weighedThen, markedThen, AsThen, TextAsThen}
+use Rattle.demands.specs.Scales.{largest, LargestTotal, heaviest, LargestReached, NoneOnScale, not-one, not-this, lineThen, standingThen, weighedThen, markedThen, reportThen, AsThen, TextAsThen}
+use Rattle.demands.specs.Scales.{KeepsReading, keeps-none, keeps-pressure, keeps-density, keeps-grams, Keeps, Without, ReportedThen, was-in-form, was-not}
 use Rattle.demands.proofs.Mosts.{line-most}
 use Rattle.demands.proofs.Lines.{not-weighed, line-answers}
 use Rattle.demands.proofs.Twice.{refusals-at, answers-at}
@@ -43,6 +49,45 @@ use Rattle.demands.proofs.Sheets.{Tally, refused, summed, tally, each-a
 abbrev held : Summed → ℕ
 held (Summed.Sum mg) = mg .0
 held Summed.Refused = 0
+
+-- ---- A LINE'S RECORD KEEPS ALL THAT THE LINE SAYS
+
+keeps-reading : (c : Cylinder) (k : Kind) (x : Field) → c .kind ≡ k → c .value ≡ x → KeepsReading c (recordedOf k x)
+keeps-reading c k Field.Blank p q = keeps-none q
+keeps-reading c Kind.Pressure (Field.Number n) p q = keeps-pressure p q
+keeps-reading c Kind.Density (Field.Number n) p q = keeps-density p q
+keeps-reading c Kind.Weighed (Field.Number n) p q = keeps-grams p q
+
+pub record-keeps : (c : Cylinder) → Keeps c (recordOf c)
+record-keeps c = record { number = refl; temperature = refl; volume = refl; reading = keeps-reading c (c .kind) (c .value) refl refl }
+
+-- ---- a text without a `W` is of no weighed line
+
+past : (w : ℕ) (xs ys : List ℕ) → Without w (xs ++ ys) → Without w ys
+past w [] ys h = h
+past w (x ∷ xs) ys h = past w xs ys (h .1)
+
+letter-at-door : (k : Kind) → (kindLetter k ≡ 87 → ⊥) → AtDoor k
+letter-at-door Kind.Pressure h = for-pressure
+letter-at-door Kind.Density h = for-density
+letter-at-door Kind.Weighed h = absurd (h refl)
+
+letter-of : (c : Cylinder) (rest : List ℕ) → Without 87 (cylinderText c ++ rest) → kindLetter (c .kind) ≡ 87 → ⊥
+letter-of c rest h =
+    let number = subst (Without 87) (opened c rest) h in
+    let temperature = past 87 (fieldText (c .number)) _ (number .1 .1) in
+    let kind = past 87 (fieldText (c .temperature)) _ (temperature .1) in
+    kind .1 .0
+
+none-in : (cs : List Cylinder) → Without 87 (cylindersText cs) → NoneOnScale cs
+unfolding cylindersText
+none-in [] h = not-one
+none-in (c ∷ cs) h =
+    not-this (letter-at-door (c .kind) (letter-of c (cylindersText cs) h)) (none-in cs (past 87 (cylinderText c) (cylindersText cs) h))
+
+behind-need : (b : Bank) → Without 87 (text b) → Without 87 (cylindersText (b .cylinders))
+unfolding text
+behind-need b h = past 87 (fieldText (b .need)) _ (h .1 .1) .1
 
 -- ---- what a weighed line lacks
 
@@ -156,7 +201,7 @@ module _ (L : Limits) where
   same-count (alike p) = rw (same-count p)
   same-count (other t e p) = rw (same-count p)
 
-  -- A REPORT DOES NOT DEPEND ON THE TEMPERATURE OF A WEIGHED LINE
+  -- A BANK'S REPORT DOES NOT DEPEND ON THE TEMPERATURE OF A WEIGHED LINE
   pub temperature-not-used : TemperatureNotUsed L
   unfolding report marked
   temperature-not-used need cs ds p = rw (same-count p, same-marks [] p)
@@ -187,7 +232,7 @@ module _ (L : Limits) where
   by-fields before (Field.Number n) (Field.Number t) Kind.Density (Field.Number x) (Field.Number v) a = refl
   by-fields before (Field.Number n) t Kind.Weighed (Field.Number x) (Field.Number v) a = absurd (not-weighed a refl)
 
-  marks-as-then : (before : List ℕ) {cs : List Cylinder} → NoneWeighed cs → markedAfter L before (map lineOf cs) ≡ markedThen L before (map lineThen cs)
+  marks-as-then : (before : List ℕ) {cs : List Cylinder} → NoneOnScale cs → markedAfter L before (map lineOf cs) ≡ markedThen L before (map lineThen cs)
   unfolding markedAfter markedThen numbers
   marks-as-then before not-one = refl
   marks-as-then before (not-this {c} {cs} a p) =
@@ -196,11 +241,22 @@ module _ (L : Limits) where
       (by-fields before (c .number) (c .temperature) (c .kind) (c .value) (c .volume) a)
       ∙ ap (λ (ms : List Mark). record { weighed = came-then before (lineThen c) } ∷ ms) (marks-as-then later p)
 
-  pub as-then : AsThen L
+  bank-as-then : (b : Bank) → NoneOnScale (b .cylinders) → report L (some b) ≡ reportThen L (some b)
   unfolding report marked
-  as-then none h = refl
-  as-then (some b) h = ap (listed (admitted true (length (b .cylinders)) (b .need))) (marks-as-then [] (h b refl))
+  bank-as-then b h = ap (listed (admitted true (length (b .cylinders)) (b .need))) (marks-as-then [] h)
 
-  -- and so has its text, letter by letter
+  pub as-then : AsThen L
+  unfolding report
+  as-then none h = refl
+  as-then (some b) h = bank-as-then b (h b refl)
+
+  -- and so has every text without a `W`
   pub text-as-then : TextAsThen L
-  text-as-then b f n h = rw (read-back b f n) (as-then (some b) (λ c e. let z : b ≡ c = cc in subst (λ (x : Bank). NoneWeighed (x .cylinders)) z h))
+  text-as-then t w = go (inForm t) refl
+    where
+      go : (o : Option Bank) → inForm t ≡ o → ReportedThen L t (report L o)
+      go none e = rw (as-then none (λ b z. absurd (none-or-some refl z))) (was-not (λ b p f n h. none-or-some e (the-form t b .1 (p, f, n))))
+      go (some b) e =
+          let q = the-form t b .0 e in
+          let h = none-in (b .cylinders) (behind-need b (subst (Without 87) (q .0) w)) in
+          rw (bank-as-then b h) (was-in-form (q .0) (q .1) (q .2) h)

@@ -37,7 +37,7 @@ use Rattle.demands.specs.Lines.{AtDoor, for-pressure, for-density, Dashe
 use Rattle.demands.specs.Twice.{at, Again, Twice, noMark, came, RefusesAt, lacks, is-again, alone, WeighsAt, markedBefore, reportBefore}
 use Rattle.demands.proofs.Lines.{not-weighed, dash-refused, line-refusals, line-answers}
 
--- ---- 1: a field is blank, as it is written and as it is read
+-- ---- 1: a field that the line requires is blank, as it is written and as it is read
 
 module _ (c : Cylinder) where
   is-dashed : lacking (lineOf c) ≡ true → Dashed c
@@ -258,7 +258,7 @@ module _ (L : Limits) where
         go (standing-again d a) = record { place = i; number = 30; within = h; refused = came-again cs i h d a }
         go (standing-ready d a) = record { place = i; number = n; within = h; refused = came-ready cs i h d a ∙ e }
 
-    -- where a number stands twice, the later line is: by 30, or by 1 where a field of it is blank
+    -- where a number stands twice, the later line is: by 30, or by 1 where a field that it requires is blank
     pub some-twice : Twice cs → SomeRefused cs
     some-twice t = go (how cs (t .place))
       where

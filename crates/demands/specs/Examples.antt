@@ -29,7 +29,7 @@ examples =
     ∷ record { text = ascii "N 13000\nC 1 - W 12 50000\nC 2 9999999999 W 1 40\n"; report = "L 1 M 12000\nL 2 M 1000\nTOTAL 13000 COVERED\n" }
     ∷ record { text = ascii "N 13001\nC 1 - W 12 50000\nC 2 0 W 1 40\n"; report = "L 1 M 12000\nL 2 M 1000\nTOTAL 13000 SHORT\n" }
     ∷ record {
-      text = ascii "N 1\nC 1 - W 0 0\nC 1 - W 0 40\nC 2 - W - 0\nC 3 - W 1 -\nC - - W 1 1\nC 4 - P 5000000 40000\nC 5 - D 100000 40000\nC 6 - W 9999999999 1000001\n";
+      text = ascii "N 1\nC 1 - W 0 0\nC 1 - W 0 40\nC 2 - W - 0\nC 3 - W 1 -\nC - - W 1 1\nC 1 - P 5000000 40000\nC 1 - D 100000 40000\nC 6 - W 9999999999 1000001\n";
       report = "L 1 R 2\nL 2 R 30\nL 3 R 1\nL 4 R 1\nL 5 R 1\nL 6 R 1\nL 7 R 1\nL 8 R 2\nSENT BACK 13\n";
     }
     ∷ []

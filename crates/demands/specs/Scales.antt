@@ -1,5 +1,5 @@
--- RULES 3.2, 6.7 and 10.1: what is demanded of a weighed line on its sheet, the largest total, and what is as it was before a cylinder could be weighed.
--- Definitions only.
+-- RULES 3.2, 6.4, 6.7 and 10.1: what is demanded of a line's record, of a weighed line on its sheet and of the largest total, and what is as it was before a
+-- cylinder could be weighed. Definitions only.
 use Prim.Native.Nat.{ℕ, zero, suc, _+_, _*_, _≤_, _<_}
 use mathlib.Core.Path.{_≡_}
 use mathlib.Core.Bool.{Bool, true, false, cond, _||_}
@@ -17,11 +17,13 @@ use Rattle.door_answers.specs.declared.Answer.{Answer}
 use Rattle.door_pressure.specs.PressureDoor.{pressureDoor}
 use Rattle.door_density.specs.DensityDoor.{densityDoor}
 use Rattle.sheet_text.specs.declared.Field.{Field}
-use Rattle.sheet_mass.specs.Mass.{asMilligrams}
+use Rattle.sheet_mass.specs.Mass.{asGrams, asMilligrams}
 use Rattle.sheet_mass.specs.declared.Milligrams.{Milligrams}
 use Rattle.sheet_line.specs.Line.{temperatureOf, lineOf}
 use Rattle.sheet_line.specs.declared.cylinder.Kind.{Kind}
 use Rattle.sheet_line.specs.declared.cylinder.Cylinder.{Cylinder}
+use Rattle.sheet_line.specs.declared.record.Recorded.{Recorded}
+use Rattle.sheet_line.specs.declared.record.Record.{Record}
 use Rattle.sheet_line.specs.declared.line.Temperature.{Temperature}
 use Rattle.sheet_line.specs.declared.line.Reading.{Reading}
 use Rattle.sheet_line.specs.declared.line.Line.{Line}
@@ -37,6 +39,20 @@ use Rattle.sheet_score.specs.Score.{sentBack, listed, report}
 use Rattle.demands.specs.Demands.{Exactly}
 use Rattle.demands.specs.Lines.{AtDoor, Volume, NoVolume, Mass, NoMass, OnScale}
 use Rattle.demands.specs.Twice.{at, Again, came}
+
+-- ---- a line's record keeps all that the line says: its number, temperature and volume, whatever they are, and its value with its kind, unless it is blank
+
+pub data KeepsReading (c : Cylinder) : Recorded → Type 0 where
+  keeps-none : c .value ≡ Field.Blank → KeepsReading c Recorded.Blank
+  keeps-pressure : {n : ℕ} → c .kind ≡ Kind.Pressure → c .value ≡ Field.Number n → KeepsReading c (Recorded.Pressure n)
+  keeps-density : {n : ℕ} → c .kind ≡ Kind.Density → c .value ≡ Field.Number n → KeepsReading c (Recorded.Density n)
+  keeps-grams : {n : ℕ} → c .kind ≡ Kind.Weighed → c .value ≡ Field.Number n → KeepsReading c (Recorded.Weighed (asGrams n))
+
+pub record Keeps (c : Cylinder) (r : Record) : Type 0 where
+  pub number : r .number ≡ c .number
+  pub temperature : r .temperature ≡ c .temperature
+  pub volume : r .volume ≡ c .volume
+  pub reading : KeepsReading c (r .reading)
 
 -- ---- a weighed line on its sheet
 
@@ -68,7 +84,8 @@ module _ (L : Limits) where
       (cs : List Cylinder) (i : ℕ) → i < length cs → at cs i .kind ≡ Kind.Weighed
       → (mg : ℕ) → Exactly (came L cs i ≡ Weighed.Mass (asMilligrams mg)) (AnswersScale cs i mg)
 
--- ---- its temperature is not used: banks that differ in temperatures of weighed lines alone, whatever these are
+-- ---- its temperature is not used: banks that differ in temperatures of weighed lines alone, whatever these are. (Their texts may differ in length, and one
+-- of them be too long for the form.)
 
 abbrev pub withTemperature : Field → Cylinder → Cylinder
 withTemperature t c = record { number = c .number; temperature = t; kind = c .kind; value = c .value; volume = c .volume }
@@ -106,9 +123,14 @@ LargestReached L = total (marked L (map lineOf (heaviest 32 1))) ≡ Summed.Sum 
 
 -- ---- as it was before: no line was weighed, each line required its temperature, and after the volume came its door
 
-pub data NoneWeighed : List Cylinder → Type 0 where
-  not-one : NoneWeighed []
-  not-this : {c : Cylinder} {cs : List Cylinder} → AtDoor (c .kind) → NoneWeighed cs → NoneWeighed (c ∷ cs)
+pub data NoneOnScale : List Cylinder → Type 0 where
+  not-one : NoneOnScale []
+  not-this : {c : Cylinder} {cs : List Cylinder} → AtDoor (c .kind) → NoneOnScale cs → NoneOnScale (c ∷ cs)
+
+-- a text that has not the byte
+abbrev pub Without : ℕ → List ℕ → Type 0
+Without w [] = Unit {0}
+Without w (b ∷ t) = (b ≡ w → ⊥) × Without w t
 
 -- the line as it said then; a kind that there was not is none
 abbrev pub readingThen : Kind → Field → Reading
@@ -154,8 +176,13 @@ module _ (L : Limits) where
   reportThen (some b) = listed (admitted true (length (b .cylinders)) (b .need)) (markedThen [] (map lineThen (b .cylinders)))
 
   abbrev pub AsThen : Type 0
-  AsThen = (o : Option Bank) → ((b : Bank) → o ≡ some b → NoneWeighed (b .cylinders)) → report L o ≡ reportThen o
+  AsThen = (o : Option Bank) → ((b : Bank) → o ≡ some b → NoneOnScale (b .cylinders)) → report L o ≡ reportThen o
 
-  -- of the text that a bank is written in
+  -- of every text: the form was that of the banks without a weighed line, by their printing, and any other text was sent back by 14
+  pub data ReportedThen (t : List ℕ) : List ℕ → Type 0 where
+    was-in-form : {b : Bank} → t ≡ text b → Fair b → length t ≤ 65536 → NoneOnScale (b .cylinders) → ReportedThen t (reportThen (some b))
+    was-not : ((b : Bank) → t ≡ text b → Fair b → length t ≤ 65536 → NoneOnScale (b .cylinders) → ⊥) → ReportedThen t (reportThen none)
+
+  -- and a text that has no `W`, which is 87, has the report that it had
   abbrev pub TextAsThen : Type 0
-  TextAsThen = (b : Bank) → Fair b → length (text b) ≤ 65536 → NoneWeighed (b .cylinders) → report L (inForm (text b)) ≡ reportThen (some b)
+  TextAsThen = (t : List ℕ) → Without 87 t → ReportedThen t (report L (inForm t))

@@ -8,6 +8,7 @@ use mathlib.Core.Option.{Option, none, some}
 use lib.ListN.{length, getD}
 use Rattle.door_limits.specs.declared.Limits.{Limits}
 use Rattle.sheet_text.specs.declared.Field.{Field}
+use Rattle.sheet_mass.specs.Mass.{asMilligrams}
 use Rattle.sheet_line.specs.Line.{lineOf}
 use Rattle.sheet_line.specs.declared.cylinder.Kind.{Kind}
 use Rattle.sheet_line.specs.declared.cylinder.Cylinder.{Cylinder}
@@ -21,7 +22,6 @@ use Rattle.sheet_weigh.specs.Sheet.{marked}
 use Rattle.sheet_score.specs.Score.{sentBack, listed}
 use Rattle.demands.specs.Demands.{Numbered}
 use Rattle.demands.specs.Lines.{Dashed, RefusesLine, Weighs}
-use Rattle.sheet_mass.specs.Mass.{asMilligrams}
 
 -- where a sheet has no line
 abbrev pub noCylinder : Cylinder

@@ -9,6 +9,7 @@ use desk_lines::say_warnings;
 use desk_look::gauge::Gauge;
 use desk_look::gauge::gauge_of;
 use desk_look::held::Margin;
+use desk_look::held::is_heavy;
 use desk_look::held::look_at;
 use desk_look::held::margin_of;
 use desk_paper::paper::Paper;
@@ -34,6 +35,12 @@ use sheet_text::Field;
 use sheet_text::FieldAt;
 use sheet_text::read_field_after;
 use sheet_weigh::weigh_sheet;
+
+// How many gauges can't tell, and how many lines hold more than a cylinder is filled with.
+struct Warned {
+    gauges: usize,
+    heavy: usize,
+}
 
 // What came of the line after i others.
 fn mark_at(m: Marks, i: usize) -> Weighed
@@ -142,30 +149,53 @@ fn doubt_at(limits: Limits, s: &[u8], at: usize) -> usize
     }
 }
 
-fn count_doubts(limits: Limits, s: &[u8]) -> usize {
-    let FieldAt::Found(_, from) = read_field_after(s, 0, b'N', b'\n') else {
+// 1 where the line at a place, of which this came, holds more than a cylinder is filled with, else 0.
+fn heavy_at(limits: Limits, s: &[u8], at: usize, w: Weighed) -> usize
+    ensures { λ r. ⌜ r ≤ 1 ⌝ }
+{
+    let LineAt::Found(l, _) = read_line(s, at) else {
         return 0;
     };
-    let mut n: usize = 0;
-    let mut at = from;
-    while at < s.len() {
-        n += doubt_at(limits, s, at);
-        at = line_after(s, at);
+    if is_heavy(look_at(limits, w, l)) {
+        1
+    } else {
+        0
     }
-    n
 }
 
-fn say_doubts(p: Paper, n: usize) -> Paper {
+fn count_warned(limits: Limits, s: &[u8], marks: Marks) -> Warned {
+    let FieldAt::Found(_, from) = read_field_after(s, 0, b'N', b'\n') else {
+        return Warned {
+            gauges: 0,
+            heavy: 0,
+        };
+    };
+    let mut gauges: usize = 0;
+    let mut heavy: usize = 0;
+    let mut at = from;
+    let mut i: usize = 0;
+    while at < s.len() {
+        let w = mark_at(marks, i);
+        gauges += doubt_at(limits, s, at);
+        heavy += heavy_at(limits, s, at, w);
+        at = line_after(s, at);
+        i += 1;
+    }
+    Warned {
+        gauges: gauges,
+        heavy: heavy,
+    }
+}
+
+// How many, after these words; nothing where there are none.
+fn say_count(p: Paper, words: &[u8], n: usize) -> Paper {
     if n == 0 {
         return p;
     }
-    say(
-        say_number(say(p, b" Gauges that can't tell: "), n as u64),
-        b".",
-    )
+    say(say_number(say(p, words), n as u64), b".")
 }
 
-fn say_margin(p: Paper, mg: u64, need: Field, doubts: usize) -> Paper {
+fn say_margin(p: Paper, mg: u64, need: Field, warned: Warned) -> Paper {
     let Field::Number(needed) = need else {
         return p;
     };
@@ -176,7 +206,9 @@ fn say_margin(p: Paper, mg: u64, need: Field, doubts: usize) -> Paper {
         Margin::Spare(n) => say(say_shown(c, kilograms_down(n)), b" kg to spare."),
         Margin::Missing(n) => say(say_shown(c, kilograms_up(n)), b" kg missing."),
     };
-    say(say_doubts(d, doubts), b"\n")
+    let e = say_count(d, b" Gauges that can't tell: ", warned.gauges);
+    let f = say_count(e, b" Lines above 750 kg/m3: ", warned.heavy);
+    say(f, b"\n")
 }
 
 fn say_sent_back(p: Paper, s: &[u8], n: u8) -> Paper {
@@ -197,10 +229,10 @@ fn has_lines(e: Ending) -> bool {
     }
 }
 
-fn say_ending(p: Paper, limits: Limits, s: &[u8], need: Field, e: Ending) -> Paper {
+fn say_ending(p: Paper, limits: Limits, s: &[u8], marks: Marks, need: Field, e: Ending) -> Paper {
     match e {
-        Ending::Covered(mg) => say_margin(p, mg.0, need, count_doubts(limits, s)),
-        Ending::Short(mg) => say_margin(p, mg.0, need, count_doubts(limits, s)),
+        Ending::Covered(mg) => say_margin(p, mg.0, need, count_warned(limits, s, marks)),
+        Ending::Short(mg) => say_margin(p, mg.0, need, count_warned(limits, s, marks)),
         Ending::SentBack(n) => {
             if n == 13 {
                 say_no_verdict(p, need)
@@ -225,7 +257,7 @@ fn explain_by(p: Paper, limits: Limits, s: &[u8], name: &[u8], explained: bool) 
         p
     };
     if explained {
-        say_ending(a, limits, s, need, ending)
+        say_ending(a, limits, s, marks, need, ending)
     } else {
         a
     }

@@ -139,7 +139,7 @@ fn say_doubt(p: Paper, d: Doubt, temperature: Field, value: Field) -> Paper {
     let f = say_mass(say(e, b" kg if all is vapour, "), liquid);
     say(
         f,
-        b" kg if all is liquid, and anything between if it holds both. Weigh it and write W and the grams of agent, or warm it evenly to 40 to 45 C, minding its pressure, and read again.\n",
+        b" kg if all is liquid, and anything between if it holds both. Weigh it and write W and the grams of agent in the place of P and the pressure, or warm it evenly to 40 to 45 C, minding its pressure, and read again.\n",
     )
 }
 

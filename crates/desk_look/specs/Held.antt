@@ -29,7 +29,7 @@ abbrev pub atDoor : Milligrams → Temperature → (Float → Answer) → Look
 atDoor mg Temperature.Blank door = Look.Refused 1
 atDoor mg (Temperature.Kelvin t) door = held mg (door t)
 
--- more than 750 mg a mL
+-- more than 750 mg a mL; a line that has milligrams has a volume in its range
 abbrev pub overfull : Milligrams → Field → Bool
 overfull mg Field.Blank = false
 overfull mg (Field.Number v) = isVolume v && ltb (750 * v) (mg .0)

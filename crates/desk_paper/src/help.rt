@@ -26,10 +26,10 @@ pub fn say_help(p: Paper) -> Paper {
             \x20 N need                                     in mg: kg times 1,000,000\n\
             \x20 C number temperature P pressure volume     temperature in 0.1 mK: (Celsius + 273.15) times 10,000;\n\
             \x20 C number temperature D density volume      pressure in Pa: bar times 100,000, absolute (a gauge that shows 0 in\n\
-            \x20                                            open air wants 1.013 bar added); density in g/m3: kg/m3 times 1,000;\n\
+            \x20                                            open air wants 1.013 bar added); density in g/m3: kg/m3 times 1,000\n\
             \x20 C number - W mass volume                   weighed mass of the agent alone, without the empty cylinder, in g:\n\
-            \x20                                            kg times 1,000; no temperature is needed, and one that stands there\n\
-            \x20                                            is not used; volume in mL. 1 to 32 such lines, no number twice\n\n\
+            \x20                                            kg times 1,000. It needs no temperature; one that is given is not used\n\n\
+            A volume is in mL: litres times 1,000. A sheet has 1 to 32 cylinder lines, and no cylinder number twice.\n\n\
             The report: L i M mg for each cylinder line that is answered, L i R no for one that is refused; then\n\
             TOTAL mg COVERED, TOTAL mg SHORT, or SENT BACK no where there is no verdict. The exit status is always 0.\n",
     )

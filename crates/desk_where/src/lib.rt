@@ -86,6 +86,17 @@ fn is_letter(e: Expected) -> bool {
     }
 }
 
+fn is_number(e: Expected) -> bool {
+    match e {
+        Expected::Number => true,
+        _ => false,
+    }
+}
+
+fn is_kind(b: u8) -> bool {
+    b == b'P' || b == b'D' || b == b'W'
+}
+
 // Of a digit, by what stands before it.
 fn digit_hint(p: Paper, b: Behind) -> Paper {
     match b {
@@ -105,6 +116,9 @@ fn byte_hint(p: Paper, b: u8, x: Stop, front: bool) -> Paper {
     }
     if b == b'-' && is_letter(expected) {
         return say(p, b" A blank keeps its letter: P -, D - or W -.");
+    }
+    if is_kind(b) && is_number(expected) {
+        return say(p, b" What was not read is written -, in its place.");
     }
     if b == b'\n' && front {
         return say(p, b" No line is empty.");

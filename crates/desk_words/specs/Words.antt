@@ -16,7 +16,7 @@ unfoldable pub all : List (List ℕ)
 all =
     []
     -- 1
-    ∷ ascii "A field of the line is blank. Read it at the cylinder and fill it in."
+    ∷ ascii "A field that the line needs is blank, and only a weighed line needs no temperature. Read it at the cylinder and fill it in."
     -- 2
     ∷ ascii "The volume is not 1 to 1,000,000 mL. Look at the cylinder's stamp: litres times 1,000. What was not read is written -, not 0."
     -- 3
@@ -26,11 +26,11 @@ all =
     -- 5
     ∷ ascii "The pressure, read or worked, is not 0.1 to 300 bar absolute, or the density not 0.1 to 1,300 kg/m3. Check the gauge, its unit and the thermometer. What was not read is written -, not 0."
     -- 6
-    ∷ ascii "Too near the critical point to tell the density. Weigh the cylinder and write W and the grams of agent, or warm it evenly to 40 to 45 C and read again: there a bar is about one per cent of a full cylinder's density and up to seven of a half empty one's, at 32.1 C up to half. Mind the pressure: filled to 750 kg/m3 it stands at 175 bar at 50 C."
+    ∷ ascii "Too near the critical point to tell the density. Weigh the cylinder and write W and the grams of agent in the place of its reading, or warm it evenly to 40 to 45 C and read again: there a bar is about one per cent of a full cylinder's density and up to seven of a half empty one's, at 32.1 C up to half. Mind the pressure: filled to 750 kg/m3 it stands at 175 bar at 50 C."
     -- 7
     ∷ ascii "The working failed, and no reading is known that gives this. Report it with the sheet."
     -- 8
-    ∷ ascii "Liquid and vapour stand together, or the pressure is exactly the vapour pressure. Weigh the cylinder and write W and the grams of agent, or warm it evenly to 40 to 45 C and read again: there a bar is about one per cent of a full cylinder's density and up to seven of a half empty one's, at 32.1 C up to half. Mind the pressure: filled to 750 kg/m3 it stands at 175 bar at 50 C."
+    ∷ ascii "Liquid and vapour stand together, or the pressure is exactly the vapour pressure. Weigh the cylinder and write W and the grams of agent in the place of its reading, or warm it evenly to 40 to 45 C and read again: there a bar is about one per cent of a full cylinder's density and up to seven of a half empty one's, at 32.1 C up to half. Mind the pressure: filled to 750 kg/m3 it stands at 175 bar at 50 C."
     -- 9
     ∷ ascii "No density in the range has this pressure, and no reading is known that gives this. Report it with the sheet."
     -- 10
@@ -52,7 +52,7 @@ all =
     -- 20 to 22
     ∷ [] ∷ [] ∷ []
     -- 23
-    ∷ ascii "The weighed mass is not 1 to 9,999,999,999 g. Weigh the cylinder again and take off its empty weight: kg times 1,000. What was not read is written -, not 0."
+    ∷ ascii "The weighed mass is not 1 to 9,999,999,999 g. Weigh the cylinder again and take off its empty weight: kg times 1,000; an empty cylinder has no line. What was not read is written -, not 0."
     -- 24 to 29
     ∷ [] ∷ [] ∷ [] ∷ [] ∷ [] ∷ []
     -- 30

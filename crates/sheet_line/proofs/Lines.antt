@@ -39,7 +39,7 @@ small-reading : (k : Kind) (f : Field) → Small f → SmallReading (recordedOf 
 small-reading k Field.Blank h = tt
 small-reading Kind.Pressure (Field.Number n) h = h
 small-reading Kind.Density (Field.Number n) h = h
-small-reading Kind.Weighed (Field.Number n) h = h
+small-reading Kind.Weighed (Field.Number n) h = tt
 
 pub small-record : (c : Cylinder) → AllSmall c → SmallRecord (recordOf c)
 small-record c h = record { temperature = h .temperature; reading = small-reading (c .kind) (c .value) (h .value) }

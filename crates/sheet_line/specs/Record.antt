@@ -18,13 +18,13 @@ recordedOf Kind.Weighed (Field.Number n) = Recorded.Weighed (asGrams n)
 abbrev pub recordOf : Cylinder → Record
 recordOf c = record { number = c .number; temperature = c .temperature; reading = recordedOf (c .kind) (c .value); volume = c .volume }
 
--- ---- what code inside asks for, to work the figures: numbers of 10 digits at most
+-- ---- what code inside asks for, to work the figures: what becomes a float has 10 digits at most
 
 abbrev pub SmallReading : Recorded → Type 0
 SmallReading Recorded.Blank = Unit {0}
 SmallReading (Recorded.Pressure n) = n < 10_000_000_000
 SmallReading (Recorded.Density n) = n < 10_000_000_000
-SmallReading (Recorded.Weighed x) = x .0 < 10_000_000_000
+SmallReading (Recorded.Weighed g) = Unit {0}
 
 pub record SmallRecord (r : Record) : Type 0 where
   pub temperature : Small (r .temperature)

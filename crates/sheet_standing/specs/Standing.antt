@@ -17,7 +17,7 @@ abbrev pub ifNumbered : Field → (ℕ → Check) → Check
 ifNumbered Field.Blank f = No 1
 ifNumbered (Field.Number n) f = f n
 
--- its volume, or its value
+-- its volume
 abbrev pub noVolume : Field → Bool
 noVolume Field.Blank = true
 noVolume (Field.Number v) = false
@@ -26,7 +26,7 @@ abbrev pub noTemperature : Temperature → Bool
 noTemperature Temperature.Blank = true
 noTemperature (Temperature.Kelvin t) = false
 
--- with the temperature, where a door is asked: a mass that was weighed requires none
+-- its value, or, where a door is asked with it, its temperature: a mass that was weighed requires none
 abbrev pub noReading : Temperature → Reading → Bool
 noReading k Reading.Blank = true
 noReading k (Reading.Pressure p) = noTemperature k

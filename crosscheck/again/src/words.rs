@@ -28,7 +28,7 @@ mod tests {
             assert!(words.bytes().all(|byte| (32..127).contains(&byte)), "{words}");
             assert!(words.len() <= 512 && words.contains(". ") && words.ends_with('.'), "{words}");
         }
-        assert_eq!(words(1).as_deref(), Some("A field of the line is blank. Read it at the cylinder and fill it in."));
+        assert_eq!(words(10).as_deref(), Some("The sheet has no cylinder lines. Add one for each cylinder of the bank."));
     }
 
     #[test]

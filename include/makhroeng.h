@@ -14,12 +14,19 @@
 extern "C" {
 #endif
 
-/* This header's version, 1.6.0: 10,000 times the first number, 100 times the second, and the third. A program that is
+/* This header's version, 1.7.0: 10,000 times the first number, 100 times the second, and the third. A program that is
  * linked with a shared library may compare it with makhroeng_version(). */
-#define MAKHROENG_VERSION 10600
+#define MAKHROENG_VERSION 10700
 
-/* What a door returns where it answers, and what saturation does. Every refusal number is below these. */
-enum { MAKHROENG_VAPOUR = 256, MAKHROENG_LIQUID = 257, MAKHROENG_SUPERCRITICAL = 258, MAKHROENG_SATURATED = 259 };
+/* What a door returns where it answers, what saturation does, and what many states at once do. Every refusal number is
+ * below these. */
+enum {
+    MAKHROENG_VAPOUR = 256,
+    MAKHROENG_LIQUID = 257,
+    MAKHROENG_SUPERCRITICAL = 258,
+    MAKHROENG_SATURATED = 259,
+    MAKHROENG_WORKED = 260
+};
 
 /* What a door, or saturation, returns where it refuses (RULES 3.1). makhroeng_words has the words of each. */
 enum {
@@ -30,7 +37,8 @@ enum {
     MAKHROENG_FAILED = 7,          /* a working failed (RULES 4.2), or a saturated density is not above 0 (RULES 5) */
     MAKHROENG_SATURATION = 8,      /* on the saturation line, or strictly between the saturated densities */
     MAKHROENG_NO_CROSSING = 9,     /* the search finds no crossing in its range of densities */
-    MAKHROENG_TOO_SHORT = 15,      /* fewer than eight figures are lent; for saturation, fewer than three */
+    MAKHROENG_TOO_SHORT = 15,      /* fewer than eight figures are lent; for saturation, fewer than three; for many
+                                      states, any length that doesn't fit */
     MAKHROENG_SOLID = 19           /* the pressure, asked or worked, is above the melting pressure: dry ice (RULES 5.4) */
 };
 
@@ -75,6 +83,16 @@ uint32_t makhroeng_state_from_pressure(double temperature, double pressure, doub
 
 /* The same from a temperature in K and a density in kg/m3. */
 uint32_t makhroeng_state_from_density(double temperature, double density, double *figures, size_t len);
+
+/* Many states at once, each with all that it carries. Where every length fits, that is where pressures_len and answers_len
+ * are temperatures_len and figures_len is ten times that, it returns MAKHROENG_WORKED, and for each place i
+ *     answers[i] = makhroeng_state_from_pressure(temperatures[i], pressures[i], figures + 10 * i, 10)
+ * was done: a state's ten figures stand in figures[10 * i] to figures[10 * i + 9], and where answers[i] is below 256, a
+ * refusal's number, these ten are as they were. Where a length doesn't fit, be it too small or too large: 15, with every
+ * answer and every figure as it was. `answers` and `figures` must overlap nothing else that is lent. Since version 1.7.0. */
+uint32_t makhroeng_states_from_pressure(const double *temperatures, size_t temperatures_len, const double *pressures,
+                                        size_t pressures_len, uint32_t *answers, size_t answers_len, double *figures,
+                                        size_t figures_len);
 
 /* Where liquid and vapour stand together at a temperature in K, whatever double this is: returns MAKHROENG_SATURATED, with
  * the vapour pressure, the saturated vapour density and the saturated liquid density in figures[0] to figures[2]; or the

@@ -9,7 +9,7 @@ use Rattle.sheet_write.specs.Writing.{ascii}
 
 -- 10,000 times the first number, 100 times the second, and the third
 abbrev pub version : ℕ
-version = 10600
+version = 10700
 
 -- from 0, which is no refusal, on
 unfoldable pub all : List (List ℕ)
@@ -44,7 +44,7 @@ all =
     -- 14
     ∷ ascii "The text is not in the form. scorer --help shows a whole sheet, and --explain where this one stops being in it."
     -- 15
-    ∷ ascii "Fewer figures or bytes were lent than the answer has. Lend eight figures for a state, three for saturation, 1,512 bytes for a report."
+    ∷ ascii "What was lent doesn't have the length that the answer needs. Lend eight figures for a state, three for saturation, 1,512 bytes for a report; for many states as many pressures and answers as temperatures, and ten figures for each."
     -- 16 to 18
     ∷ [] ∷ [] ∷ []
     -- 19

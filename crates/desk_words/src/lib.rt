@@ -6,11 +6,11 @@ ghost use Rattle.sheet_write.specs.Writing.{Fitted};
 ghost use Rattle.desk_words.specs.Words.{version, words, behindLines, upToLine, UpTo};
 use sheet_write::put_whole;
 
-// 1.6.0
+// 1.7.0
 pub fn version() -> u32
     ensures { λ r. ⌜ r ≡ version ⌝ }
 {
-    10600
+    10700
 }
 
 // Where line n of a text begins, the first being line 0; the text's end where there is none.
@@ -75,7 +75,7 @@ pub fn put_words(number: u32, out: &mut [u8]) -> usize
             The need is blank or 0. Fill in what the dryer needs, in mg: kg times 1,000,000.\n\
             Some line was refused, so there is no verdict. See to that line and score again.\n\
             The text is not in the form. scorer --help shows a whole sheet, and --explain where this one stops being in it.\n\
-            Fewer figures or bytes were lent than the answer has. Lend eight figures for a state, three for saturation, 1,512 bytes for a report.\n\
+            What was lent doesn't have the length that the answer needs. Lend eight figures for a state, three for saturation, 1,512 bytes for a report; for many states as many pressures and answers as temperatures, and ten figures for each.\n\
             \n\n\n\
             Solid: dry ice and no agent that flows. Check the thermometer and the gauge, or warm the cylinder above -50 C and read again.\n\
             \n\n\n\

@@ -74,7 +74,7 @@ place ts ps answers new figures out r p fit i d h =
     let f = fitting (length ts) (length ps) (length answers) (length figures) fit in
     let long = ten-length (length ts) i figures (f .1 .1) h in
     rw (le-leb 10 (length (ten i figures)) (omega (arith, long)))
-        (record {
-          number = rw (le-ltb (length (ten i figures)) 8 (omega (arith, long)), p .answered, fit) (number-at ts ps i d (f .0) h);
-          figures = rw (le-ltb (length (ten i figures)) 8 (omega (arith, long)), p .figured, fit) (ten-at ts ps figures i d (f .0) (f .1 .1) h);
-        })
+    (record {
+      number = rw (le-ltb (length (ten i figures)) 8 (omega (arith, long)), p .answered, fit) (number-at ts ps i d (f .0) h);
+      figures = rw (le-ltb (length (ten i figures)) 8 (omega (arith, long)), p .figured, fit) (ten-at ts ps figures i d (f .0) (f .1 .1) h);
+    })

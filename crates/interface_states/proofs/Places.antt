@@ -117,7 +117,7 @@ handed old new t p r e h =
 module _ {ts ps : List Float} {answers₀ answers : List ℕ} {figures₀ figures : List Float} {i : ℕ} (turn : Turn ts ps answers₀ answers figures₀ figures i) where
   next-ten : i < length ts → (d : Float) (ten : List Float) (r : ℕ) → length ten ≡ 10
       → CarriedIn (take 10 (drop (10 * i) figures)) ten
-        (withConductivity of1996 (asked (take 10 (drop (10 * i) figures))) (pressureDoor of1996 document01 (getD ts i d) (getD ps i d))) r
+      (withConductivity of1996 (asked (take 10 (drop (10 * i) figures))) (pressureDoor of1996 document01 (getD ts i d) (getD ps i d))) r
       → Turn ts ps answers₀ (set answers i r) figures₀ (take (10 * i) figures ++ (ten ++ drop 10 (drop (10 * i) figures))) (suc i)
   unfolding tens
   next-ten h d ten r is-ten c =
@@ -144,11 +144,11 @@ module _ {ts ps : List Float} {answers₀ answers : List ℕ} {figures₀ figure
   -- THE NEXT PLACE, by what is handed over there
   pub next : (k m : ℕ) → k ≡ 10 → m ≡ suc i → i < length ts → (d : Float) (ten : List Float) (r : ℕ) → length ten ≡ length (take k (drop (10 * i) figures))
       → CarriedIn (take k (drop (10 * i) figures)) ten
-        (withConductivity of1996 (asked (take k (drop (10 * i) figures))) (pressureDoor of1996 document01 (getD ts i d) (getD ps i d))) r
+      (withConductivity of1996 (asked (take k (drop (10 * i) figures))) (pressureDoor of1996 document01 (getD ts i d) (getD ps i d))) r
       → Turn ts ps answers₀ (set answers i r) figures₀ (take (10 * i) figures ++ (ten ++ drop k (drop (10 * i) figures))) m
   next k m e f h d ten r same c =
       let lent : length (take 10 (drop (10 * i) figures)) ≡ 10 =
-          length-take-le 10 (drop (10 * i) figures) (rw (length-drop (10 * i) figures) (omega (arith, turn .tenfold, h))) in
+      length-take-le 10 (drop (10 * i) figures) (rw (length-drop (10 * i) figures) (omega (arith, turn .tenfold, h))) in
       rw (e, f) (next-ten h d ten r ((rw e at same) ∙ lent) (rw e at c))
 
   -- AND THE WHOLE, when there is no place left

@@ -28,7 +28,7 @@ loop-again c =
     let t = p .before .before .before .before in
     let l = t .before .loop in
     next (l .inv) (10 * l .i + 10 - 10 * l .i) (l .i + 1) (omega arith) (omega arith) (t .loop-test .taken) nan _ _ (p .put-place .kept .1 .1 .0)
-        (p .put-place .ensures)
+    (p .put-place .ensures)
 
 returns-2 : tie.Need-returns-2 Inv-loop μ-loop
 returns-2 c = done (c .before .loop .inv) (c .loop-test .left)

@@ -16,6 +16,17 @@ extern "C" {
     fn makhroeng_words(number: u32, out: *mut u8, len: usize) -> u64;
     #[cfg(feature = "saturation")]
     fn makhroeng_version() -> u32;
+    #[cfg(feature = "many")]
+    fn makhroeng_states_from_pressure(
+        temperatures: *const f64,
+        temperatures_len: usize,
+        pressures: *const f64,
+        pressures_len: usize,
+        answers: *mut u32,
+        answers_len: usize,
+        figures: *mut f64,
+        figures_len: usize,
+    ) -> u32;
 }
 
 /// A function that asks a door, and how many figures it gives where as many are lent: the eight numbers, the count of the rows that fell away,
@@ -98,4 +109,24 @@ pub fn words(number: u32, out: &mut [u8]) -> u64 {
 pub fn version() -> u32 {
     // SAFETY: it takes nothing
     record::call(8, &[], &[], &mut [0u8; 0], |_| unsafe { makhroeng_version() })
+}
+
+/// All are lent as bits but the answers.
+#[cfg(feature = "many")]
+pub fn states_from_pressure(temperatures: &[u64], pressures: &[u64], answers: &mut [u32], figures: &mut [u64]) -> u32 {
+    record::call_of_many(temperatures, pressures, answers, figures, |answers, figures| {
+        // SAFETY: the slices are lent for the call; a double has the size and the alignment of its bits
+        unsafe {
+            makhroeng_states_from_pressure(
+                temperatures.as_ptr().cast(),
+                temperatures.len(),
+                pressures.as_ptr().cast(),
+                pressures.len(),
+                answers.as_mut_ptr(),
+                answers.len(),
+                figures.as_mut_ptr().cast(),
+                figures.len(),
+            )
+        }
+    })
 }

@@ -2,12 +2,15 @@
 //! bit for bit.
 //!
 //!     again [--states N] [--texts N] [--seed S] [--threads N] [--record FILE]    compares with the library it is linked with; saturation at a
-//!                        quarter as many temperatures as there are states, and the words of every refusal; every call is kept in FILE
+//!                        quarter as many temperatures as there are states, arrays of states a fiftieth as many, and the words of every refusal;
+//!                        every call is kept in FILE
 //!     again --replay FILE    asks the library it is linked with all that such a file has, and compares; record.rs has the file's format
 //!     again --ask        reads lines `P T p` or `D T rho`, each number as the hexadecimal digits of its bits, and answers each;
 //!                        `P T p conductivity` or `D T rho conductivity` asks for that too; `S T` asks for saturation by itself
 //!     again --report     reads a sheet and writes its report
 
+#[cfg(all(linked, feature = "many"))]
+mod arrays;
 mod conductivity;
 mod doors;
 mod equation;
@@ -92,6 +95,8 @@ fn compare(states: u64, texts: u64, seed: u64, threads: usize, record: Option<St
     all.push(texts::compare(seed, texts, threads));
     #[cfg(feature = "saturation")]
     all.extend([temperatures::compare(seed, states / 4, threads), said::compare(seed, threads)]);
+    #[cfg(feature = "many")]
+    all.push(arrays::compare(seed, states / 50, threads));
     let mut sums = [0; 2];
     let (mut digest, mut seconds) = (0u64, 0.0);
     for (i, (tally, took)) in all.iter().enumerate() {

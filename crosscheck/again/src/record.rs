@@ -6,31 +6,31 @@
 //!
 //!     16 bytes            `makhroeng call 1`, of which the 1 is this format's number
 //!     records             one after the other, each as below; each begins at a multiple of 8 bytes from the file's front
-//!     the last record     of function 0, with no field and no part: its `returned` is how many records stand before it. A file without it was cut off
+//!     the last record     of function 0, with no field and no part: its `returned` is how many records stand before it. Without it the file was cut
 //!
 //! A record:
 //!
 //!     byte 0      u32     the function's number, of the table
 //!     byte 4      u32     the whole record's length in bytes, these 16 too: a multiple of 8
-//!     byte 8      u64     what was returned; a function that returns 32 bits has zeros above them
+//!     byte 8      u64     `returned`; a function that returns 32 bits has zeros above them
 //!     byte 16     words   the function's fields, of the table
 //!     behind      parts   the function's parts, of the table, each filled up with zeros to whole words: a part begins at a multiple of 8 bytes
 //!
-//!     number  function (makhroeng_..)   fields                                                            parts
-//!     1       from_pressure             temperature (f64), pressure (f64), len                            figures before, figures after
-//!     2       from_density              temperature (f64), density (f64), len                             figures before, figures after
-//!     3       state_from_pressure       temperature (f64), pressure (f64), len                            figures before, figures after
-//!     4       state_from_density        temperature (f64), density (f64), len                             figures before, figures after
-//!     5       saturation                temperature (f64), len                                            figures before, figures after
-//!     6       report                    text_len, out_len                                                 text, out before, out after
-//!     7       words                     number, len                                                       out before, out after
-//!     8       version                   none                                                              none
-//!     9       states_from_pressure      temperatures_len, pressures_len, answers_len, figures_len         temperatures, pressures, answers before,
-//!                                                                                                         answers after, figures before, figures after
+//!     number  function (makhroeng_..)   fields                                      parts
+//!     1       from_pressure             temperature (f64), pressure (f64), len      figures before, figures after
+//!     2       from_density              temperature (f64), density (f64), len       figures before, figures after
+//!     3       state_from_pressure       temperature (f64), pressure (f64), len      figures before, figures after
+//!     4       state_from_density        temperature (f64), density (f64), len       figures before, figures after
+//!     5       saturation                temperature (f64), len                      figures before, figures after
+//!     6       report                    text_len, out_len                           text, out before, out after
+//!     7       words                     number, len                                 out before, out after
+//!     8       version                   none                                        none
+//!     9       states_from_pressure      temperatures_len, pressures_len,            temperatures, pressures, answers before, answers after,
+//!                                       answers_len, figures_len                    figures before, figures after
 //!
 //! A field is a u64 where it is not an f64. Temperatures, pressures and figures have 8 bytes each (f64), answers 4 (u32), text and out 1. A length is
-//! of elements, not of bytes, and that of a part is the argument's: `len` figures before, `len` after. `before` is what was lent, and `after` what was
-//! left of it, whole: where a call refuses they are the same. Lengths that are too small or don't fit are among the calls.
+//! of elements, not of bytes, and that of a part is the argument's: `len` figures before, `len` after. `before` is what was lent, and `after` what
+//! was left of it, whole: where a call refuses they are the same. Lengths that are too small or don't fit are among the calls.
 //!
 //! What is lent is any bits, NaNs of every kind among them: it is to be copied and compared as bytes, since a NaN that goes through a number may come
 //! out with other bits. A temperature, pressure or density may go through a number: a NaN is refused, whatever its bits are.
@@ -140,7 +140,7 @@ pub fn end() -> io::Result<Option<(u64, u64)>> {
 }
 
 /// What is lent, where calls are recorded.
-pub fn before<T: Unit>(lent: &[T]) -> Option<Vec<T>> {
+fn before<T: Unit>(lent: &[T]) -> Option<Vec<T>> {
     WRITER.get().map(|_| lent.to_vec())
 }
 
@@ -160,6 +160,25 @@ pub fn call<T: Unit, R: Copy + Into<u64>>(function: usize, fields: &[u64], read:
     let returned = call(lent);
     if let Some(before) = before {
         write(Record::new(function, returned.into(), fields).part(read).part(&before).part(lent));
+    }
+    returned
+}
+
+/// A call of makhroeng_states_from_pressure, likewise.
+#[cfg(feature = "many")]
+pub fn call_of_many(
+    temperatures: &[u64],
+    pressures: &[u64],
+    answers: &mut [u32],
+    figures: &mut [u64],
+    call: impl FnOnce(&mut [u32], &mut [u64]) -> u32,
+) -> u32 {
+    let before = before(answers).zip(before(figures));
+    let returned = call(answers, figures);
+    if let Some((answers_before, figures_before)) = before {
+        let lengths = [temperatures.len(), pressures.len(), answers.len(), figures.len()].map(|len| len as u64);
+        let record = Record::new(9, returned.into(), &lengths).part(temperatures).part(pressures);
+        write(record.part(&answers_before).part(answers).part(&figures_before).part(figures));
     }
     returned
 }
@@ -246,6 +265,15 @@ fn again(function: usize, returned: u64, rest: &mut Rest) -> Option<bool> {
         }
         #[cfg(feature = "saturation")]
         8 => return Some(u64::from(library::version()) == returned),
+        #[cfg(feature = "many")]
+        9 => {
+            let (temperatures_len, pressures_len, answers_len, figures_len) = (rest.field()?, rest.field()?, rest.field()?, rest.field()?);
+            let (temperatures, pressures): (Vec<u64>, Vec<u64>) = (rest.part(temperatures_len)?, rest.part(pressures_len)?);
+            let mut answers = Lent::of(rest, answers_len)?;
+            let mut figures = Lent::of(rest, figures_len)?;
+            let number = library::states_from_pressure(&temperatures, &pressures, answers.lend(), figures.lend());
+            return Some(u64::from(number) == returned && answers.is_right() && figures.is_right());
+        }
         _ => return None,
     };
     let t = rest.float()?;

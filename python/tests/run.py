@@ -1,4 +1,6 @@
-"""Runs every test here with the package that is installed, and ends with `N passed, M failed`; what could not be tried is said before it."""
+"""Runs every test here with the package that is installed, and ends with `N passed, M failed`; what could not be tried is said before it. With FAILFAST
+set it stops at the first that fails."""
+import os
 import sys
 import unittest
 from pathlib import Path
@@ -8,21 +10,16 @@ sys.path.insert(0, str(Path(__file__).parent))
 
 
 def main() -> None:
-    found = unittest.defaultTestLoader.discover(str(Path(__file__).parent))
-    result = unittest.TextTestRunner(stream=sys.stdout, verbosity=0, resultclass=Quiet).run(found)
+    result = unittest.TestResult()
+    result.failfast = "FAILFAST" in os.environ
+    unittest.defaultTestLoader.discover(str(Path(__file__).parent)).run(result)
+    wrong = {test.id(): error for test, error in [*result.failures, *result.errors]}
+    for name, error in wrong.items():
+        print(f"FAILED: {name}\n{error}")
     for test, why in result.skipped:
         print(f"not tried: {test.id()}: {why}")
-    failed = len({test.id() for test, _ in [*result.failures, *result.errors]})
-    print(f"{result.testsRun - failed - len(result.skipped)} passed, {failed} failed")
-    sys.exit(failed != 0)
-
-
-class Quiet(unittest.TextTestResult):
-    """Says what failed, and nothing else."""
-
-    def printErrorList(self, flavour, errors) -> None:
-        for test, error in errors:
-            print(f"FAILED: {test.id()}\n{error}")
+    print(f"{result.testsRun - len(wrong) - len(result.skipped)} passed, {len(wrong)} failed")
+    sys.exit(len(wrong) != 0)
 
 
 if __name__ == "__main__":

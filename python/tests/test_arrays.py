@@ -3,7 +3,9 @@ import concurrent.futures
 import os
 import threading
 import time
+import types
 import unittest
+import unittest.mock
 from array import array
 
 import makhroeng
@@ -56,6 +58,21 @@ class Forms(unittest.TestCase):
             found = makhroeng.states(ts, ps)
             self.assertEqual([len(kept) for kept in found], [0] * 12)
 
+    def test_no_pointer_is_null(self) -> None:
+        """include/makhroeng.h: even where its length is 0."""
+        library, lent = makhroeng._many.LIBRARY, []
+
+        def watched(*args: int) -> int:
+            lent.append(args)
+            return library.makhroeng_states_from_pressure(*args)
+
+        with unittest.mock.patch.object(makhroeng._many, "LIBRARY", types.SimpleNamespace(makhroeng_states_from_pressure=watched)):
+            for ts, ps in (([], []), (column([]), 5e6), (300.0, array("d")), ([300.0], 5e6)):
+                makhroeng.states(ts, ps)
+        self.assertEqual([args[1::2] for args in lent], [(0, 0, 0, 0)] * 3 + [(1, 1, 1, 10)])
+        for args in lent:
+            self.assertTrue(all(args[::2]) and not any(address % 8 for address in args[::2] if args[1] == 0), args)
+
     def test_what_is_given_stays(self) -> None:
         ts, ps = column(TS), column(PS)
         found = makhroeng.states(ts, ps)
@@ -105,33 +122,36 @@ class Forms(unittest.TestCase):
         self.assertEqual(places(makhroeng.states(small, ps)), places(makhroeng.states([float(t) for t in small], ps)))
 
 
-class Threads(unittest.TestCase):
-    N, EACH = 24_000, 1_500
-    ts = column([216.0 + 308.0 * i / N for i in range(N)])
-    ps = column([9e3 + 3.01e7 * (i * 7919 % N) / N for i in range(N)])
+MANY, EACH = 24_000, 1_500
+MANY_TS = column([216.0 + 308.0 * i / MANY for i in range(MANY)])
+MANY_PS = column([9e3 + 3.01e7 * (i * 7919 % MANY) / MANY for i in range(MANY)])
 
-    def part(self, at: int) -> makhroeng.States:
-        return makhroeng.states(self.ts[at:at + self.EACH], self.ps[at:at + self.EACH])
+
+def part(at: int) -> makhroeng.States:
+    return makhroeng.states(MANY_TS[at:at + EACH], MANY_PS[at:at + EACH])
+
+
+class Threads(unittest.TestCase):
 
     def test_pool(self) -> None:
         """A pool over slices gives the bits of one call over all; its time is told, and held to nothing."""
         workers = os.cpu_count() or 1
         began = time.perf_counter()
-        alone = makhroeng.states(self.ts, self.ps)
+        alone = makhroeng.states(MANY_TS, MANY_PS)
         middle, worked = time.perf_counter(), time.process_time()
         with concurrent.futures.ThreadPoolExecutor(workers) as pool:
-            parts = list(pool.map(self.part, range(0, self.N, self.EACH)))
+            parts = list(pool.map(part, range(0, MANY, EACH)))
         took, cores = time.perf_counter() - middle, (time.process_time() - worked) / (time.perf_counter() - middle)
         for i, name in enumerate(alone._fields):
             self.assertEqual(b"".join(bytes(part[i]) for part in parts), bytes(alone[i]), name)
-        print(f"threads: {self.N:,} states in {middle - began:.2f} s by one call, in {took:.2f} s by a pool of {workers}, which kept {cores:.1f} cores at work")
+        print(f"threads: {MANY:,} states in {middle - began:.2f} s by one call, in {took:.2f} s by a pool of {workers}, which kept {cores:.1f} cores at work")
 
     def test_lock_is_let_go(self) -> None:
         """Another thread of Python runs while one call works."""
         ticks, done = 0, threading.Event()
 
         def work() -> None:
-            makhroeng.states(self.ts, self.ps)
+            makhroeng.states(MANY_TS, MANY_PS)
             done.set()
 
         worker = threading.Thread(target=work)

@@ -9,6 +9,15 @@ the library makhroeng, each function of which is proved, from Python.
     version()             the library's version
     Refused               what is raised where the library does not answer, with its number and its words
 
+    >>> s = state(T=253.15, p=2.5e6)
+    >>> print(f"{s.phase}, {s.rho:.1f} kg/m3, {s.conductivity:.6f} W/(m K)")
+    liquid, 1034.1 kg/m3, 0.133759 W/(m K)
+    >>> found = states([293.15, 253.15, 200.0], 2.5e6)
+    >>> [f"{x:.1f}" for x in found.rho], found.refused.tolist()
+    (['52.9', '1034.1', 'nan'], [0, 0, 4])
+    >>> Refused(4).says
+    'The temperature is not 216.592 to 523 K (-56.55 to 249.85 C), or asked for saturation not below 304.1282 K'
+
 A blank is never read as a number: None, a masked place, a bool or a text is a TypeError that names the place. Nothing is kept between calls, so any
 number of threads may call at once; each call lets go of Python's lock.
 

@@ -17,6 +17,7 @@ class _NotGiven:
 
 
 _NOT_GIVEN: Any = _NotGiven()
+_PHASES = {phase.value: phase for phase in Phase}
 _FIGURES = ctypes.c_double * FIGURES
 _THREE = ctypes.c_double * 3
 
@@ -44,7 +45,7 @@ def state(*, T: float, p: float = _NOT_GIVEN, rho: float = _NOT_GIVEN) -> State:
     A float may be infinite or NaN, which the library refuses by 3. An int is taken up to 2**53, where each is a float.
     """
     if (p is _NOT_GIVEN) == (rho is _NOT_GIVEN):
-        raise TypeError("state() takes T and either p or rho, and both are given" if rho is not _NOT_GIVEN else "state() takes T and either p or rho")
+        raise TypeError(f"state() takes T and either p or rho, and {'neither is' if p is _NOT_GIVEN else 'both are'} given")
     figures = _FIGURES()
     answer: int
     if rho is _NOT_GIVEN:
@@ -53,8 +54,8 @@ def state(*, T: float, p: float = _NOT_GIVEN, rho: float = _NOT_GIVEN) -> State:
         answer = LIBRARY.makhroeng_state_from_density(number("T", T), number("rho", rho), figures, FIGURES)
     if answer < ANSWERED:
         raise Refused(answer)
-    *eight, fallen, conductivity = figures
-    return State._make((Phase(answer), *eight, int(fallen), conductivity))
+    *eight, fallen, conductivity = figures[:]  # one copy is quicker than ten looks
+    return State._make((_PHASES[answer], *eight, int(fallen), conductivity))
 
 
 def saturation(T: float) -> Saturation:

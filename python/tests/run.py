@@ -1,5 +1,6 @@
 """Runs every test here with the package that is installed, and ends with `N passed, M failed`; what could not be tried is said before it. With FAILFAST
 set it stops at the first that fails."""
+import collections
 import os
 import sys
 import unittest
@@ -16,8 +17,8 @@ def main() -> None:
     wrong = {test.id(): error for test, error in [*result.failures, *result.errors]}
     for name, error in wrong.items():
         print(f"FAILED: {name}\n{error}")
-    for test, why in result.skipped:
-        print(f"not tried: {test.id()}: {why}")
+    for why, count in collections.Counter(why for _, why in result.skipped).items():
+        print(f"not tried: {count} tests: {why}")
     print(f"{result.testsRun - len(wrong) - len(result.skipped)} passed, {len(wrong)} failed")
     sys.exit(len(wrong) != 0)
 

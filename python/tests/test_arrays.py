@@ -108,9 +108,9 @@ class Forms(unittest.TestCase):
         back = ps[::-1].copy()
         self.assertEqual(places(makhroeng.states(wide[:, 1], back[::-1])), right)
         self.assertEqual(places(makhroeng.states(numpy.repeat(ts, 2)[::2], numpy.repeat(ps, 3)[1::3])), right)
-        for layout in (lambda xs: numpy.asfortranarray(xs.reshape(6, 10)), lambda xs: numpy.ascontiguousarray(xs.reshape(6, 10).T).T, lambda xs: xs.reshape(6, 10)):
-            self.assertEqual(places(makhroeng.states(layout(ts), ps.reshape(6, 10))), right)
-            self.assertEqual(places(makhroeng.states(ts.reshape(6, 10), layout(ps))), right)
+        for layout in (numpy.asfortranarray, lambda xs: numpy.ascontiguousarray(xs.T).T, numpy.ascontiguousarray):
+            self.assertEqual(places(makhroeng.states(layout(ts.reshape(6, 10)), ps.reshape(6, 10))), right)
+            self.assertEqual(places(makhroeng.states(ts.reshape(6, 10), layout(ps.reshape(6, 10)))), right)
         self.assertEqual(places(makhroeng.states(ts.astype(">f8"), ps.astype(">f8"))), right)
         self.assertEqual(places(makhroeng.states(numpy.broadcast_to(numpy.float64(300.0), (n,)), ps)), places(makhroeng.states(300.0, ps)))
         unaligned = numpy.frombuffer(b"\0" + ts.tobytes(), dtype=numpy.uint8)[1:].view(numpy.float64)
@@ -143,7 +143,7 @@ class Threads(unittest.TestCase):
             parts = list(pool.map(part, range(0, MANY, EACH)))
         took, cores = time.perf_counter() - middle, (time.process_time() - worked) / (time.perf_counter() - middle)
         for i, name in enumerate(alone._fields):
-            self.assertEqual(b"".join(bytes(part[i]) for part in parts), bytes(alone[i]), name)
+            self.assertTrue(b"".join(bytes(part[i]) for part in parts) == bytes(alone[i]), name)
         print(f"threads: {MANY:,} states in {middle - began:.2f} s by one call, in {took:.2f} s by a pool of {workers}, which kept {cores:.1f} cores at work")
 
     def test_lock_is_let_go(self) -> None:
@@ -165,7 +165,7 @@ class Threads(unittest.TestCase):
         asked = [(TS[i % len(TS)], PS[i % len(PS)]) for i in range(2_200)]
         with concurrent.futures.ThreadPoolExecutor(8) as pool:
             found = list(pool.map(lambda pair: state_or_refusal(T=pair[0], p=pair[1]), asked))
-        self.assertEqual(found, ONE_BY_ONE * 200)
+        self.assertEqual([case for case in zip(asked, found, ONE_BY_ONE * 200) if case[1] != case[2]][:3], [])
 
 
 if __name__ == "__main__":

@@ -135,7 +135,8 @@ class Crosscheck(unittest.TestCase):
         chance = random.Random(SEED + 4)
         for name, door, count in (("p", doors.by_pressure, min(STATES // 1000, 30)), ("rho", doors.by_density, min(STATES // 100, 300))):
             pairs = [asked(chance, name) for _ in range(count)]
-            self.compare(f"state(T, {name}) and crosscheck/doors.py", pairs, [state_or_refusal(**{"T": t, name: x}) for t, x in pairs], [right(door, t, x) for t, x in pairs])
+            found = [state_or_refusal(**{"T": t, name: x}) for t, x in pairs]
+            self.compare(f"state(T, {name}) and crosscheck/doors.py", pairs, found, [right(door, t, x) for t, x in pairs])
 
 
 if __name__ == "__main__":

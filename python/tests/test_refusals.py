@@ -70,7 +70,8 @@ class Refusals(unittest.TestCase):
 
     def test_beside(self) -> None:
         """The floats on the other side are answered."""
-        for t, p in [(216.592, 5e5), (523.0, 5e6), (300.0, 1e4), (300.0, 3e7), (303.12819999999994, 7e6), (305.12820000000005, 8e6), (250.0, 1785029.065366501)]:
+        pairs = [(216.592, 5e5), (523.0, 5e6), (300.0, 1e4), (300.0, 3e7), (303.12819999999994, 7e6), (305.12820000000005, 8e6), (250.0, 1785029.065366501)]
+        for t, p in pairs:
             makhroeng.state(T=t, p=p)
         for t in (216.592, 304.12819999999994):
             makhroeng.saturation(t)
@@ -97,8 +98,12 @@ class Blanks(unittest.TestCase):
                 makhroeng.state(**words)
 
     def test_which_words(self) -> None:
-        for words in ({"T": 300.0}, {"T": 300.0, "p": 5e6, "rho": 100.0}, {"T": 300.0, "p": 5e6, "rho": None}, {"T": 300.0, "p": None, "rho": 100.0}, {"p": 5e6}):
-            self.assertRaises(TypeError, makhroeng.state, **words)
+        with self.assertRaisesRegex(TypeError, "either p or rho, and neither is given$"):
+            makhroeng.state(T=300.0)
+        for both in ({"p": 5e6, "rho": 100.0}, {"p": 5e6, "rho": None}, {"p": None, "rho": 100.0}, {"p": None, "rho": None}):
+            with self.assertRaisesRegex(TypeError, "either p or rho, and both are given$"):
+                makhroeng.state(T=300.0, **both)
+        self.assertRaises(TypeError, makhroeng.state, p=5e6)
         self.assertRaises(TypeError, makhroeng.state, 300.0, 5e6)
 
     def test_in_sequences(self) -> None:

@@ -34,9 +34,11 @@ class Reports(unittest.TestCase):
         for text, report in ((longest, b"SENT BACK 11\n"), (longest + b"\n", b"SENT BACK 14\n"), (longest * 40, b"SENT BACK 14\n"), (b"", b"SENT BACK 14\n")):
             self.assertEqual(makhroeng.report(text), report)
             self.assertEqual(self.again(text), report)
-        whole = b"N 1\n" + b"".join(b"C %d 3131500 P 10600000 999999\n" % (1_000_000_000 + i) for i in range(32))
-        self.assertEqual(makhroeng.report(whole), self.again(whole))
-        self.assertTrue(makhroeng.report(whole).endswith(b" COVERED\n"))
+        # nothing weighs more, and so no report is longer
+        weighed = b"N 1\n" + b"".join(b"C %d - W 9999999999 1000000\n" % i for i in range(32))
+        self.assertEqual(makhroeng.report(weighed), self.again(weighed))
+        lines = [*(f"L {i + 1} M 9999999999000" for i in range(32)), "TOTAL 319999999968000 COVERED", ""]
+        self.assertEqual(makhroeng.report(weighed).decode(), "\n".join(lines))
 
     def test_nul(self) -> None:
         self.assertEqual(makhroeng.report(SHEET.replace(b"\n", b"\n\0", 1)), b"SENT BACK 14\n")

@@ -58,7 +58,7 @@ def _numpys_own(x: object) -> tuple[str, int]:
 
 
 def is_sequence(x: object) -> bool:
-    return isinstance(x, Sequence) and not isinstance(x, NO_SEQUENCE_OF_NUMBERS)
+    return isinstance(x, (Sequence, array)) and not isinstance(x, NO_SEQUENCE_OF_NUMBERS)  # Python 3.9 doesn't count array among the sequences
 
 
 def sequence(name: str, xs: Sequence[object]) -> array[float]:

@@ -71,7 +71,7 @@ def run(python: str, package: Path) -> tuple[bool, str]:
     """Whether the tests pass with this copy, and which failed first."""
     environ = {**os.environ, "PYTHONPATH": str(package.parent), "STATES": "1000", "FAILFAST": "1"}
     try:
-        done = subprocess.run([python, "-B", "python/tests/run.py"], env=environ, capture_output=True, text=True, timeout=300)
+        done = subprocess.run([python, "-B", "python/tests/run.py"], env=environ, capture_output=True, text=True, timeout=120)
     except subprocess.TimeoutExpired:
         return False, "it did not end"
     said = done.stdout.splitlines()

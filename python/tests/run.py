@@ -10,8 +10,17 @@ sys.dont_write_bytecode = True
 sys.path.insert(0, str(Path(__file__).parent))
 
 
+class Result(unittest.TestResult):
+    """Counts what passed itself: whether testsRun has the skipped ones too differs among the versions of Python."""
+
+    passed = 0
+
+    def addSuccess(self, test: unittest.TestCase) -> None:
+        self.passed += 1
+
+
 def main() -> None:
-    result = unittest.TestResult()
+    result = Result()
     result.failfast = "FAILFAST" in os.environ
     unittest.defaultTestLoader.discover(str(Path(__file__).parent)).run(result)
     wrong = {test.id(): error for test, error in [*result.failures, *result.errors]}
@@ -19,7 +28,7 @@ def main() -> None:
         print(f"FAILED: {name}\n{error}")
     for why, count in collections.Counter(why for _, why in result.skipped).items():
         print(f"not tried: {count} tests: {why}")
-    print(f"{result.testsRun - len(wrong) - len(result.skipped)} passed, {len(wrong)} failed")
+    print(f"{result.passed} passed, {len(wrong)} failed")
     sys.exit(len(wrong) != 0)
 
 

@@ -1,7 +1,6 @@
 """States over arrays: each place what state() gives for it, whatever form the arrays have."""
 import concurrent.futures
 import os
-import threading
 import time
 import types
 import unittest
@@ -148,17 +147,13 @@ class Threads(unittest.TestCase):
 
     def test_lock_is_let_go(self) -> None:
         """Another thread of Python runs while one call works."""
-        ticks, done = 0, threading.Event()
-
-        def work() -> None:
-            makhroeng.states(MANY_TS, MANY_PS)
-            done.set()
-
-        worker = threading.Thread(target=work)
-        worker.start()
-        while not done.wait(0.005):
-            ticks += 1
-        worker.join()
+        ticks = 0
+        with concurrent.futures.ThreadPoolExecutor(1) as pool:
+            work = pool.submit(makhroeng.states, MANY_TS, MANY_PS)
+            while not work.done():
+                time.sleep(0.005)
+                ticks += 1
+            work.result()
         self.assertGreaterEqual(ticks, 10)
 
     def test_pool_of_single_calls(self) -> None:

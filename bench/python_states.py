@@ -11,7 +11,7 @@ from array import array
 from collections.abc import Callable
 from pathlib import Path
 
-POINTS = 2000
+POINTS, FEW = 2000, 400
 
 
 def points(file: str) -> None:
@@ -54,15 +54,17 @@ def time_all(file: str, rounds: int) -> None:
     else:
         held_ts, held_ps = numpy.array(ts), numpy.array(ps)
     timed("states(T, p) of arrays", lambda: states(held_ts, held_ps), rounds)
-    workers = os.cpu_count() or 1
-    each = POINTS // (4 * workers)
+    # few enough that some round meets no other work on any core, each thread on a core of its own
+    cores = sorted(os.sched_getaffinity(0))
+    each = FEW // len(cores)
+    left = iter(cores)
 
     def by_pool(pool: concurrent.futures.Executor) -> object:
-        return list(pool.map(lambda at: states(held_ts[at:at + each], held_ps[at:at + each]), range(0, POINTS, each)))
+        return list(pool.map(lambda at: states(held_ts[at:at + each], held_ps[at:at + each]), range(0, FEW, each)))
 
-    timed("the same, by the clock", lambda: states(held_ts, held_ps), rounds, time.perf_counter)
-    with concurrent.futures.ThreadPoolExecutor(workers) as pool:
-        timed(f"the same, by {workers} threads", lambda: by_pool(pool), rounds, time.perf_counter)
+    timed(f"of {FEW}, by the clock", lambda: states(held_ts[:FEW], held_ps[:FEW]), 10 * rounds, time.perf_counter, FEW)
+    with concurrent.futures.ThreadPoolExecutor(len(cores), initializer=lambda: os.sched_setaffinity(0, {next(left)})) as pool:
+        timed(f"the same, by {len(cores)} threads", lambda: by_pool(pool), 10 * rounds, time.perf_counter, FEW)
 
 
 def table(*files: str) -> None:

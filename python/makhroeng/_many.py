@@ -1,4 +1,4 @@
-"""Many states by one call of the library, which then works without Python's lock."""
+"""Many states by one call of the library (RULES 12 and 16), which then works without Python's lock."""
 from __future__ import annotations
 
 import ctypes

@@ -1,4 +1,4 @@
-"""What is taken as a number. A blank never is: None, a masked place, a bool and a text are each a TypeError that names the place, and so is whatever
+"""What is taken as a number (RULES 16). A blank never is: None, a masked place, a bool and a text are each a TypeError that names the place, and so is whatever
 else is neither a float nor an int, since its worth as a float would be a guess."""
 from __future__ import annotations
 

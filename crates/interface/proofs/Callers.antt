@@ -1,6 +1,7 @@
--- What a caller may take from the promises of the two functions that give all that a state carries: what stands in the figures, by how many are lent.
--- Assumes nothing.
+-- What a caller may take from the promises of the two functions that give all that a state carries, what stands in the figures, by how many are lent; and
+-- from that of many states at once. Assumes nothing.
 use mathlib.Core.Path.{_≡_, refl}
+use mathlib.Core.Bool.{true}
 use mathlib.Core.List.{List}
 use Prim.Native.Nat.{ℕ, _≤_, _<_}
 use contract.Lifetimes.{Lfts}
@@ -18,8 +19,11 @@ use Rattle.door_conductivity.specs.Conducted.{conducting, withConductivity}
 use Rattle.door_conductivity.specs.declared.Conductivity.the-variants.{Is}
 use Rattle.interface_figures.specs.Figures.{asked, CarriedIn, CountedIn}
 use Rattle.interface_figures.proofs.Callers.{unasked, ten-ask, tenth}
+use Rattle.interface_states.specs.States.{fits}
+use Rattle.interface_states.proofs.Callers.{ten, place}
 use Rattle.interface.proofs.makhroeng_state_from_pressure.Reads as state-from-pressure
 use Rattle.interface.proofs.makhroeng_state_from_density.Reads as state-from-density
+use Rattle.interface.proofs.makhroeng_states_from_pressure.Reads as states-from-pressure
 
 -- ---- of the two functions: whatever meets the promise of one that writes into its third argument
 
@@ -49,3 +53,18 @@ state-from-pressure-tenth κs a r x p h s k e w = asked-tenth _ _ _ r h p s k e 
 pub state-from-density-tenth : (κs : Lfts 1) → Figures (state-from-density.Post κs) (λ a r new. 10 ≤ length (now (a .1 .1 .0))
     → (s : State) (x : Float) → densityDoor of1996 document01 (a .0) (a .1 .0) ≡ Answer.State s → of1996 .conductivity (s .t) (s .rho) ≡ Number x → getD new 9 nan ≡ x)
 state-from-density-tenth κs a r x p h s k e w = asked-tenth _ _ _ r h p s k e w
+
+-- ---- of many states: each place is as makhroeng_state_from_pressure leaves it, where it is lent that place's ten figures
+abbrev FiguresAndAnswers : Type 0 → Type 0 → Type 0 → Type 0
+FiguresAndAnswers S T U = S × (T × (RefT (List ℕ) × (RefT (List Float) × U)))
+
+abbrev Worked : {A S T U : Type 0} → (A → ℕ → FiguresAndAnswers S T U → Type 0) → (A → List ℕ → List Float → Type 0) → Type 0
+Worked {A} {S} {T} {U} Post Q = (a : A) (r : ℕ) (x : FiguresAndAnswers S T U) → Post a r x → Q a (now (x .1 .1 .0)) (now (x .1 .1 .1 .0))
+
+pub states-from-pressure-place : (κs : Lfts 4) → Worked (states-from-pressure.Post κs) (λ a answers figures.
+    fits (length (now (a .0))) (length (now (a .1 .0))) (length (now (a .1 .1 .0))) (length (now (a .1 .1 .1 .0))) ≡ true
+    → (i : ℕ) (d : Float) → i < length (now (a .0))
+    → CarriedIn (ten i (now (a .1 .1 .1 .0))) (ten i figures)
+    (withConductivity of1996 (asked (ten i (now (a .1 .1 .1 .0)))) (pressureDoor of1996 document01 (getD (now (a .0)) i d) (getD (now (a .1 .0)) i d)))
+    (getD answers i 0))
+states-from-pressure-place κs a r x p fit i d h = place _ _ _ _ _ _ r p fit i d h

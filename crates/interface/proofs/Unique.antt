@@ -7,11 +7,13 @@ use denote.Ref.{RefT, now}
 use lib.Ieee.{Float}
 use Rattle.num_working.proofs.Unique.{OneAnswer, by-equation}
 use Rattle.interface_figures.proofs.Unique.{one-handed}
+use Rattle.interface_states.proofs.Unique.{OneWorked, one-worked}
 use Rattle.sheet_write.proofs.Unique.{one-fitted}
 use Rattle.interface.proofs.makhroeng_from_pressure.Reads as from-pressure
 use Rattle.interface.proofs.makhroeng_from_density.Reads as from-density
 use Rattle.interface.proofs.makhroeng_state_from_pressure.Reads as state-from-pressure
 use Rattle.interface.proofs.makhroeng_state_from_density.Reads as state-from-density
+use Rattle.interface.proofs.makhroeng_states_from_pressure.Reads as states-from-pressure
 use Rattle.interface.proofs.makhroeng_saturation.Reads as saturation
 use Rattle.interface.proofs.makhroeng_report.Reads as report
 use Rattle.interface.proofs.makhroeng_words.Reads as words
@@ -36,6 +38,9 @@ state-from-pressure-once κs a r s x y = one-handed
 
 pub state-from-density-once : (κs : Lfts 1) → OneAnswered (state-from-density.Post κs)
 state-from-density-once κs a r s x y = one-handed
+
+pub states-from-pressure-once : (κs : Lfts 4) → OneWorked (states-from-pressure.Post κs)
+states-from-pressure-once κs a r s x y = one-worked
 
 pub saturation-once : (κs : Lfts 1) → OneInSecond Float (saturation.Post κs)
 saturation-once κs a r s x y = one-handed

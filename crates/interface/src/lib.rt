@@ -1,5 +1,5 @@
-// RULES 12: for programs in other languages, the two doors, by a state's eight numbers or by all that it carries,
-// saturation, the report, the words of a refusal and the version (include/makhroeng.h). Nothing is kept between calls, so
+// RULES 12: for programs in other languages, the two doors, by a state's eight numbers or by all that it carries, many
+// states at once, saturation, the report, the words of a refusal and the version (include/makhroeng.h). Nothing is kept between calls, so
 // any number of threads may call at once. A slice is a pointer and a length.
 ghost use mathlib.Core.Path.{_≡_};
 ghost use Rattle.door_limits.specs.Limits.{document01};
@@ -13,6 +13,7 @@ ghost use Rattle.sheet_write.specs.Writing.{Fitted};
 ghost use Rattle.sheet_score.specs.Score.{report};
 ghost use Rattle.desk_words.specs.Words.{version, words};
 ghost use Rattle.interface_figures.specs.Figures.{asked, AnsweredIn, CarriedIn, SaturatedIn};
+ghost use Rattle.interface_states.specs.States.{StatesIn};
 ghost use Rattle.interface.specs.Interface.{ReportedIn};
 use desk_words::put_words;
 use desk_words::version;
@@ -23,6 +24,7 @@ use door_saturation::saturated_at;
 use interface_figures::put_answer;
 use interface_figures::put_saturated;
 use interface_figures::put_state;
+use interface_states::put_states;
 use sheet_report::Written;
 use sheet_score::score;
 
@@ -64,6 +66,18 @@ pub extern "C" fn makhroeng_state_from_density(
     ensures { λ r. ⌜ CarriedIn (now (figures .entry)) (now (figures .exit)) (withConductivity of1996 (asked (now (figures .entry))) (densityDoor of1996 document01 temperature density)) r ⌝ }
 {
     put_state(from_density(document_01(), temperature, density), figures)
+}
+
+#[no_mangle]
+pub extern "C" fn makhroeng_states_from_pressure(
+    temperatures: &[f64],
+    pressures: &[f64],
+    answers: &mut [u32],
+    figures: &mut [f64],
+) -> u32
+    ensures { λ r. ⌜ StatesIn (now (temperatures .entry)) (now (pressures .entry)) (now (answers .entry)) (now (answers .exit)) (now (figures .entry)) (now (figures .exit)) r ⌝ }
+{
+    put_states(temperatures, pressures, answers, figures)
 }
 
 #[no_mangle]

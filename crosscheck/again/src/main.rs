@@ -1,12 +1,16 @@
 //! Makhroeng worked a second time, by docs/ (RULES, ARRANGEMENT, READING) and the paper, without the sources, and compared with the library
 //! bit for bit.
 //!
-//!     again [--states N] [--texts N] [--seed S] [--threads N]    compares with the library it is linked with; saturation at a quarter as many
-//!                        temperatures as there are states, and the words of every refusal
+//!     again [--states N] [--texts N] [--seed S] [--threads N] [--record FILE]    compares with the library it is linked with; saturation at a
+//!                        quarter as many temperatures as there are states, arrays of states a fiftieth as many, and the words of every refusal;
+//!                        every call is kept in FILE
+//!     again --replay FILE    asks the library it is linked with all that such a file has, and compares; record.rs has the file's format
 //!     again --ask        reads lines `P T p` or `D T rho`, each number as the hexadecimal digits of its bits, and answers each;
 //!                        `P T p conductivity` or `D T rho conductivity` asks for that too; `S T` asks for saturation by itself
 //!     again --report     reads a sheet and writes its report
 
+#[cfg(all(linked, feature = "many"))]
+mod arrays;
 mod conductivity;
 mod doors;
 mod equation;
@@ -20,6 +24,8 @@ mod words;
 
 #[cfg(linked)]
 mod library;
+#[cfg(linked)]
+mod record;
 #[cfg(linked)]
 mod rng;
 #[cfg(all(linked, feature = "saturation"))]
@@ -36,19 +42,28 @@ mod texts;
 use std::io::{self, BufRead, BufWriter, Read, Write};
 use std::process::ExitCode;
 
-const USAGE: &str = "usage: again [--states N] [--texts N] [--seed S] [--threads N] | again --ask | again --report";
+const USAGE: &str =
+    "usage: again [--states N] [--texts N] [--seed S] [--threads N] [--record FILE] | again --replay FILE | again --ask | again --report";
 
 fn main() -> ExitCode {
     let mut args = std::env::args().skip(1);
-    let (mut states, mut texts, mut seed, mut threads) = (1_000_000, 100_000, None, None);
+    let (mut states, mut texts, mut seed, mut threads, mut record) = (1_000_000, 100_000, None, None, None);
     while let Some(arg) = args.next() {
         match arg.as_str() {
             "--ask" => return done(ask()),
             "--report" => return done(report()),
             _ => {}
         }
-        let value = args.next().and_then(|value| value.parse::<u64>().ok());
-        match (arg.as_str(), value) {
+        let value = args.next();
+        match (arg.as_str(), &value) {
+            ("--replay", Some(path)) => return replay(path),
+            ("--record", Some(_)) => {
+                record = value;
+                continue;
+            }
+            _ => {}
+        }
+        match (arg.as_str(), value.and_then(|value| value.parse::<u64>().ok())) {
             ("--states", Some(n)) => states = n,
             ("--texts", Some(n)) => texts = n,
             ("--seed", Some(n)) => seed = Some(n),
@@ -59,7 +74,8 @@ fn main() -> ExitCode {
             }
         }
     }
-    compare(states, texts, seed.unwrap_or_else(of_the_clock), threads.unwrap_or_else(|| std::thread::available_parallelism().map_or(1, |n| n.get())))
+    let threads = threads.unwrap_or_else(|| std::thread::available_parallelism().map_or(1, |n| n.get()));
+    compare(states, texts, seed.unwrap_or_else(of_the_clock), threads, record)
 }
 
 fn of_the_clock() -> u64 {
@@ -68,12 +84,19 @@ fn of_the_clock() -> u64 {
 }
 
 #[cfg(linked)]
-fn compare(states: u64, texts: u64, seed: u64, threads: usize) -> ExitCode {
+fn compare(states: u64, texts: u64, seed: u64, threads: usize, record: Option<String>) -> ExitCode {
+    if let Some(path) = &record {
+        if let Err(error) = record::begin(path) {
+            return failed(&format!("{path}: {error}"));
+        }
+    }
     println!("seed {seed}, {threads} threads");
     let mut all = states::compare(seed, states, threads);
     all.push(texts::compare(seed, texts, threads));
     #[cfg(feature = "saturation")]
     all.extend([temperatures::compare(seed, states / 4, threads), said::compare(seed, threads)]);
+    #[cfg(feature = "many")]
+    all.push(arrays::compare(seed, states / 50, threads));
     let mut sums = [0; 2];
     let (mut digest, mut seconds) = (0u64, 0.0);
     for (i, (tally, took)) in all.iter().enumerate() {
@@ -87,6 +110,11 @@ fn compare(states: u64, texts: u64, seed: u64, threads: usize) -> ExitCode {
     for (change, times) in all.iter().flat_map(|(tally, _)| &tally.changes) {
         println!("{times:>9} times {change}");
     }
+    match record::end() {
+        Ok(Some((calls, bytes))) => println!("{calls} calls recorded, {bytes} bytes"),
+        Ok(None) => {}
+        Err(error) => return failed(&format!("the record can't be written: {error}")),
+    }
     println!("seed {seed}, {seconds:.1} s, digest of what is right {digest:016x}");
     println!("{} compared, {} differ", sums[0], sums[1]);
     if sums[1] == 0 {
@@ -96,9 +124,27 @@ fn compare(states: u64, texts: u64, seed: u64, threads: usize) -> ExitCode {
     }
 }
 
+#[cfg(linked)]
+fn replay(path: &str) -> ExitCode {
+    match record::replay(path) {
+        Ok(0) => ExitCode::SUCCESS,
+        Ok(_) => ExitCode::FAILURE,
+        Err(error) => failed(&format!("{path}: {error}")),
+    }
+}
+
 #[cfg(not(linked))]
-fn compare(_: u64, _: u64, _: u64, _: usize) -> ExitCode {
-    eprintln!("again: built without a library to compare with (MAKHROENG_LIB)");
+fn compare(_: u64, _: u64, _: u64, _: usize, _: Option<String>) -> ExitCode {
+    failed("built without a library to compare with (MAKHROENG_LIB)")
+}
+
+#[cfg(not(linked))]
+fn replay(_: &str) -> ExitCode {
+    failed("built without a library to compare with (MAKHROENG_LIB)")
+}
+
+fn failed(what: &str) -> ExitCode {
+    eprintln!("again: {what}");
     ExitCode::from(2)
 }
 

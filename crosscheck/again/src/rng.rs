@@ -36,6 +36,17 @@ impl Rng {
         of[self.below(of.len() as u64) as usize]
     }
 
+    /// A place among the shares, each as often as its share is of their sum.
+    pub fn by_share(&mut self, shares: &[u64]) -> usize {
+        let mut share = self.below(shares.iter().sum());
+        let place = shares.iter().position(|&of_place| {
+            let here = share < of_place;
+            share = share.wrapping_sub(of_place);
+            here
+        });
+        place.expect("one of the shares")
+    }
+
     pub fn uniform(&mut self, [low, high]: [f64; 2]) -> f64 {
         low + (high - low) * ((self.bits() >> 11) as f64 / 9007199254740992.0)
     }

@@ -1,7 +1,7 @@
 //! States asked of both doors, of the library and of this implementation.
 
 use crate::doors::{self, Answer, Phase, BOX_DENSITIES, BOX_PRESSURES, BOX_TEMPERATURES, DENSITIES, PRESSURES, TEMPERATURES};
-use crate::equation::{isotherm, pressure, CRITICAL_DENSITY, CRITICAL_TEMPERATURE};
+use crate::equation::{isotherm, pressure, State, CRITICAL_DENSITY, CRITICAL_TEMPERATURE};
 use crate::library::{Function, BY_DENSITY, BY_PRESSURE};
 use crate::melting::melting_pressure;
 use crate::numbers::whole_power;
@@ -29,7 +29,7 @@ const KINDS: [&str; 14] = [
 ];
 /// Out of 100.
 const SHARES: [u64; 14] = [18, 14, 10, 6, 10, 4, 8, 6, 6, 4, 4, 4, 4, 2];
-const ANSWERS: [u32; 12] = [256, 257, 258, 3, 4, 5, 6, 7, 8, 9, 15, 19];
+pub const ANSWERS: [u32; 12] = [256, 257, 258, 3, 4, 5, 6, 7, 8, 9, 15, 19];
 
 #[derive(Clone, Copy, PartialEq)]
 enum Door {
@@ -265,6 +265,13 @@ fn case_of(rng: &mut Rng, door: Door, kind: usize) -> (f64, f64) {
     }
 }
 
+/// A temperature and a pressure of any kind, in the same shares.
+#[cfg(feature = "many")]
+pub fn by_pressure(rng: &mut Rng) -> (f64, f64) {
+    let kind = rng.by_share(&SHARES);
+    case_of(rng, Door::Pressure, kind)
+}
+
 /// How many are lent: fewer than eight now and then, and more. For all that a state carries it is ten, and eight or nine will do; a library that
 /// gives nine is lent as many.
 fn length(rng: &mut Rng, gives: usize) -> usize {
@@ -279,13 +286,23 @@ fn length(rng: &mut Rng, gives: usize) -> usize {
     }) as usize
 }
 
-fn number(answer: &Answer) -> u32 {
+pub fn number(answer: &Answer) -> u32 {
     match answer {
         Ok((Phase::Vapour, _)) => 256,
         Ok((Phase::Liquid, _)) => 257,
         Ok((Phase::Supercritical, _)) => 258,
         Err(number) => *number,
     }
+}
+
+/// All that a state carries, in the order of RULES 12.
+pub fn carried(state: &State) -> impl Iterator<Item = u64> {
+    state.eight.into_iter().chain([f64::from(state.fallen)]).chain(state.conductivity).map(f64::to_bits)
+}
+
+/// What answers are called.
+pub fn columns() -> Vec<String> {
+    ANSWERS.iter().map(|n| if *n < 256 { n.to_string() } else { ["vapour", "liquid", "supercr."][*n as usize - 256].to_string() }).collect()
 }
 
 /// Numbers that are not lent, before and after those that are.
@@ -317,9 +334,8 @@ impl Call {
             _ => doors::asked(answer),
         };
         if let Ok((_, state)) = right {
-            let carried = state.eight.into_iter().chain([f64::from(state.fallen)]).chain(state.conductivity);
-            for (figure, carried) in right_figures[GUARD..GUARD + given].iter_mut().zip(carried) {
-                *figure = carried.to_bits();
+            for (figure, carried) in right_figures[GUARD..GUARD + given].iter_mut().zip(carried(&state)) {
+                *figure = carried;
             }
         }
         let number = (function.call)(t, x, &mut figures[GUARD..GUARD + len]);
@@ -351,13 +367,7 @@ impl Call {
 
 fn case(seed: u64, index: u64, door: Door, tally: &mut Tally) {
     let mut rng = Rng::of_case(seed, door as u64, index);
-    let mut share = rng.below(100);
-    let kind = SHARES.iter().position(|&of_kind| {
-        let here = share < of_kind;
-        share = share.wrapping_sub(of_kind);
-        here
-    });
-    let kind = kind.expect("the shares are 100 in all");
+    let kind = rng.by_share(&SHARES);
     let (t, x) = case_of(&mut rng, door, kind);
     let answer = door.ask(t, x);
     let calls: Vec<Call> = door.functions().iter().map(|function| Call::of(function, t, x, answer, &mut rng)).collect();
@@ -385,15 +395,13 @@ fn case(seed: u64, index: u64, door: Door, tally: &mut Tally) {
 
 /// Compares half as many of each door.
 pub fn compare(seed: u64, states: u64, threads: usize) -> Vec<(Tally, Duration)> {
-    let columns: Vec<String> =
-        ANSWERS.iter().map(|n| if *n < 256 { n.to_string() } else { ["vapour", "liquid", "supercr."][*n as usize - 256].to_string() }).collect();
     let mut told = Vec::new();
     for (door, name, cases) in [(Door::Pressure, "pressure door", states - states / 2), (Door::Density, "density door", states / 2)] {
         let (tally, took) = run(name, cases, threads, [KINDS.len(), ANSWERS.len()], |index, tally| case(seed, index, door, tally));
         tally.print(
             &format!("{name}: {cases} states in {:.1} s, {:.0} a second", took.as_secs_f64(), cases as f64 / took.as_secs_f64()),
             &KINDS,
-            &columns,
+            &columns(),
         );
         let fallen: Vec<String> = tally.fallen.iter().map(|(rows, states)| format!("{rows} in {states}")).collect();
         println!("  rows that fell away: {}", fallen.join(", "));

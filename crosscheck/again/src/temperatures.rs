@@ -77,13 +77,7 @@ const ROOM: usize = 6 + 2 * GUARD;
 
 fn case(seed: u64, index: u64, tally: &mut Tally) {
     let mut rng = Rng::of_case(seed, 3, index);
-    let mut share = rng.below(100);
-    let kind = SHARES.iter().position(|&of_kind| {
-        let here = share < of_kind;
-        share = share.wrapping_sub(of_kind);
-        here
-    });
-    let kind = kind.expect("the shares are 100 in all");
+    let kind = rng.by_share(&SHARES);
     let t = temperature_of(&mut rng, kind);
     let len = length(&mut rng);
     let mut figures = [0u64; ROOM];

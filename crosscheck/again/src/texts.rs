@@ -603,13 +603,7 @@ const GUARD: usize = 16;
 
 fn case(seed: u64, index: u64, tally: &mut Tally) {
     let mut rng = Rng::of_case(seed, 2, index);
-    let mut share = rng.below(SHARES.iter().sum());
-    let kind = SHARES.iter().position(|&of_kind| {
-        let here = share < of_kind;
-        share = share.wrapping_sub(of_kind);
-        here
-    });
-    let kind = kind.expect("one of the shares");
+    let kind = rng.by_share(&SHARES);
     let mut text = text_of(&mut rng, kind);
     let text_len = text.len();
     let outcome = score(&text);

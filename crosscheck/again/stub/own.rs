@@ -200,6 +200,161 @@ fn answer(t: f64, x: f64, door: fn(f64, f64) -> doors::Answer, figures: &mut [f6
     }
 }
 
+/// How many places the four lengths are of (RULES 12), or what a fault takes for it; none where they don't fit.
+fn places([temperatures, pressures, answers, figures]: [usize; 4]) -> Option<usize> {
+    let least = temperatures.min(pressures).min(answers).min(figures / 10);
+    let fits = if fault("15-for-too-few-alone") {
+        pressures >= temperatures && answers >= temperatures && figures >= 10 * temperatures
+    } else if fault("15-for-too-many-alone") {
+        pressures <= temperatures && answers <= temperatures && figures <= 10 * temperatures
+    } else if fault("more-temperatures-taken") {
+        pressures <= temperatures && answers == pressures && figures == 10 * pressures
+    } else if fault("pressures-not-counted") {
+        answers == temperatures && figures == 10 * temperatures
+    } else if fault("more-pressures-taken") {
+        pressures >= temperatures && answers == temperatures && figures == 10 * temperatures
+    } else if fault("answers-not-counted") {
+        pressures == temperatures && figures == 10 * temperatures
+    } else if fault("more-answers-taken") {
+        pressures == temperatures && answers >= temperatures && figures == 10 * temperatures
+    } else if fault("figures-not-counted") {
+        pressures == temperatures && answers == temperatures
+    } else if fault("more-figures-taken") {
+        pressures == temperatures && answers == temperatures && figures >= 10 * temperatures
+    } else if fault("figures-counted-by-tens") {
+        pressures == temperatures && answers == temperatures && figures / 10 == temperatures
+    } else if fault("eight-figures-a-place-taken") {
+        pressures == temperatures && answers == temperatures && (figures == 10 * temperatures || figures == 8 * temperatures)
+    } else if fault("nine-figures-a-place-taken") {
+        pressures == temperatures && answers == temperatures && (figures == 10 * temperatures || figures == 9 * temperatures)
+    } else if fault("lengths-by-their-sum") {
+        pressures + answers == 2 * temperatures && figures == 10 * temperatures
+    } else if fault("as-many-as-there-is-room-for") {
+        true
+    } else {
+        pressures == temperatures && answers == temperatures && figures == 10 * temperatures
+    };
+    let none = temperatures == 0 && fault("15-for-none-at-all");
+    let many = temperatures > 255 && fault("15-for-more-than-255");
+    Some(least).filter(|_| fits && !none && !many)
+}
+
+/// Many states at once (RULES 12), likewise.
+fn many(temperatures: &[f64], pressures: &[f64], answers: &mut [u32], figures: &mut [f64]) -> u32 {
+    let Some(places) = places([temperatures.len(), pressures.len(), answers.len(), figures.len()]) else {
+        if fault("answers-where-lengths-do-not-fit") {
+            answers.iter_mut().for_each(|answer| *answer = 15);
+        }
+        if fault("first-place-worked-before-the-lengths") && temperatures.len().min(pressures.len()).min(answers.len()) > 0 && figures.len() > 9 {
+            answers[0] = answer(temperatures[0], pressures[0], doors::from_pressure, &mut figures[..10], true);
+        }
+        if fault("figures-zeroed-where-lengths-do-not-fit") {
+            figures.fill(0.0);
+        }
+        return if fault("0-for-15") { 0 } else { 15 };
+    };
+    if fault("figures-zeroed-first") {
+        figures.fill(0.0);
+    }
+    let places = if fault("last-place-left-out") { places.saturating_sub(1) } else { places };
+    let places = if fault("places-as-a-byte") { places as u8 as usize } else { places };
+    let mut before = None;
+    for place in if fault("first-place-left-out") { 1.min(places) } else { 0 }..places {
+        let (mut t, mut p) = (temperatures[place], pressures[place]);
+        if fault("temperature-of-the-place-before") && place > 0 {
+            t = temperatures[place - 1];
+        }
+        if fault("first-pressure-for-all") {
+            p = pressures[0];
+        }
+        if fault("pressures-from-the-back") {
+            p = pressures[places - 1 - place];
+        }
+        if fault("temperature-and-pressure-exchanged") {
+            (t, p) = (p, t);
+        }
+        let door = if fault("many-by-density") { doors::from_density } else { doors::from_pressure };
+        let len = if fault("many-without-the-conductivity") {
+            9
+        } else if fault("many-the-eight-alone") {
+            8
+        } else {
+            10
+        };
+        let apart = if fault("figures-eight-apart") {
+            8
+        } else if fault("figures-nine-apart") {
+            9
+        } else {
+            10
+        };
+        let mut at = apart * place;
+        if fault("figures-from-the-back") {
+            at = figures.len() - 10 - at;
+        }
+        if fault("figures-without-gaps") {
+            // those of a refused place are taken by the next state
+            at = 10 * answers[..place].iter().filter(|&&answer| answer > 255).count();
+        }
+        let mut ten = [0.0; 10];
+        ten.copy_from_slice(&figures[at..at + 10]);
+        let number = match before {
+            Some((before_t, number, state)) if fault("a-temperature-again-not-worked") && t == before_t => {
+                ten = state;
+                number
+            }
+            _ => answer(t, p, door, &mut ten[..len], true),
+        };
+        if number < 256 && fault("zeroed-where-a-place-is-refused") {
+            ten = [0.0; 10];
+        }
+        if number < 256 && fault("nan-where-a-place-is-refused") {
+            ten = [f64::NAN; 10];
+        }
+        if number < 256 && fault("state-before-where-a-place-is-refused") {
+            ten = before.map_or(ten, |(_, _, state)| state);
+        }
+        if fault("figures-by-columns") {
+            ten.iter().enumerate().for_each(|(k, &x)| figures[k * places + place] = x);
+        } else {
+            figures[at..at + 10].copy_from_slice(&ten);
+        }
+        let to = if fault("answers-one-place-on") { (place + 1) % places } else { place };
+        answers[to] = match number {
+            ..=255 if fault("0-where-a-place-is-refused") => 0,
+            ..=255 if fault("answer-left-where-a-place-is-refused") => answers[to],
+            256.. if fault("260-where-a-place-is-answered") => 260,
+            _ => number,
+        };
+        if number < 256 && fault("stops-at-the-first-refusal") {
+            break;
+        }
+        if number < 256 && fault("returns-the-first-refusal") {
+            return number;
+        }
+        before = Some((t, number, ten));
+    }
+    if fault("answer-behind-the-last") {
+        // SAFETY: the comparison keeps numbers there
+        unsafe { *answers.as_mut_ptr().add(places) = 0 };
+    }
+    if fault("figure-behind-the-last") {
+        // SAFETY: as above
+        unsafe { *figures.as_mut_ptr().add(10 * places) = 0.0 };
+    }
+    if fault("returns-0") {
+        0
+    } else if fault("returns-how-many") {
+        places as u32
+    } else if fault("saturated-where-worked") {
+        259
+    } else if fault("15-where-any-place-is-refused") && answers.iter().any(|&answer| answer < 256) {
+        15
+    } else {
+        260
+    }
+}
+
 /// RULES 5.6, or what a fault takes for it.
 fn saturated(t: f64) -> Result<[f64; 3], u32> {
     let at_critical = t == equation::CRITICAL_TEMPERATURE;
@@ -298,6 +453,28 @@ pub unsafe extern "C" fn makhroeng_state_from_pressure(t: f64, p: f64, figures: 
 #[no_mangle]
 pub unsafe extern "C" fn makhroeng_state_from_density(t: f64, rho: f64, figures: *mut f64, len: usize) -> u32 {
     answer(t, rho, doors::from_density, std::slice::from_raw_parts_mut(figures, len), true)
+}
+
+/// # Safety
+/// Each pointer is to as many as its length says.
+#[no_mangle]
+pub unsafe extern "C" fn makhroeng_states_from_pressure(
+    temperatures: *const f64,
+    temperatures_len: usize,
+    pressures: *const f64,
+    pressures_len: usize,
+    answers: *mut u32,
+    answers_len: usize,
+    figures: *mut f64,
+    figures_len: usize,
+) -> u32 {
+    let (answers, lent) = (std::slice::from_raw_parts_mut(answers, answers_len), std::slice::from_raw_parts_mut(figures, figures_len));
+    let asked = [(temperatures, temperatures_len), (pressures, pressures_len)].map(|(front, len)| std::slice::from_raw_parts(front, len));
+    let number = many(asked[0], asked[1], answers, lent);
+    if fault("a-pressure-overwritten") && pressures_len > 0 {
+        *pressures.cast_mut() = 0.0;
+    }
+    number
 }
 
 /// A report with each of its numbers written by `number`.

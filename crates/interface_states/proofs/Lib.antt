@@ -1,0 +1,4 @@
+pub mod Fitting
+pub mod Places
+pub mod Callers
+pub mod Unique

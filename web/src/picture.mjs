@@ -175,13 +175,14 @@ export function mapPicture(frame, dots, width) {
 }
 const onMap = (frame, { kelvin, pascal }) => kelvin >= ZERO - 60 && kelvin <= frame.hottest + 3 && pascal >= frame.lowest * 0.8 && pascal <= frame.highest * 1.25;
 
+const lineWord = places => places.length === 1 ? 'line' : 'lines';
 // What has no place on it, in words that stand beside it
 export function offMap(frame, dots, weighed, nowhere) {
     const beyond = dots.filter(dot => !onMap(frame, dot)).map(dot => dot.place);
     const said = [];
-    if (weighed.length) said.push(`Weighed, and so not on the map: line ${rangesOf(weighed)}.`);
-    if (beyond.length) said.push(`Beyond the map: line ${rangesOf(beyond)}.`);
-    if (nowhere.length) said.push(`No temperature with a pressure yet: line ${rangesOf(nowhere)}.`);
+    if (weighed.length) said.push(`Weighed, and so not on the map: ${lineWord(weighed)} ${rangesOf(weighed)}.`);
+    if (beyond.length) said.push(`Beyond the map: ${lineWord(beyond)} ${rangesOf(beyond)}.`);
+    if (nowhere.length) said.push(`No temperature with a pressure yet: ${lineWord(nowhere)} ${rangesOf(nowhere)}.`);
     return said.join(' ');
 }
 export function mapWords(frame, dots) {

@@ -88,7 +88,7 @@ def decimal(exact, mark):
     return ('-' if exact < 0 else '') + front + (mark + behind if behind else '')
 
 
-UNITS = ['C', '°C', '°', 'K', 'bar', 'kg', 'L', 'kg/m³', '%', '²', 'O', 'l', '½', "'", '_', ':', ';', '(', ')', '*', '/', '\u2014', '\u066b', '\u200b', 'h', '\u00b7']
+UNITS = [*"°%²½'_:;()*/OlhCKL", '\u2014', '\u066b', '\u200b', '\u00b7', '°C', 'bar', 'kg', 'kg/m³']
 WORDS = ['NaN', 'nan', 'Infinity', '-Infinity', 'inf', '0x10', 'null', 'undefined', 'none', '12h', '1/2', 'true']
 
 

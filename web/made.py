@@ -11,17 +11,16 @@ PAGE = 'web/index.html'
 
 def crates():
     """crates.txt: each crate with its own line and what it uses"""
-    found = {}
-    with open('crates.txt', encoding='utf-8') as lines:
-        for line in lines:
-            if match := re.fullmatch(r'(\w+):([\w ]*)\n', line):
-                found[match[1]] = (line, match[2].split())
-    return found
+    with open('crates.txt', encoding='utf-8') as file:
+        lines = [re.fullmatch(r'(\w+):([\w ]*)', line) for line in file.read().split('\n')]
+    return {line[1]: (line[0], line[2].split()) for line in lines if line}
 
 
 def stood_on(name):
     """A crate and all that it stands on, but for the kit's own, by name"""
     known, wanted, found = crates(), [name], set()
+    if name not in known:
+        raise LookupError(f'crates.txt has no {name}')
     while wanted:
         crate = wanted.pop()
         if crate in known and crate not in found:

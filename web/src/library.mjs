@@ -5,6 +5,8 @@
 export const FIGURES = ['temperature', 'pressure', 'density', 'energy', 'enthalpy', 'cv', 'cp', 'sound', 'fallen', 'conductivity'];
 export const SATURATION = ['pressure', 'vapour', 'liquid'];
 
+const FUNCTIONS = ['from_pressure', 'from_density', 'state_from_pressure', 'state_from_density', 'states_from_pressure', 'saturation', 'report', 'words',
+    'version'];
 const PHASES = { 256: 'vapour', 257: 'liquid', 258: 'supercritical' };
 const SATURATED = 259, WORKED = 260;
 const REFUSALS = new Set([3, 4, 5, 6, 7, 8, 9, 19]); // of a door and of saturation, RULES 3.3 and 5.6; 15 is of lengths, and those are right here
@@ -71,6 +73,7 @@ function memoryOf(wasm) {
 export async function openLibrary(bytes) {
     const { instance } = await WebAssembly.instantiate(bytes, {});
     const wasm = instance.exports;
+    for (const name of FUNCTIONS) must(typeof wasm[`makhroeng_${name}`] === 'function', `the library has no makhroeng_${name}`);
     const memory = memoryOf(wasm);
     const doors = {
         P: [wasm.makhroeng_from_pressure, wasm.makhroeng_state_from_pressure],

@@ -1,11 +1,11 @@
-// web/check: the page in every browser that is here. node web/drive/check.mjs [--faults] [--only NAME] [--page FILE], in the repository's root
+// web/check: the page in every browser that is here. node web/drive/check.mjs [--faults] [--only NAME] [--page FILE] [--shots], in the repository's root
 import fs from 'node:fs';
 import os from 'node:os';
 import path from 'node:path';
 import { browsers, personAt } from './driver.mjs';
 import { FAULTS, plant } from './faults.mjs';
 import { PATHS } from './paths.mjs';
-import { takeShots } from './shots.mjs';
+import { showShots, takeShots } from './shots.mjs';
 import { withoutBrowser } from './nobrowser.mjs';
 
 const SHOTS = 'target/web/shots';
@@ -20,7 +20,8 @@ function counter(title, first = false) {
             if (first) throw new Error(`${check.path}: ${what}`);
             console.log(`FAILED: ${title}, ${check.path}: ${what}${more}`);
         },
-        is: (what, got, want) => check.ok(what, JSON.stringify(got) === JSON.stringify(want), `\n    got  ${JSON.stringify(got)}\n    want ${JSON.stringify(want)}`),
+        is: (what, got, want) => check.ok(what, JSON.stringify(got) === JSON.stringify(want),
+            `\n    got  ${JSON.stringify(got)}\n    want ${JSON.stringify(want)}`),
         has: (what, text, part) => check.ok(what, String(text).includes(part), `\n    got  ${JSON.stringify(text)}\n    want ${JSON.stringify(part)} in it`),
     };
     return check;
@@ -75,6 +76,7 @@ async function checkAll(here, page, only) {
         });
         add(`${found.name} (${version}), ${Math.round((Date.now() - began) / 1000)} s`, check);
     }
+    if (words.includes('--shots')) showShots(SHOTS, here[0].name, 'web/shots');
     console.log(`pictures and printed pages: ${SHOTS}`);
     console.log(`${total.passed} passed, ${total.failed} failed`);
     return total.failed;

@@ -4,12 +4,15 @@ import fs from 'node:fs';
 
 // name, code, number of the key; a letter types itself
 const KEYS = {
-    Tab: [9], Enter: [13, '\r'], Delete: [46], Backspace: [8], Escape: [27], ArrowLeft: [37], ArrowUp: [38], ArrowRight: [39], ArrowDown: [40], Home: [36], End: [35], Space: [32, ' ', ' '],
+    Tab: [9], Enter: [13, '\r'], Delete: [46], Backspace: [8], Escape: [27], ArrowLeft: [37], ArrowUp: [38], ArrowRight: [39], ArrowDown: [40], Home: [36],
+        End: [35], Space: [32, ' ', ' '],
 };
 
 export async function openChromium(program, folder) {
-    const words = ['--headless=new', '--no-sandbox', '--disable-gpu', '--disable-dev-shm-usage', '--remote-debugging-pipe', '--hide-scrollbars', '--window-size=1200,900', '--lang=en-US',
-        '--no-first-run', '--disable-background-networking', '--disable-component-update', '--disable-sync', '--mute-audio', `--user-data-dir=${folder}/profile`, 'about:blank'];
+    const words = ['--headless=new', '--no-sandbox', '--disable-gpu', '--disable-dev-shm-usage', '--remote-debugging-pipe', '--hide-scrollbars',
+        '--window-size=1200,900', '--lang=en-US',
+        '--no-first-run', '--disable-background-networking', '--disable-component-update', '--disable-sync', '--mute-audio',
+            `--user-data-dir=${folder}/profile`, 'about:blank'];
     const child = spawn(program, words, { stdio: ['ignore', 'ignore', fs.openSync(`${folder}/chromium.err`, 'w'), 'pipe', 'pipe'] });
     const waiting = new Map(), events = [];
     let number = 0, rest = '', sessionId, without;
@@ -61,7 +64,8 @@ export async function openChromium(program, folder) {
         tab: (back = false) => key('Tab', back ? 8 : 0),
         press: name => key(name),
         type: async text => { for (const letter of text) await key(letter); },
-        selectAll: () => send('Input.dispatchKeyEvent', { type: 'rawKeyDown', key: 'a', code: 'KeyA', windowsVirtualKeyCode: 65, modifiers: 2, commands: ['selectAll'] })
+        selectAll: () => send('Input.dispatchKeyEvent',
+            { type: 'rawKeyDown', key: 'a', code: 'KeyA', windowsVirtualKeyCode: 65, modifiers: 2, commands: ['selectAll'] })
             .then(() => send('Input.dispatchKeyEvent', { type: 'keyUp', key: 'a', code: 'KeyA', windowsVirtualKeyCode: 65, modifiers: 2 })),
         size: (width, height, mobile) => send('Emulation.setDeviceMetricsOverride', { width, height, deviceScaleFactor: 1, mobile: Boolean(mobile) }),
         scheme: name => send('Emulation.setEmulatedMedia', { features: [{ name: 'prefers-color-scheme', value: name }] }),
@@ -90,7 +94,8 @@ export async function openChromium(program, folder) {
         },
         complaints: async () => events.filter(({ method }) => ['Log.entryAdded', 'Runtime.exceptionThrown', 'Runtime.consoleAPICalled'].includes(method))
             .map(({ params }) => JSON.stringify(params.entry ? params.entry.text : params.exceptionDetails || params.args).slice(0, 300)),
-        asked: async () => events.filter(({ method }) => method === 'Network.requestWillBeSent').map(({ params }) => params.request.url).filter(url => !/^(about|blob):/.test(url)),
+        asked: async () => events.filter(({ method }) => method === 'Network.requestWillBeSent').map(({ params }) => params.request.url).filter(url =>
+            !/^(about|blob):/.test(url)),
         close: async () => {
             const end = new Promise(done => child.exitCode === null ? child.once('exit', done) : done());
             const wait = new Promise(done => setTimeout(done, 5000));

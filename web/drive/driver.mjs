@@ -57,7 +57,8 @@ const FIELDS = ['number', 'celsius', 'reading', 'kind', 'litres'];
 // a person before the page of this browser
 export function personAt(browser, url) {
     const { run } = browser;
-    const focus = selector => run(`selector => { const found = document.querySelector(selector); found.focus(); found.scrollIntoView({ block: 'center' }); }`, selector);
+    const focus = selector => run(`selector => { const found = document.querySelector(selector); found.focus(); found.scrollIntoView({ block: 'center' }); }`,
+        selector);
     const at = (row, name) => `tbody.cylinder:nth-of-type(${row}) .fields > .${name} > :is(input, select)`;
     const person = {
         browser, url, run, at, focus,
@@ -65,7 +66,8 @@ export function personAt(browser, url) {
         // opens the page anew, until it has tried its library
         fresh: async (to = url) => {
             await browser.go(to);
-            await until(() => run("() => document.readyState === 'complete' && (document.getElementById('tried').textContent !== 'not yet')"), `${to} to start`);
+            await until(() => run("() => document.readyState === 'complete' && (document.getElementById('tried').textContent !== 'not yet')"),
+                `${to} to start`);
         },
         // what stands in a field is replaced, key by key
         write: async (selector, text) => {

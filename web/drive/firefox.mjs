@@ -5,15 +5,20 @@ import net from 'node:net';
 
 // WebDriver's own letters for keys
 const KEYS = {
-    Tab: '\ue004', Enter: '\ue007', Delete: '\ue017', Backspace: '\ue003', Escape: '\ue00c', ArrowLeft: '\ue012', ArrowUp: '\ue013', ArrowRight: '\ue014', ArrowDown: '\ue015',
+    Tab: '\ue004', Enter: '\ue007', Delete: '\ue017', Backspace: '\ue003', Escape: '\ue00c', ArrowLeft: '\ue012', ArrowUp: '\ue013', ArrowRight: '\ue014',
+        ArrowDown: '\ue015',
     Home: '\ue011', End: '\ue010', Space: ' ', Control: '\ue009', Shift: '\ue008',
 };
 const PREFS = {
-    'app.update.enabled': false, 'browser.shell.checkDefaultBrowser': false, 'datareporting.policy.dataSubmissionEnabled': false, 'toolkit.telemetry.enabled': false,
-    'browser.aboutwelcome.enabled': false, 'browser.startup.page': 0, 'network.captive-portal-service.enabled': false, 'network.connectivity-service.enabled': false,
-    'extensions.getAddons.cache.enabled': false, 'services.settings.server': 'data:,', 'browser.safebrowsing.malware.enabled': false, 'ui.prefersReducedMotion': 1,
+    'app.update.enabled': false, 'browser.shell.checkDefaultBrowser': false, 'datareporting.policy.dataSubmissionEnabled': false,
+        'toolkit.telemetry.enabled': false,
+    'browser.aboutwelcome.enabled': false, 'browser.startup.page': 0, 'network.captive-portal-service.enabled': false,
+        'network.connectivity-service.enabled': false,
+    'extensions.getAddons.cache.enabled': false, 'services.settings.server': 'data:,', 'browser.safebrowsing.malware.enabled': false,
+        'ui.prefersReducedMotion': 1,
     'browser.safebrowsing.phishing.enabled': false, 'browser.download.folderList': 2, 'browser.download.useDownloadDir': true, 'intl.accept_languages': 'en-US',
-    'browser.download.always_ask_before_handling_new_types': false, 'dom.events.testing.asyncClipboard': true, 'browser.download.alwaysOpenPanel': false, 'accessibility.tabfocus': 7, 'layout.css.prefers-color-scheme.content-override': 1,
+    'browser.download.always_ask_before_handling_new_types': false, 'dom.events.testing.asyncClipboard': true, 'browser.download.alwaysOpenPanel': false,
+        'accessibility.tabfocus': 7, 'layout.css.prefers-color-scheme.content-override': 1,
 };
 const sleep = ms => new Promise(done => setTimeout(done, ms));
 
@@ -37,9 +42,11 @@ export async function openFirefox(program, folder) {
     const port = await freePort(), profile = `${folder}/profile`;
     fs.mkdirSync(profile, { recursive: true });
     const prefs = { ...PREFS, 'marionette.port': port, 'browser.download.dir': folder };
-    fs.writeFileSync(`${profile}/user.js`, Object.entries(prefs).map(([name, value]) => `user_pref(${JSON.stringify(name)}, ${JSON.stringify(value)});\n`).join(''));
+    fs.writeFileSync(`${profile}/user.js`, Object.entries(prefs).map(([name, value]) =>
+        `user_pref(${JSON.stringify(name)}, ${JSON.stringify(value)});\n`).join(''));
     const err = fs.openSync(`${folder}/firefox.err`, 'w');
-    const child = spawn(program, ['--headless', '--marionette', '--remote-allow-system-access', '--no-remote', '--profile', profile], { stdio: ['ignore', err, err], env: { ...process.env, MOZ_HEADLESS_WIDTH: '1400', MOZ_HEADLESS_HEIGHT: '1000' } });
+    const child = spawn(program, ['--headless', '--marionette', '--remote-allow-system-access', '--no-remote', '--profile', profile],
+        { stdio: ['ignore', err, err], env: { ...process.env, MOZ_HEADLESS_WIDTH: '1400', MOZ_HEADLESS_HEIGHT: '1000' } });
     let ended = false;
     child.on('exit', () => { ended = true; });
     const socket = await connect(port, () => !ended);
@@ -70,7 +77,8 @@ export async function openFirefox(program, folder) {
     // a function by its text, in the page or in the browser itself
     const call = async (source, args) => (await send('WebDriver:ExecuteAsyncScript', {
         script: `const done = arguments[arguments.length - 1];
-            Promise.resolve().then(() => (${source})(...JSON.parse(arguments[0]))).then(value => done({ value: value === undefined ? null : value }), fault => done({ fault: String(fault) }));`,
+            Promise.resolve().then(() => (${source})(...JSON.parse(arguments[0])))
+                .then(value => done({ value: value === undefined ? null : value }), fault => done({ fault: String(fault) }));`,
         args: [JSON.stringify(args)], sandbox: null,
     })).value;
     const run = async (source, ...args) => {
@@ -92,7 +100,8 @@ export async function openFirefox(program, folder) {
         } };
         Services.obs.addObserver(${kept}.whoAsks = observer, 'http-on-modify-request');
     }`);
-    const actions = list => send('WebDriver:PerformActions', { actions: [{ type: 'key', id: 'keys', actions: list.flatMap(([type, value]) => ({ type, value })) }] });
+    const actions = list => send('WebDriver:PerformActions',
+        { actions: [{ type: 'key', id: 'keys', actions: list.flatMap(([type, value]) => ({ type, value })) }] });
     const stroke = key => [['keyDown', key], ['keyUp', key]];
     let url = '', zoom = 1;
     const magnify = () => inside('zoom => { gBrowser.selectedBrowser.fullZoom = zoom; }', zoom); // a new page has none
@@ -136,7 +145,8 @@ export async function openFirefox(program, folder) {
             const { value } = await send('WebDriver:Print', { background: true, page: { width: 21, height: 29.7 } });
             fs.writeFileSync(path, Buffer.from(value, 'base64'));
         },
-        complaints: () => inside(`url => Services.console.getMessageArray().filter(message => message instanceof Ci.nsIScriptError && message.sourceName.startsWith(url))
+        complaints: () => inside(`url => Services.console.getMessageArray()
+            .filter(message => message instanceof Ci.nsIScriptError && message.sourceName.startsWith(url))
             .map(message => message.errorMessage.slice(0, 300))`, url),
         asked: async () => [url, ...await inside(`() => [...${kept}.askedOfTheNet]`)],
         close: async () => {

@@ -11,8 +11,8 @@ const README_RUN = runOf('sheet_of_the_readme_explained');
 const sentence = words => words.charAt(0).toUpperCase() + words.slice(1);
 const lastOf = text => text.trim().split('\n').pop();
 
-const STORED = `async () => [localStorage.length, sessionStorage.length, document.cookie.length,
-    globalThis.indexedDB && indexedDB.databases ? (await indexedDB.databases()).length : 0].join(' ')`;
+const STORED = async () => [localStorage.length, sessionStorage.length, document.cookie.length,
+    globalThis.indexedDB && indexedDB.databases ? (await indexedDB.databases()).length : 0].join(' ');
 
 async function start(person, check) {
     await person.fresh();
@@ -24,18 +24,26 @@ async function start(person, check) {
     check.has('an empty form: what it says', seen.words, REFUSALS[12].says);
     check.is('an empty form: the need is marked', seen.needMarked, true);
     check.is('an empty form: nothing is filled in', seen.rows.map(row => row.values), [['', '', '', '', '']]);
-    check.is('nothing says that it is unusable', await run("() => document.getElementById('unusable').checkVisibility()"), false);
-    check.is('its version', await run("() => [document.getElementById('version').textContent, document.querySelector('meta[name=version]').content]"), [VERSION, VERSION]);
-    check.is('it tried its library', await run("() => document.getElementById('tried').textContent"), 'all the same');
-    const foot = (await run("() => document.querySelector('footer').textContent")).replace(/\s+/g, ' ');
-    for (const part of ['Proved', 'Tested only', 'every byte of a report', 'back end to WebAssembly', 'browser\'s engine', 'script between a field and the sheet', 'the pictures',
+    check.is('nothing says that it is unusable', await run(() => document.getElementById('unusable').checkVisibility()), false);
+    check.is('its version', await run(() => [document.getElementById('version').textContent, document.querySelector('meta[name=version]').content]),
+        [VERSION, VERSION]);
+    check.is('it tried its library', await run(() => document.getElementById('tried').textContent), 'all the same');
+    const foot = (await run(() => document.querySelector('footer').textContent)).replace(/\s+/g, ' ');
+    for (const part of ['Proved', 'Tested only', 'every byte of a report', 'back end to WebAssembly', 'browser\'s engine',
+        'script between a field and the sheet', 'the pictures',
         'the warnings', 'the sheet\'s text with its report is what counts']) check.has(`the foot: ${part}`, foot, part);
-    const policy = await run("() => document.querySelector('meta[http-equiv=Content-Security-Policy]').content");
-    check.ok('the policy lets nothing be fetched', /^default-src 'none';/.test(policy) && !/unsafe-inline|unsafe-eval'? |https?:|\*|data:|blob:|connect-src|img-src/.test(policy.replace("'wasm-unsafe-eval'", '')));
-    check.ok('the policy is before all scripts and styles', await run("() => { const all = [...document.querySelectorAll('meta[http-equiv], script, style')]; return all[0].httpEquiv === 'Content-Security-Policy'; }"));
-    check.ok('the policy takes its script and style by their digests', /script-src 'sha256-[A-Za-z0-9+/=]{44}' 'wasm-unsafe-eval'; style-src 'sha256-/.test(policy));
-    check.is('the policy is in force', await run(`async () => { try { await fetch('http://127.0.0.1:9/'); return 'fetched'; } catch (fault) { return fault.name === 'TypeError' ? 'refused' : String(fault); } }`), 'refused');
-    check.is('no styles or handlers in attributes', await run("() => document.querySelectorAll('[style], [onclick], [oninput], [onload]').length"), 0);
+    const policy = await run(() => document.querySelector('meta[http-equiv=Content-Security-Policy]').content);
+    check.ok('the policy lets nothing be fetched',
+        /^default-src 'none';/.test(policy)
+            && !/unsafe|https?:|\*|data:|blob:|connect-src|img-src/.test(policy.replace("'wasm-unsafe-eval'", '')));
+    check.ok('the policy is before all scripts and styles',
+        await run(() => document.querySelector('meta[http-equiv], script, style').httpEquiv === 'Content-Security-Policy'));
+    check.ok('the policy takes its script and style by their digests',
+        /script-src 'sha256-[A-Za-z0-9+/=]{44}' 'wasm-unsafe-eval'; style-src 'sha256-/.test(policy));
+    check.is('the policy is in force', await run(async () =>
+        { try { await fetch('http://127.0.0.1:9/'); return 'fetched'; } catch (fault) { return fault.name === 'TypeError' ? 'refused' : String(fault); } }),
+        'refused');
+    check.is('no styles or handlers in attributes', await run(() => document.querySelectorAll('[style], [onclick], [oninput], [onload]').length), 0);
     await person.fresh();
     check.is('nothing is asked of the network but the page', [...new Set(await browser.asked())], [person.url]);
     check.is('nothing is stored', await run(STORED), '0 0 0 0');
@@ -48,7 +56,7 @@ async function byKeys(person, check) {
     const { browser, look, run } = person;
     await person.focus('#tab-bank');
     await browser.tab();
-    check.is('the first field after the views', await run('() => document.activeElement.id'), 'need');
+    check.is('the first field after the views', await run(() => document.activeElement.id), 'need');
     await browser.type('120');
     await browser.press('Enter');
     for (const [i, [number, celsius, reading, kind, litres]] of README_LINES.entries()) {
@@ -69,15 +77,18 @@ async function byKeys(person, check) {
     check.is('README: the report', seen.report, README_RUN.report);
     check.is('README: the verdict', [seen.word, seen.is, seen.but], ['COVERED', 'covered', '']);
     check.is('README: the sums', seen.sums, ['134.745 kg', '120.000 kg', '14.745 kg', 'to spare']);
-    check.is('README: each line', seen.rows.map(row => row.holds), ['44.909 kg 665.3 kg/m³, supercritical', '44.813 kg 663.9 kg/m³, supercritical', '45.022 kg 667.0 kg/m³, supercritical']);
+    check.is('README: each line', seen.rows.map(row => row.holds),
+        ['44.909 kg 665.3 kg/m³, supercritical', '44.813 kg 663.9 kg/m³, supercritical', '45.022 kg 667.0 kg/m³, supercritical']);
     check.is('README: nothing is marked', seen.rows.map(row => row.marked.length + row.told.length), [0, 0, 0]);
-    check.is('README: the explanation', await run("() => document.getElementById('explanation').textContent"), README_RUN.told.map(line => `${line}\n`).join(''));
-    await until(async () => (await run("() => document.getElementById('spoken').textContent")) === 'COVERED. Held 134.745 kg, needed 120.000 kg, 14.745 kg to spare.', 'the verdict to be spoken');
+    check.is('README: the explanation', await run(() => document.getElementById('explanation').textContent), README_RUN.told.map(line => `${line}\n`).join(''));
+    await until(async () => (await run(() =>
+        document.getElementById('spoken').textContent)) === 'COVERED. Held 134.745 kg, needed 120.000 kg, 14.745 kg to spare.', 'the verdict to be spoken');
     check.ok('the verdict is spoken when the typing rests', true);
     await person.need('134.745886');
     check.is('not a milligram to spare', [(await look()).word, (await look()).sums], ['COVERED', ['134.745 kg', '134.746 kg', '0.000 kg', 'to spare']]);
     await person.need('134.745887');
-    check.is('a milligram missing', [(await look()).word, (await look()).is, (await look()).sums], ['SHORT', 'short', ['134.745 kg', '134.746 kg', '0.001 kg', 'missing']]);
+    check.is('a milligram missing', [(await look()).word, (await look()).is, (await look()).sums],
+        ['SHORT', 'short', ['134.745 kg', '134.746 kg', '0.001 kg', 'missing']]);
     check.is('a milligram missing: the report', lastOf((await look()).report), 'TOTAL 134745886 SHORT');
 }
 
@@ -139,7 +150,8 @@ async function blanks(person, check) {
     check.is('a need of 0', [(await look()).sheet.split('\n')[0], (await look()).report], ['N 0', 'SENT BACK 12\n']);
 }
 
-const SLIPS = ['1e2', '4 0', 'x', '.', '0x10', '--1', '1.2.3', '1,2,3', '1.234,5', '-300', '40.00001', 'Infinity', 'NaN', '99999999999', '+5', '.5', '5.', '40°C', '4-0'];
+const SLIPS = ['1e2', '4 0', 'x', '.', '0x10', '--1', '1.2.3', '1,2,3', '1.234,5', '-300', '40.00001', 'Infinity', 'NaN', '99999999999', '+5', '.5', '5.',
+    '40°C', '4-0'];
 async function slips(person, check) {
     await person.fresh();
     const { look, run } = person;
@@ -153,8 +165,10 @@ async function slips(person, check) {
         check.ok(`${slip}: what to do`, /^°C: .+\. .+\.$/.test(seen.rows[0].described.celsius) && seen.rows[0].shown);
         check.has(`${slip}: the verdict names the field`, seen.words, 'line 1, °C');
     }
-    check.is('nothing to copy, save or print then', await run("() => [...document.querySelectorAll('[data-paper=sheet] button, [data-paper=report] button')].map(button => button.disabled)"), Array(6).fill(true));
-    check.is('no explanation then', await run("() => document.getElementById('explanation').textContent"), '');
+    check.is('nothing to copy, save or print then',
+        await run(() => [...document.querySelectorAll('[data-paper=sheet] button, [data-paper=report] button')].map(button => button.disabled)),
+        Array(6).fill(true));
+    check.is('no explanation then', await run(() => document.getElementById('explanation').textContent), '');
     await person.field(1, 'celsius', '40.0000');
     check.is('zeros behind', (await look()).word, 'COVERED');
     await person.field(1, 'number', '1.5');
@@ -195,7 +209,8 @@ async function refusals(person, check) {
     const { look } = person;
     await person.need('30');
     const cases = [
-        [2, ['1', '40', '106', 'bar', '1000.001'], ['litres']], [4, ['1', '-60', '10', 'bar', '40'], ['celsius']], [5, ['1', '20', '301', 'bar', '40'], ['reading']],
+        [2, ['1', '40', '106', 'bar', '1000.001'], ['litres']], [4, ['1', '-60', '10', 'bar', '40'], ['celsius']],
+            [5, ['1', '20', '301', 'bar', '40'], ['reading']],
         [5, ['1', '20', '1300.5', 'density', '40'], ['celsius', 'reading']], [6, ['1', '31', '75', 'bar', '40'], ['celsius', 'reading']],
         [8, ['1', '25', '500', 'density', '40'], ['celsius', 'reading']], [19, ['1', '-56.15', '50', 'bar', '40'], ['celsius', 'reading']],
         [23, ['1', '', '0', 'weighed', '40'], ['reading']],
@@ -243,9 +258,11 @@ async function warnings(person, check) {
             warningsOf(known, place).map(sentence));
     }
     check.ok('four gauges: the warnings are shown', seen.rows.every(row => row.shown));
-    check.is('four gauges: beside COVERED', [seen.word, seen.is, seen.but], ['COVERED', 'doubt', 'but 4 gauges can’t tell (lines 1–4), and 4 lines are above 750 kg/m³ (lines 1–4)']);
-    check.is('four gauges: the explanation', await run("() => document.getElementById('explanation').textContent"), known.told.map(line => `${line}\n`).join(''));
-    const LOOKS = "() => { const { backgroundImage, borderTopStyle, borderTopColor } = getComputedStyle(document.getElementById('verdict')); return [backgroundImage === 'none', borderTopStyle, borderTopColor]; }";
+    check.is('four gauges: beside COVERED', [seen.word, seen.is, seen.but],
+        ['COVERED', 'doubt', 'but 4 gauges can’t tell (lines 1–4), and 4 lines are above 750 kg/m³ (lines 1–4)']);
+    check.is('four gauges: the explanation', await run(() => document.getElementById('explanation').textContent), known.told.map(line => `${line}\n`).join(''));
+    const LOOKS = () => { const { backgroundImage, borderTopStyle,
+        borderTopColor } = getComputedStyle(document.getElementById('verdict')); return [backgroundImage === 'none', borderTopStyle, borderTopColor]; };
     const doubtful = await run(LOOKS);
     for (let n = 0; n < 3; n++) await person.press('tbody.cylinder:nth-of-type(2) .out');
     // 5729194.42 Pa is the vapour pressure at 20 °C (crosscheck/saturation.py): both ends are inside
@@ -257,11 +274,13 @@ async function warnings(person, check) {
     await person.line(1, '1', '40', '106', 'bar', '67.5');
     const plain = await run(LOOKS);
     check.is('a plain COVERED', [(await look()).is, (await look()).but], ['covered', '']);
-    check.ok('COVERED with a gauge that can’t tell looks otherwise, without its colour too', doubtful[0] !== plain[0] && doubtful[1] !== plain[1] && doubtful[2] !== plain[2]);
+    check.ok('COVERED with a gauge that can’t tell looks otherwise, without its colour too',
+        doubtful[0] !== plain[0] && doubtful[1] !== plain[1] && doubtful[2] !== plain[2]);
     await person.line(1, null, '25', '750', 'density', '40');
     check.is('750 kg/m³ is not above it', (await look()).rows[0].told, []);
     await person.field(1, 'reading', '750.001');
-    check.is('a density above', (await look()).rows[0].told.slice(1), ['⚠ 750.0 kg/m3 is more than a cylinder is filled with (750 kg/m3). Check its volume and its reading.']);
+    check.is('a density above', (await look()).rows[0].told.slice(1),
+        ['⚠ 750.0 kg/m3 is more than a cylinder is filled with (750 kg/m3). Check its volume and its reading.']);
     await person.line(1, null, '', '30', 'weighed', '40');
     check.is('weighed, 750 kg/m³', (await look()).rows[0].told, []);
     await person.field(1, 'reading', '30.001');
@@ -271,39 +290,53 @@ async function warnings(person, check) {
     check.is('and it is counted', [seen.is, seen.but], ['doubt', 'but 1 line is above 750 kg/m³ (line 1)']);
     await person.need('300');
     await person.line(1, '1', '20', '57.3', 'bar', '67.5');
-    check.is('beside SHORT too', [(await look()).word, (await look()).but], ['SHORT', 'but 1 gauge can’t tell (line 1), and 1 line is above 750 kg/m³ (line 1)']);
+    check.is('beside SHORT too', [(await look()).word, (await look()).but],
+        ['SHORT', 'but 1 gauge can’t tell (line 1), and 1 line is above 750 kg/m³ (line 1)']);
     await person.press('#add');
-    check.is('beside SENT BACK too', [(await look()).word, (await look()).but], ['SENT BACK 13', 'and 1 gauge can’t tell (line 1), and 1 line is above 750 kg/m³ (line 1)']);
+    check.is('beside SENT BACK too', [(await look()).word, (await look()).but],
+        ['SENT BACK 13', 'and 1 gauge can’t tell (line 1), and 1 line is above 750 kg/m³ (line 1)']);
 }
 
 async function pictures(person, check) {
     await person.fresh();
     const { run } = person;
     await person.need('120');
-    await person.lines(['7', '20', '57.3', 'bar', '67.5'], ['8', '', '45', 'weighed', '67.5'], ['9', '41.5', '667', 'density', '67.5'], ['10', '25', '500', 'density', '40'], ['11', '', '', '', '']);
-    const bank = await run(`() => ({ shapes: [...document.querySelectorAll('#fill svg')].map(svg => svg.getAttribute('class')), text: document.getElementById('fill').getAttribute('aria-label'),
-        role: document.getElementById('fill').getAttribute('role'), crossed: document.querySelectorAll('#fill .cross').length, hatched: document.querySelectorAll('#fill [fill^=url]').length,
-        levels: [...document.querySelectorAll('#fill .fill')].map(rect => rect.getBBox().height), tops: [...document.querySelectorAll('#fill .kg')].map(text => text.textContent) })`);
+    await person.lines(['7', '20', '57.3', 'bar', '67.5'], ['8', '', '45', 'weighed', '67.5'], ['9', '41.5', '667', 'density', '67.5'],
+        ['10', '25', '500', 'density', '40'], ['11', '', '', '', '']);
+    const bank = await run(() => ({ shapes: [...document.querySelectorAll('#fill svg')].map(svg => svg.getAttribute('class')),
+        text: document.getElementById('fill').getAttribute('aria-label'),
+        role: document.getElementById('fill').getAttribute('role'), crossed: document.querySelectorAll('#fill .cross').length,
+            hatched: document.querySelectorAll('#fill [fill^=url]').length,
+        levels: [...document.querySelectorAll('#fill .fill')].map(rect => rect.getBBox().height),
+            tops: [...document.querySelectorAll('#fill .kg')].map(text => text.textContent) }));
     check.is('the bank: its cylinders', bank.shapes, ['cylinder answered', 'cylinder answered', 'cylinder answered', 'cylinder refused', 'cylinder refused']);
     check.is('the bank: what stands above each', bank.tops, ['52.205 kg', '45.000 kg', '45.022 kg', 'refused 8', 'refused 1']);
     check.is('the bank: refused ones are crossed', bank.crossed, 2);
     check.is('the bank: what can’t be told is hatched', bank.hatched, 2);
     const levels = [773.4, 45 / 67.5 * 1000, 667].map(density => density / 1000 * 112);
     check.ok('the bank: levels by kg over litres', bank.levels.length === 3 && bank.levels.every((level, i) => Math.abs(level - levels[i]) < 0.2));
-    check.is('the bank: in words', [bank.role, bank.text], ['img', "The cylinders by fill. line 1, cylinder 7: 52.205 kg, 103 % of 750 kg/m³, liquid, but the gauge can't tell, more than a cylinder is "
-        + 'filled with; line 2, cylinder 8: 45.000 kg, 89 % of 750 kg/m³, weighed; line 3, cylinder 9: 45.022 kg, 89 % of 750 kg/m³, supercritical; line 4, cylinder 10: refused by 8; '
+    check.is('the bank: in words', [bank.role, bank.text],
+        ['img', "The cylinders by fill. line 1, cylinder 7: 52.205 kg, 103 % of 750 kg/m³, liquid, but the gauge can't tell, more than a cylinder is "
+        + 'filled with; line 2, cylinder 8: 45.000 kg, 89 % of 750 kg/m³, weighed; line 3, cylinder 9: 45.022 kg, 89 % of 750 kg/m³, supercritical; '
+            + 'line 4, cylinder 10: refused by 8; '
         + 'line 5, cylinder 11: refused by 1.']);
-    const map = await run(`() => ({ names: [...document.querySelectorAll('#map .name')].map(text => text.textContent), off: document.getElementById('off-map').textContent,
-        dots: [...document.querySelectorAll('#map .dot')].map(dot => dot.getAttribute('class')), text: document.getElementById('map').getAttribute('aria-label'),
-        axes: [...document.querySelectorAll('#map .axis')].map(text => text.textContent), role: document.getElementById('map').getAttribute('role') })`);
+    const map = await run(() => ({ names: [...document.querySelectorAll('#map .name')].map(text => text.textContent),
+        off: document.getElementById('off-map').textContent,
+        dots: [...document.querySelectorAll('#map .dot')].map(dot => dot.getAttribute('class')),
+            text: document.getElementById('map').getAttribute('aria-label'),
+        axes: [...document.querySelectorAll('#map .axis')].map(text => text.textContent), role: document.getElementById('map').getAttribute('role') }));
     check.is('the map: its dots', [map.names, map.dots], [['1', '3'], ['dot doubt', 'dot']]);
     check.is('the map: what is not on it', map.off, 'Weighed, and so not on the map: line 2. No temperature with a pressure yet: lines 4, 5.');
     check.is('the map: its axes', map.axes, ['temperature, °C', 'pressure, bar absolute']);
-    check.ok('the map: in words', map.role === 'img' && /saturation line, the melting line and the critical box\. line 1 at 20\.0 °C and 57\.3 bar, answered, but the gauge can't tell, .*; line 3 at 41\.5 °C/.test(map.text));
+    check.ok('the map: in words', map.role === 'img'
+        && /saturation line, the melting line and the critical box\. line 1 at 20\.0 °C and 57\.3 bar, answered, but the gauge can't tell, /.test(map.text)
+        && map.text.includes('; line 3 at 41.5 °C'));
     await person.need('');
-    check.is('without a verdict they are hollow', await run("() => [...document.querySelectorAll('#fill svg')].every(svg => svg.getAttribute('class') === 'cylinder unknown')"), true);
+    check.is('without a verdict they are hollow',
+        await run(() => [...document.querySelectorAll('#fill svg')].every(svg => svg.getAttribute('class') === 'cylinder unknown')), true);
     await person.need('x');
-    check.is('without a sheet too', await run("() => [document.querySelectorAll('#fill svg.unknown').length, document.querySelectorAll('#fill .fill').length]"), [5, 0]);
+    check.is('without a sheet too', await run(() => [document.querySelectorAll('#fill svg.unknown').length, document.querySelectorAll('#fill .fill').length]),
+        [5, 0]);
 }
 
 async function papers(person, check) {
@@ -313,33 +346,37 @@ async function papers(person, check) {
     await person.lines(...README_LINES);
     for (const [name, text] of [['sheet', README_SHEET], ['report', README_RUN.report]]) {
         await person.press(`[data-paper=${name}] [data-do=copy]`);
-        await until(() => run(`name => document.querySelector('[data-paper=' + name + '] .done').textContent !== ''`, name), 'the copy');
-        check.is(`${name}: it is said that it is copied`, await run(`name => document.querySelector('[data-paper=' + name + '] .done').textContent`, name), 'Copied.');
-        check.is(`${name}: copied`, await run('() => navigator.clipboard.readText()'), text);
+        await until(() => run(name => document.querySelector('[data-paper=' + name + '] .done').textContent !== '', name), 'the copy');
+        check.is(`${name}: it is said that it is copied`, await run(name => document.querySelector('[data-paper=' + name + '] .done').textContent, name),
+            'Copied.');
+        check.is(`${name}: copied`, await run(() => navigator.clipboard.readText()), text);
         const file = path.join(person.folder, `${name}.txt`);
         fs.rmSync(file, { force: true });
         await person.press(`[data-paper=${name}] [data-do=save]`);
         await until(() => fs.existsSync(file) && fs.statSync(file).size > 0, `${file}`);
         check.is(`${name}: saved`, fs.readFileSync(file, 'latin1'), text);
-        await run("() => { window.print = () => { window.printed = document.body.dataset.print; }; }");
+        await run(() => { window.print = () => { window.printed = document.body.dataset.print; }; });
         await person.press(`[data-paper=${name}] [data-do=print]`);
-        check.is(`${name}: printed alone`, await run('() => [window.printed, document.body.dataset.print === undefined]'), [name, true]);
+        check.is(`${name}: printed alone`, await run(() => [window.printed, document.body.dataset.print === undefined]), [name, true]);
     }
     await browser.paper(true);
-    const PAPER = `() => { const seen = selector => [...document.querySelectorAll(selector)].some(node => node.checkVisibility()), ink = getComputedStyle(document.body);
-        return [seen('button'), seen('#tab-bank'), seen('#need'), seen('#verdict'), seen('#sheet'), seen('#report'), seen('#fill'), seen('#cylinders input'), seen('footer'), ink.color, ink.backgroundColor]; }`;
+    const PAPER = () => { const seen = selector => [...document.querySelectorAll(selector)].some(node => node.checkVisibility()),
+        ink = getComputedStyle(document.body);
+        return [seen('button'), seen('#tab-bank'), seen('#need'), seen('#verdict'), seen('#sheet'), seen('#report'), seen('#fill'), seen('#cylinders input'),
+            seen('footer'), ink.color, ink.backgroundColor]; };
     const black = 'rgb(0, 0, 0)', white = 'rgb(255, 255, 255)';
     check.is('on paper: no buttons, all else, black on white', await run(PAPER), [false, false, true, true, true, true, true, true, true, black, white]);
     await browser.scheme('dark');
     await browser.paper(true);
     check.is('on paper in the dark too', (await run(PAPER)).slice(-2), [black, white]);
-    await run("() => { document.body.dataset.print = 'sheet'; }");
+    await run(() => { document.body.dataset.print = 'sheet'; });
     check.is('on paper, the sheet alone', await run(PAPER), [false, false, false, false, true, false, false, false, false, black, white]);
-    await run('() => { delete document.body.dataset.print; }');
+    await run(() => { delete document.body.dataset.print; });
     await browser.scheme('light');
     await browser.paper(false);
     await browser.pdf(path.join(person.shots, `${browser.name}-print.pdf`));
-    check.ok('a PDF is made', fs.readFileSync(path.join(person.shots, `${browser.name}-print.pdf`), 'latin1').startsWith('%PDF-') && fs.statSync(path.join(person.shots, `${browser.name}-print.pdf`)).size > 10000);
+    check.ok('a PDF is made', fs.readFileSync(path.join(person.shots, `${browser.name}-print.pdf`), 'latin1').startsWith('%PDF-')
+        && fs.statSync(path.join(person.shots, `${browser.name}-print.pdf`)).size > 10000);
 }
 
 async function files(person, check) {
@@ -350,12 +387,13 @@ async function files(person, check) {
     const told = async (text, name = 'a.txt') => {
         const file = path.join(person.folder, name);
         fs.writeFileSync(file, text, 'latin1');
-        await run("() => { document.getElementById('file-report').textContent = ''; }");
+        await run(() => { document.getElementById('file-report').textContent = ''; });
         await browser.file('#file', file);
-        await until(() => run("() => document.getElementById('file-report').textContent !== ''"), 'the report of a file');
-        return run("() => ['file-name', 'file-word', 'file-report', 'file-explanation', 'file-words'].map(id => document.getElementById(id).textContent)");
+        await until(() => run(() => document.getElementById('file-report').textContent !== ''), 'the report of a file');
+        return run(() => ['file-name', 'file-word', 'file-report', 'file-explanation', 'file-words'].map(id => document.getElementById(id).textContent));
     };
-    for (const name of ['sheet_of_the_readme_explained', 'gauge_can_tell_nothing_explained', 'copied_line_explained', 'weighed_in_part_explained', 'winter_explained', 'cr_lf_explained', 'no_last_lf_explained']) {
+    for (const name of ['sheet_of_the_readme_explained', 'gauge_can_tell_nothing_explained', 'copied_line_explained', 'weighed_in_part_explained',
+        'winter_explained', 'cr_lf_explained', 'no_last_lf_explained']) {
         const known = runOf(name), [, word, report, explanation] = await told(known.sheet);
         check.is(`${name}: the report`, report, known.report);
         check.is(`${name}: the explanation`, explanation, known.told.map(line => `${line}\n`).join(''));
@@ -368,61 +406,68 @@ async function files(person, check) {
     [name, word, report] = await told(`${long}${long}`);
     check.is('twice as long', [name, report], ['a.txt, 131074 bytes', 'SENT BACK 14\n']);
     [name, word, report, explanation] = await told(README_SHEET.replace('120000000', '12.5'));
-    check.is('a slip in the file', [word, lastOf(explanation)], ['↩ SENT BACK 14', 'Line 1, column 5: a digit or LF is expected, and there is \'.\'. Every number is whole: scorer --help shows the units.']);
+    check.is('a slip in the file', [word, lastOf(explanation)],
+        ['↩ SENT BACK 14', 'Line 1, column 5: a digit or LF is expected, and there is \'.\'. Every number is whole: scorer --help shows the units.']);
     [name, word, report] = await told(README_SHEET);
     check.is('the same file, mended', [word, report], ['✓ COVERED', README_RUN.report]);
     let words;
     [name, word, report, explanation, words] = await told(runOf('gauge_can_tell_nothing_explained').sheet);
-    check.is('a file with gauges that can’t tell', [word, words], ['⚠ COVERED', 'But 4 gauges can’t tell (lines 1–4), and 4 lines are above 750 kg/m³ (lines 1–4). Held 208.823 kg, needed 180.000 kg: 28.823 kg to spare.']);
+    check.is('a file with gauges that can’t tell', [word, words],
+        ['⚠ COVERED', 'But 4 gauges can’t tell (lines 1–4), and 4 lines are above 750 kg/m³ (lines 1–4). '
+            + 'Held 208.823 kg, needed 180.000 kg: 28.823 kg to spare.']);
     check.is('the form is as it was', await look(), before);
 }
 
 async function kept(person, check) {
     await person.fresh();
     const { run, look, browser } = person;
-    const size = () => run('() => localStorage.length');
+    const size = () => run(() => localStorage.length);
     await person.need('120');
     await person.lines(README_LINES[0]);
     check.is('typed, and nothing stored', await run(STORED), '0 0 0 0');
     await person.fresh();
-    check.is('and nothing is there after opening it anew', (await look()).rows[0].values.concat((await look()).sheet), ['', '', '', '', '', 'N -\nC - - P - -\n']);
-    check.is('not ticked', await run("() => document.getElementById('keep').checked"), false);
+    check.is('and nothing is there after opening it anew', (await look()).rows[0].values.concat((await look()).sheet),
+        ['', '', '', '', '', 'N -\nC - - P - -\n']);
+    check.is('not ticked', await run(() => document.getElementById('keep').checked), false);
     await person.need('120');
     await person.focus('#keep');
     await browser.press('Space');
     check.is('ticked: stored', await size(), 1);
-    check.has('ticked: it is said', await run("() => document.getElementById('keep-says').textContent"), 'Kept in this browser');
+    check.has('ticked: it is said', await run(() => document.getElementById('keep-says').textContent), 'Kept in this browser');
     await person.lines(README_LINES[0]);
     await person.fresh();
-    check.is('kept', [(await look()).rows[0].values, (await look()).sheet.split('\n')[0], await run("() => document.getElementById('keep').checked")], [['1', '40.0', '106', 'bar', '67.5'], 'N 120000000', true]);
+    check.is('kept', [(await look()).rows[0].values, (await look()).sheet.split('\n')[0], await run(() => document.getElementById('keep').checked)],
+        [['1', '40.0', '106', 'bar', '67.5'], 'N 120000000', true]);
     await person.focus('#keep');
     await browser.press('Space');
     check.is('unticked: erased', await size(), 0);
     await person.need('121');
     check.is('and it stays so', await size(), 0);
     await person.fresh();
-    check.is('and is gone', [(await look()).sheet, await run("() => document.getElementById('keep').checked")], ['N -\nC - - P - -\n', false]);
+    check.is('and is gone', [(await look()).sheet, await run(() => document.getElementById('keep').checked)], ['N -\nC - - P - -\n', false]);
 }
 
 async function rowsOfIt(person, check) {
     await person.fresh();
     const { look, run, browser } = person;
-    const active = () => run('() => document.activeElement.id || document.activeElement.className');
+    const active = () => run(() => document.activeElement.id || document.activeElement.className);
     await person.line(1, '1', '40', '106', 'bar', '67.5');
     await browser.press('Enter');
     check.is('Enter in the last field: a new line, and its number next', [(await look()).rows.length, (await active()).endsWith('-number')], [2, true]);
     check.is('nothing is filled in', (await look()).rows[1].values, ['', '', '', '', '']);
-    check.ok('the litres above are offered', await run("() => document.querySelectorAll('.above')[1].checkVisibility() && !document.querySelectorAll('.above')[0].checkVisibility()"));
+    check.ok('the litres above are offered',
+        await run(() => document.querySelectorAll('.above')[1].checkVisibility() && !document.querySelectorAll('.above')[0].checkVisibility()));
     await person.press('tbody.cylinder:nth-of-type(2) .above');
     check.is('the litres above, when asked', (await look()).rows[1].values, ['', '', '', '', '67.5']);
-    check.ok('and no more offered', await run("() => !document.querySelectorAll('.above')[1].checkVisibility()"));
+    check.ok('and no more offered', await run(() => !document.querySelectorAll('.above')[1].checkVisibility()));
     await person.press('tbody.cylinder:nth-of-type(1) .out');
-    check.is('a line taken out', [(await look()).rows.length, (await look()).rows[0].values[4], await run("() => document.querySelector('tbody.cylinder .line').textContent")], [1, '67.5', 'Line 1']);
+    check.is('a line taken out', [(await look()).rows.length, (await look()).rows[0].values[4],
+        await run(() => document.querySelector('tbody.cylinder .line').textContent)], [1, '67.5', 'Line 1']);
     check.ok('the next is at hand', (await active()).endsWith('-number'));
     await person.write(person.at(1, 'celsius'), '5');
-    await run("() => document.querySelector('.turn').click()");
+    await run(() => document.querySelector('.turn').click());
     check.is('± puts a minus in front', (await look()).sheet.split('\n')[1].split(' ')[2], '2681500');
-    await run("() => document.querySelector('.turn').click()");
+    await run(() => document.querySelector('.turn').click());
     check.is('and takes it away', (await look()).sheet.split('\n')[1].split(' ')[2], '2781500');
     await person.press('#clear');
     check.is('to clear is asked once', (await look()).rows[0].values[4], '67.5');
@@ -435,40 +480,52 @@ async function rowsOfIt(person, check) {
     const order = [];
     for (let n = 0; n < 22; n++) {
         await browser.tab();
-        order.push(await run(`() => { const at = document.activeElement, paper = at.closest('[data-paper]');
-            return at.id.replace(/^r\\d+-/, '') || (at.dataset.do ? paper.dataset.paper + ' ' + at.dataset.do : at.className || at.tagName.toLowerCase()); }`));
+        order.push(await run(() => { const at = document.activeElement, paper = at.closest('[data-paper]');
+            return at.id.replace(/^r\d+-/, '') || (at.dataset.do ? paper.dataset.paper + ' ' + at.dataset.do : at.className || at.tagName.toLowerCase()); }));
     }
-    check.is('the order of Tab', order, ['need', 'number', 'celsius', 'reading', 'kind', 'litres', 'out', 'add', 'print-all', 'clear', 'keep', 'summary', 'sheet', 'sheet copy', 'sheet save',
+    check.is('the order of Tab', order, ['need', 'number', 'celsius', 'reading', 'kind', 'litres', 'out', 'add', 'print-all', 'clear', 'keep', 'summary',
+        'sheet', 'sheet copy', 'sheet save',
         'sheet print', 'report', 'report copy', 'report save', 'report print', 'summary', 'file']);
     await person.focus('#need');
     await browser.tab();
-    const ring = await run('() => { const { outlineStyle, outlineWidth } = getComputedStyle(document.activeElement); return [outlineStyle, parseFloat(outlineWidth) >= 2]; }');
+    const ring = await run(() => { const { outlineStyle, outlineWidth } = getComputedStyle(document.activeElement); return [outlineStyle,
+        parseFloat(outlineWidth) >= 2]; });
     check.is('the focus is seen', ring, ['solid', true]);
 }
 
 const FIGURES = ['temperature', 'pressure', 'density', 'energy', 'enthalpy', 'cv', 'cp', 'sound', 'fallen', 'conductivity'];
 // crosscheck/doors.py and crosscheck/saturation.py
 const STATES = [
-    ['40', 1, '100', 1, 'supercritical', '313.15 9999999.999998312 628.6115619691137 -209645.71499766415 -193737.63979670298 1029.1449182858912 5657.461544994221 269.8904143957669 0 0.07364741627787458', true],
-    ['220', 2, '10', 2, 'liquid', '220 9999999.999958968 1185.6331781025817 -425771.12971451576 -417336.81783403823 980.6079822843375 1903.8566121372955 1003.1488475466792 16 0.18058269470436242', false],
-    ['-20', 1, '2500000', 3, 'liquid', '253.15 2499999.999970936 1034.08653913196 -354847.17139183165 -352429.57875778625 934.6810522400227 2151.180907521025 713.2079238716198 5 0.13375899330170526', false],
-    ['300', 2, '128.4', 4, 'vapour', '300 5000041.592016222 128.4 -99772.20393209446 -60831.07003788712 852.582275508323 1802.5510938333791 223.2487520074233 0 0.02353634366010718', true],
+    ['40', 1, '100', 1, 'supercritical', '313.15 9999999.999998312 628.6115619691137 -209645.71499766415 -193737.63979670298 1029.1449182858912 '
+        + '5657.461544994221 269.8904143957669 0 0.07364741627787458', true],
+    ['220', 2, '10', 2, 'liquid', '220 9999999.999958968 1185.6331781025817 -425771.12971451576 -417336.81783403823 980.6079822843375 '
+        + '1903.8566121372955 1003.1488475466792 16 0.18058269470436242', false],
+    ['-20', 1, '2500000', 3, 'liquid', '253.15 2499999.999970936 1034.08653913196 -354847.17139183165 -352429.57875778625 934.6810522400227 '
+        + '2151.180907521025 713.2079238716198 5 0.13375899330170526', false],
+    ['300', 2, '128.4', 4, 'vapour', '300 5000041.592016222 128.4 -99772.20393209446 -60831.07003788712 852.582275508323 '
+        + '1802.5510938333791 223.2487520074233 0 0.02353634366010718', true],
 ];
 async function states(person, check) {
     await person.fresh();
     const { run, browser } = person;
     await person.focus('#tab-bank');
     await browser.press('ArrowRight');
-    check.is('by an arrow to the second view', await run("() => [document.activeElement.id, document.getElementById('state').checkVisibility(), document.getElementById('bank').checkVisibility()]"), ['tab-state', true, false]);
-    const seen = () => run(`() => ({ word: document.getElementById('phase').textContent, words: document.getElementById('state-words').textContent,
-        figures: [...document.querySelectorAll('#figures tr')].map(row => [row.dataset.figure, row.children[1].textContent]), units: [...document.querySelectorAll('#figures tr')].map(row => row.children[2].textContent),
-        saturated: [...document.querySelectorAll('#saturated tr')].map(row => row.children[1].textContent), none: document.getElementById('saturation-says').textContent,
+    check.is('by an arrow to the second view',
+        await run(() => [document.activeElement.id, document.getElementById('state').checkVisibility(), document.getElementById('bank').checkVisibility()]),
+        ['tab-state', true, false]);
+    const seen = () => run(() => ({ word: document.getElementById('phase').textContent, words: document.getElementById('state-words').textContent,
+        figures: [...document.querySelectorAll('#figures tr')].map(row => [row.dataset.figure, row.children[1].textContent]),
+            units: [...document.querySelectorAll('#figures tr')].map(row => row.children[2].textContent),
+        saturated: [...document.querySelectorAll('#saturated tr')].map(row => row.children[1].textContent),
+            none: document.getElementById('saturation-says').textContent,
         caveat: document.getElementById('caveat').textContent, said: ['temperature-says', 'other-says'].map(id => document.getElementById(id).textContent),
-        marked: ['temperature', 'temperature-unit', 'other', 'other-unit'].filter(id => document.getElementById(id).getAttribute('aria-invalid') === 'true') })`);
+        marked: ['temperature', 'temperature-unit', 'other',
+            'other-unit'].filter(id => document.getElementById(id).getAttribute('aria-invalid') === 'true') }));
     const nothing = Array(10).fill('–');
     let now = await seen();
     check.is('nothing for blanks', [now.word, now.figures.map(([, value]) => value), now.saturated], ['NO STATE YET', nothing, ['–', '–', '–']]);
-    check.is('the figures and their units', [now.figures.map(([name]) => name), now.units], [FIGURES, ['K', 'Pa', 'kg/m³', 'J/kg', 'J/kg', 'J/(kg K)', 'J/(kg K)', 'm/s', 'of 42', 'W/(m K)']]);
+    check.is('the figures and their units', [now.figures.map(([name]) => name), now.units],
+        [FIGURES, ['K', 'Pa', 'kg/m³', 'J/kg', 'J/kg', 'J/(kg K)', 'J/(kg K)', 'm/s', 'of 42', 'W/(m K)']]);
     await person.write('#temperature', '40');
     now = await seen();
     check.is('no unit is guessed', [now.word, now.marked, now.said[0]], ['NO STATE YET', ['temperature-unit'], 'Say in what: °C or K.']);
@@ -482,7 +539,8 @@ async function states(person, check) {
     for (const [t, unit, x, other, phase, figures, warned] of STATES) {
         now = await ask(t, unit, x, other);
         check.is(`${t} and ${x}: the state`, [now.word, now.figures.map(([, value]) => value).join(' ')], [phase, figures]);
-        check.is(`${t} and ${x}: whether the conductivity is vouched for`, now.caveat.startsWith('The conductivity is not vouched for here. From 21 to 41 °C'), warned);
+        check.is(`${t} and ${x}: whether the conductivity is vouched for`, now.caveat.startsWith('The conductivity is not vouched for here. From 21 to 41 °C'),
+            warned);
         check.has(`${t} and ${x}: its margin`, now.caveat, '1 % for liquid from −49 to 26 °C, and at 3 % for vapour');
     }
     for (const [x, other] of [['25', 1], ['2.5', 2], ['2500000', 3], ['2500000.0', 3]]) {
@@ -492,7 +550,8 @@ async function states(person, check) {
     check.is('saturation at 20 °C', now.saturated, ['5729194.424293311', '194.20420359600897', '773.3921890872848']);
     now = await ask('40', 1, '100', 1);
     check.is('none at 40 °C', [now.saturated, now.none], [['–', '–', '–'], `None: ${REFUSALS[4].says}.`]);
-    for (const [t, x, other, number, marked] of [['300', '100', 1, 4, ['temperature']], ['20', '301', 1, 5, ['other']], ['31', '75', 1, 6, ['temperature', 'other']], ['25', '500', 4, 8, ['temperature', 'other']],
+    for (const [t, x, other, number, marked] of [['300', '100', 1, 4, ['temperature']], ['20', '301', 1, 5, ['other']],
+        ['31', '75', 1, 6, ['temperature', 'other']], ['25', '500', 4, 8, ['temperature', 'other']],
         ['-56.15', '50', 1, 19, ['temperature', 'other']]]) {
         now = await ask(t, 1, x, other);
         check.is(`a state refused by ${number}`, [now.word, now.figures.map(([, value]) => value), now.marked], [`refused by ${number}`, nothing, marked]);
@@ -510,7 +569,8 @@ async function states(person, check) {
     check.has('how thousands are read', now.said[1], 'Read as 1.2.');
     await person.focus('#tab-state');
     await browser.press('ArrowLeft');
-    check.is('and back by an arrow', await run("() => [document.getElementById('state').checkVisibility(), document.getElementById('bank').checkVisibility()]"), [false, true]);
+    check.is('and back by an arrow', await run(() => [document.getElementById('state').checkVisibility(), document.getElementById('bank').checkVisibility()]),
+        [false, true]);
 }
 
 async function narrow(person, check) {
@@ -518,22 +578,30 @@ async function narrow(person, check) {
     await browser.size(360, 740, true);
     await person.fresh();
     await person.need('180');
-    await person.lines(['7', '20', '57.3', 'bar', '67.5'], ['8', '31', '75', 'bar', '67.5'], ['9', '', '45', 'weighed', '67.5'], ['10', '-56,15', '50', 'bar', '40'], ['11', '', '', '', '']);
-    const wide = () => run('() => [document.documentElement.scrollWidth <= document.documentElement.clientWidth, document.body.scrollWidth <= document.documentElement.clientWidth]');
+    await person.lines(['7', '20', '57.3', 'bar', '67.5'], ['8', '31', '75', 'bar', '67.5'], ['9', '', '45', 'weighed', '67.5'],
+        ['10', '-56,15', '50', 'bar', '40'], ['11', '', '', '', '']);
+    const wide = () => run(() => [document.documentElement.scrollWidth <= document.documentElement.clientWidth,
+        document.body.scrollWidth <= document.documentElement.clientWidth]);
     check.is('360 px: no sideways scrolling', await wide(), [true, true]);
     await person.field(4, 'celsius', '-56.15');
-    await run("() => document.querySelectorAll('details').forEach(details => { details.open = true; })");
+    await run(() => document.querySelectorAll('details').forEach(details => { details.open = true; }));
     check.is('360 px, all opened: no sideways scrolling', await wide(), [true, true]);
     await person.focus(person.at(3, 'reading'));
-    const inSight = await run("() => { const { top, bottom, height } = document.getElementById('verdict').getBoundingClientRect(); return [top >= -1 && bottom <= innerHeight, height <= innerHeight / 4]; }");
+    const inSight = await run(() => { const { top, bottom,
+        height } = document.getElementById('verdict').getBoundingClientRect(); return [top >= -1 && bottom <= innerHeight, height <= innerHeight / 4]; });
     check.is('360 px: the verdict stays in sight while one types, and leaves room', inSight, [true, true]);
-    check.is('360 px: each cylinder is a group by its line', await run("() => [...document.querySelectorAll('tbody.cylinder')].map(body => [body.getAttribute('role'), document.getElementById(body.getAttribute('aria-labelledby')).textContent].join(' '))"),
+    check.is('360 px: each cylinder is a group by its line',
+        await run(() => [...document.querySelectorAll('tbody.cylinder')].map(body => [body.getAttribute('role'),
+        document.getElementById(body.getAttribute('aria-labelledby')).textContent].join(' '))),
         [1, 2, 3, 4, 5].map(n => `group Line ${n}`));
-    check.is('360 px: labels are seen', await run("() => [...document.querySelectorAll('#cylinders label')].every(label => label.getBoundingClientRect().height > 10)"), true);
-    const small = () => run(`() => [...document.querySelectorAll('button, input, select, summary, .keep')].filter(node => node.checkVisibility() && node.id !== 'keep')
-        .filter(node => { const { width, height } = node.getBoundingClientRect(); return width < 43.9 || height < 43.9; }).map(node => node.id || node.className)`);
+    check.is('360 px: labels are seen', await run(() =>
+        [...document.querySelectorAll('#cylinders label')].every(label => label.getBoundingClientRect().height > 10)), true);
+    const small = () => run(() => [...document.querySelectorAll('button, input, select, summary, .keep')].filter(node => node.checkVisibility()
+        && node.id !== 'keep')
+        .filter(node => { const { width, height } = node.getBoundingClientRect(); return width < 43.9 || height < 43.9; }).map(node => node.id
+            || node.className));
     check.is('360 px: what is touched has 44 px', await small(), []);
-    await run("() => document.getElementById('tab-state').click()");
+    await run(() => document.getElementById('tab-state').click());
     await person.write('#temperature', '40');
     await person.choose('#temperature-unit', 1);
     await person.write('#other', '100');
@@ -544,7 +612,9 @@ async function narrow(person, check) {
     check.is('320 px: no sideways scrolling', await wide(), [true, true]);
     await browser.size(1200, 900);
     await person.fresh();
-    check.is('1200 px: a table', await run("() => [document.getElementById('cylinders').getAttribute('role'), document.querySelector('tbody.cylinder').getAttribute('role'), document.querySelectorAll('#cylinders thead th[scope=col]').length, document.querySelectorAll('#cylinders th[scope=row]').length]"), [null, null, 8, 1]);
+    check.is('1200 px: a table', await run(() => [document.getElementById('cylinders').getAttribute('role'),
+        document.querySelector('tbody.cylinder').getAttribute('role'), document.querySelectorAll('#cylinders thead th[scope=col]').length,
+        document.querySelectorAll('#cylinders th[scope=row]').length]), [null, null, 8, 1]);
     check.is('1200 px: no sideways scrolling', await wide(), [true, true]);
 }
 
@@ -552,29 +622,39 @@ async function named(person, check) {
     await person.fresh();
     const { run } = person;
     await person.press('#add');
-    const NAMELESS = `() => [...document.querySelectorAll('input, select, button, [role=img], [role=region], table, section')].filter(node => {
-        const by = (node.getAttribute('aria-labelledby') || '').split(' ').filter(Boolean).map(id => document.getElementById(id) ? document.getElementById(id).textContent : '').join('');
-        const words = node.getAttribute('aria-label') || by || [...(node.labels || [])].map(label => label.textContent).join('') || (node.caption ? node.caption.textContent : '')
+    const NAMELESS = () => [...document.querySelectorAll('input, select, button, [role=img], [role=region], table, section')].filter(node => {
+        const by = (node.getAttribute('aria-labelledby') || '').split(' ').filter(Boolean).map(id => document.getElementById(id)
+            ? document.getElementById(id).textContent : '').join('');
+        const words = node.getAttribute('aria-label') || by || [...(node.labels || [])].map(label => label.textContent).join('')
+            || (node.caption ? node.caption.textContent : '')
             || (node.tagName === 'BUTTON' ? node.textContent : '');
         return words.trim() === '' || words.trim() === '×';
-    }).map(node => node.outerHTML.slice(0, 80))`;
+    }).map(node => node.outerHTML.slice(0, 80));
     check.is('everything has a name', await run(NAMELESS), []);
-    check.is('each field has a label', await run("() => [...document.querySelectorAll('#form input, #form select')].filter(field => field.labels.length !== 1).length"), 0);
-    check.is('labels say their line', await run("() => [...document.querySelectorAll('tbody.cylinder:nth-of-type(2) label')].map(label => label.textContent)"), ['line 2, number', 'line 2, °C', 'line 2, reading', 'line 2, of what', 'line 2, litres']);
-    check.is('no id twice', await run("() => { const ids = [...document.querySelectorAll('[id]')].map(node => node.id); return ids.length - new Set(ids).size; }"), 0);
-    check.is('what is referred to is there', await run(`() => [...document.querySelectorAll('[aria-describedby], [aria-labelledby], [aria-controls], label[for]')].flatMap(node =>
-        ['aria-describedby', 'aria-labelledby', 'aria-controls', 'for'].flatMap(name => (node.getAttribute(name) || '').split(' ')).filter(Boolean)).filter(id => !document.getElementById(id))`), []);
-    check.is('no field takes numbers alone', await run("() => [...document.querySelectorAll('input')].filter(input => input.type === 'number').length"), 0);
-    check.is('decimal keys', await run("() => [...document.querySelectorAll('#need, .celsius input, .reading input, .litres input, #temperature, #other')].every(input => input.inputMode === 'decimal' && input.type === 'text')"), true);
-    check.is('the verdict is spoken politely, in one place', await run("() => [...document.querySelectorAll('#bank [aria-live]')].map(node => node.id + ' ' + node.getAttribute('aria-live'))"), ['spoken polite']);
-    check.is('its language', await run('() => document.documentElement.lang'), 'en');
+    check.is('each field has a label', await run(() =>
+        [...document.querySelectorAll('#form input, #form select')].filter(field => field.labels.length !== 1).length), 0);
+    check.is('labels say their line', await run(() => [...document.querySelectorAll('tbody.cylinder:nth-of-type(2) label')].map(label => label.textContent)),
+        ['line 2, number', 'line 2, °C', 'line 2, reading', 'line 2, of what', 'line 2, litres']);
+    check.is('no id twice', await run(() => { const ids = [...document.querySelectorAll('[id]')].map(node =>
+        node.id); return ids.length - new Set(ids).size; }), 0);
+    check.is('what is referred to is there',
+        await run(() => [...document.querySelectorAll('[aria-describedby], [aria-labelledby], [aria-controls], label[for]')].flatMap(node =>
+        ['aria-describedby', 'aria-labelledby', 'aria-controls',
+            'for'].flatMap(name => (node.getAttribute(name) || '').split(' ')).filter(Boolean)).filter(id => !document.getElementById(id))), []);
+    check.is('no field takes numbers alone', await run(() => [...document.querySelectorAll('input')].filter(input => input.type === 'number').length), 0);
+    check.is('decimal keys', await run(() =>
+        [...document.querySelectorAll('#need, .celsius input, .reading input, .litres input, #temperature, #other')].every(input =>
+        input.inputMode === 'decimal' && input.type === 'text')), true);
+    check.is('the verdict is spoken politely, in one place',
+        await run(() => [...document.querySelectorAll('#bank [aria-live]')].map(node => node.id + ' ' + node.getAttribute('aria-live'))), ['spoken polite']);
+    check.is('its language', await run(() => document.documentElement.lang), 'en');
     for (const scheme of ['light', 'dark']) {
         await person.browser.scheme(scheme);
         for (const { pair, ratio, least } of await contrastsOf(run)) check.ok(`${scheme}: ${pair} ${ratio.toFixed(2)}, at least ${least}`, ratio >= least);
     }
-    const [dark] = await run('() => [getComputedStyle(document.body).backgroundColor]');
+    const [dark] = await run(() => [getComputedStyle(document.body).backgroundColor]);
     await person.browser.scheme('light');
-    check.ok('dark and light are two', dark !== await run('() => getComputedStyle(document.body).backgroundColor'));
+    check.ok('dark and light are two', dark !== await run(() => getComputedStyle(document.body).backgroundColor));
 }
 
 // Pages that must not be used, each made of the one that is tried
@@ -587,9 +667,11 @@ async function unusable(person, check) {
         return `file://${file}`;
     };
     const shut = async (name, words) => {
-        await until(() => run("() => document.readyState === 'complete' && document.getElementById('unusable') !== null"), name);
-        const now = await run(`() => ({ said: document.getElementById('unusable').checkVisibility(), words: document.getElementById('unusable').textContent, verdict: document.getElementById('verdict').checkVisibility(),
-            form: document.getElementById('need').checkVisibility(), tabs: document.getElementById('tab-state').checkVisibility(), sheet: document.getElementById('sheet').textContent })`);
+        await until(() => run(() => document.readyState === 'complete' && document.getElementById('unusable') !== null), name);
+        const now = await run(() => ({ said: document.getElementById('unusable').checkVisibility(), words: document.getElementById('unusable').textContent,
+            verdict: document.getElementById('verdict').checkVisibility(),
+            form: document.getElementById('need').checkVisibility(), tabs: document.getElementById('tab-state').checkVisibility(),
+                sheet: document.getElementById('sheet').textContent }));
         check.is(`${name}: no verdict, no form, no view`, [now.said, now.verdict, now.form, now.tabs, now.sheet], [true, false, false, false, '']);
         check.ok(`${name}: it is said`, now.words.includes('NOT USABLE HERE') && words.test(now.words));
     };
@@ -610,7 +692,8 @@ async function unusable(person, check) {
     await shut('a library cut short', /./);
     await person.fresh(made('version', html.replace(/<meta name="version" content="[^"]*">/, '<meta name="version" content="9.9.9">')));
     await shut('another version', /of version .*, and the page was built for 9\.9\.9/);
-    await browser.go(made('policy', html.replace(/script-src 'sha256-.{10}/, '$&AAAAAAAAAA').replace(/(script-src 'sha256-.{10})AAAAAAAAAA.{10}/, '$1AAAAAAAAAA')));
+    await browser.go(made('policy', html.replace(/script-src 'sha256-.{10}/, '$&AAAAAAAAAA').replace(/(script-src 'sha256-.{10})AAAAAAAAAA.{10}/,
+        '$1AAAAAAAAAA')));
     await shut('a script that the policy doesn’t take', /has not started/);
     await browser.withoutWasm(true);
     await person.fresh();
@@ -626,7 +709,7 @@ async function unusable(person, check) {
         check.ok('no scripts: no verdict and no form', !/COVERED|SENT BACK|The dryer needs/.test(text));
     }
     await person.fresh();
-    check.is('and the page itself is usable', await run("() => document.getElementById('verdict').checkVisibility()"), true);
+    check.is('and the page itself is usable', await run(() => document.getElementById('verdict').checkVisibility()), true);
 }
 
 // after all of it
@@ -636,13 +719,15 @@ async function after(person, check) {
     await person.need('120');
     await person.lines(...README_LINES);
     await person.need('x');
-    await run("() => document.getElementById('tab-state').click()");
+    await run(() => document.getElementById('tab-state').click());
     await person.write('#temperature', '40');
     check.is('in the end nothing is stored', await run(STORED), '0 0 0 0');
     check.is('in the end nothing was asked of the network', [...new Set(await browser.asked())], [person.url]);
     check.is('in the end no complaint', await browser.complaints(), []);
 }
 
-export const PATHS = [['the start', start], ['by keys', byKeys], ['readings', readings], ['blanks', blanks], ['slips', slips], ['commas', commas], ['refusals', refusals], ['warnings', warnings],
-    ['pictures', pictures], ['papers', papers], ['files', files], ['what is kept', kept], ['lines', rowsOfIt], ['states', states], ['a narrow screen', narrow], ['names and colours', named],
+export const PATHS = [['the start', start], ['by keys', byKeys], ['readings', readings], ['blanks', blanks], ['slips', slips], ['commas', commas],
+    ['refusals', refusals], ['warnings', warnings],
+    ['pictures', pictures], ['papers', papers], ['files', files], ['what is kept', kept], ['lines', rowsOfIt], ['states', states], ['a narrow screen', narrow],
+        ['names and colours', named],
     ['unusable', unusable], ['after all', after]];

@@ -53,7 +53,8 @@ function addRow() {
     row.out.addEventListener('click', () => takeOut(row));
     row.told = element('td', { colspan: '8', id: `${id}-told` });
     row.below = element('tr', { class: 'told' }, row.told);
-    row.body = element('tbody', { class: 'cylinder' }, element('tr', { class: 'fields' }, row.line, ...cells, row.holds, element('td', { class: 'take' }, row.out)), row.below);
+    row.body = element('tbody', { class: 'cylinder' },
+        element('tr', { class: 'fields' }, row.line, ...cells, row.holds, element('td', { class: 'take' }, row.out)), row.below);
     rows.push(row);
     byId('cylinders').append(row.body);
     nameRows();
@@ -131,7 +132,8 @@ const EMPTY = { need: '', rows: [{ number: '', celsius: '', reading: '', kind: '
 function keptForm() {
     try {
         const form = JSON.parse(localStorage.getItem(KEPT));
-        const isForm = form && typeof form.need === 'string' && Array.isArray(form.rows) && form.rows.every(row => FIELDS.every(name => typeof row[name] === 'string'));
+        const isForm = form && typeof form.need === 'string' && Array.isArray(form.rows)
+            && form.rows.every(row => FIELDS.every(name => typeof row[name] === 'string'));
         return isForm ? form : null;
     } catch {
         return null;
@@ -193,7 +195,7 @@ function verdictOf(outcome) {
     }
     const { says, todo } = library.words(outcome.refusal);
     const refused = outcome.lines.filter(line => line.refusal !== null);
-    const words = [`${says}. ${todo}`, refused.length ? `Refused: ${linesOf(refused)}.` : '', ON_THE_FORM[outcome.refusal] || ''].filter(Boolean).join(' ');
+    const words = [refused.length ? `Refused: ${linesOf(refused)}.` : '', `${says}. ${todo}`, ON_THE_FORM[outcome.refusal] || ''].filter(Boolean).join(' ');
     return { is: 'back', word: `SENT BACK ${outcome.refusal}`, but: counted('and', doubts), words, sums: null };
 }
 
@@ -220,7 +222,8 @@ function paintVerdict({ is, word, but, words, sums }) {
         byId('margin').textContent = sums.margin;
         byId('margin-is').textContent = sums.marginIs;
     }
-    speak([`${word}.`, but.length ? `${plain(but)}.` : '', sums && `Held ${sums.held}, needed ${sums.needed}, ${sums.margin} ${sums.marginIs}.`, words].filter(Boolean).join(' '));
+    speak([`${word}.`, but.length ? `${plain(but)}.` : '', sums && `Held ${sums.held}, needed ${sums.needed}, ${sums.margin} ${sums.marginIs}.`,
+        words].filter(Boolean).join(' '));
 }
 
 function paintPapers(texts) {
@@ -244,8 +247,10 @@ function paintHolds(row, line) {
 function refusalWords(row, line) {
     const { says, todo } = library.words(line.refusal);
     const blanks = spokenOf(line).map(name => LABELS[name]).join(', ');
-    const more = [line.refusal === 1 ? `Blank: ${blanks}.` : '', line.first ? `It stands in line ${line.first}.` : '', ON_THE_FORM[line.refusal] || ''].filter(Boolean);
-    return element('p', { class: 'refusal', id: `${row.id}-refused` }, element('b', {}, `Refused by ${line.refusal}. ${says}.`), ` ${[todo, ...more].join(' ')}`);
+    const more = [line.refusal === 1 ? `Blank: ${blanks}.` : '', line.first ? `It stands in line ${line.first}.` : '',
+        ON_THE_FORM[line.refusal] || ''].filter(Boolean);
+    return element('p', { class: 'refusal', id: `${row.id}-refused` }, element('b', {}, `Refused by ${line.refusal}. ${says}.`),
+        ` ${[todo, ...more].join(' ')}`);
 }
 function warningWords(warning) {
     const [lead, ...rest] = warning.words.split('. ');
@@ -381,7 +386,8 @@ async function openFile(event) {
         byId('file-name').textContent = `${file.name}, ${several(file.size, 'byte', 'bytes')}`;
         byId('file-verdict').dataset.is = is;
         byId('file-word').textContent = `${SIGN[is]} ${word}`;
-        byId('file-words').textContent = [but.length ? `${sentence(plain(but))}.` : '', sums && `Held ${sums.held}, needed ${sums.needed}: ${sums.margin} ${sums.marginIs}.`].filter(Boolean).join(' ');
+        byId('file-words').textContent = [but.length ? `${sentence(plain(but))}.` : '',
+            sums && `Held ${sums.held}, needed ${sums.needed}: ${sums.margin} ${sums.marginIs}.`].filter(Boolean).join(' ');
         paintPapers({ 'file-report': outcome.report });
         byId('file-explanation').textContent = explanationOf(library, outcome, bytes);
     } catch (fault) {

@@ -1,5 +1,5 @@
-// The bank and the map as small trees of SVG, [name, attributes, ...children]; pure functions. Colours are page.css's, by class. What is drawn of carbon dioxide
-// is found by asking the library, and no figure of it stands here.
+// The bank and the map as small trees of SVG, [name, attributes, ...children]; pure functions. Colours are page.css's, by class. What is drawn of
+// carbon dioxide is found by asking the library, and no figure of it stands here.
 
 // A tree as text; page.mjs grows the same tree in a page
 export function svgText([name, attributes, ...children]) {
@@ -44,7 +44,8 @@ export function cylinderPicture(what) {
         inside.push(['rect', { ...across, y: at(high), height: at(low - high), fill: `url(#${hatch})` }]);
     }
     const marks = [];
-    if (what.status === 'refused') marks.push(['path', { class: 'cross', d: `M${BODY.left - 6} 40L${BODY.right + 6} 136M${BODY.right + 6} 40L${BODY.left - 6} 136` }]);
+    if (what.status === 'refused') marks.push(['path',
+        { class: 'cross', d: `M${BODY.left - 6} 40L${BODY.right + 6} 136M${BODY.right + 6} 40L${BODY.left - 6} 136` }]);
     else marks.push(['path', { class: 'full', d: `M12 ${at(levelOf(FULL))}H64` }]);
     if (what.range) marks.push(label(38, 100, 'sign', '?'));
     else if (what.above) marks.push(label(38, 100, 'sign', '!'));
@@ -84,7 +85,8 @@ function turn(without, within, holds) {
     }
     return within;
 }
-// The lines of the map by the library's answers alone: its ranges by where 4 and 5 turn up, the solid by 19, the box by 6, the critical temperature by the phase
+// The lines of the map by the library's answers alone: its ranges by where 4 and 5 turn up, the solid by 19, the box by 6, the critical temperature by
+// the phase
 export function frameOf(library) {
     const refused = (t, p, number) => library.state('P', t, p).refused === number;
     const open = 350, calm = 5e6;
@@ -141,7 +143,8 @@ export function mapPicture(frame, dots, width) {
     const { coldest, hottest, lowest, highest, critical, box, melting, saturation } = frame;
     const area = (name, points) => ['path', { class: name, d: path(points.map(plane)) + 'Z' }];
     const narrow = width < 460;
-    const ticksT = (warm ? [-50, 0, 50, 100, 150, 200, 250] : narrow ? [-40, 0, 40, 80] : [-60, -40, -20, 0, 20, 40, 60, 80]).map(c => [c + ZERO, `${c}`.replace('-', '−')]);
+    const ticksT = (warm ? [-50, 0, 50, 100, 150, 200, 250] : narrow ? [-40, 0, 40, 80]
+        : [-60, -40, -20, 0, 20, 40, 60, 80]).map(c => [c + ZERO, `${c}`.replace('-', '−')]);
     const ticksP = [0.1, 0.5, 1, 5, 10, 20, 50, 100, 200, 300].filter(bar => bar * BAR >= from.p).map(bar => [bar * BAR, `${bar}`]);
     const grid = [
         ...ticksT.map(([t]) => ['path', { class: 'grid', d: path([[x(t), top], [x(t), height - bottom]]) }]),
@@ -173,7 +176,8 @@ export function mapPicture(frame, dots, width) {
         ['rect', { class: 'ground', x: left, y: top, width: width - left - right, height: height - top - bottom }],
         ...areas, ...axes, ...words, ...here.map(dot => SHAPES[dot.status](x(dot.kelvin), y(dot.pascal))), ...names];
 }
-const onMap = (frame, { kelvin, pascal }) => kelvin >= ZERO - 60 && kelvin <= frame.hottest + 3 && pascal >= frame.lowest * 0.8 && pascal <= frame.highest * 1.25;
+const onMap = (frame, { kelvin, pascal }) => kelvin >= ZERO - 60 && kelvin <= frame.hottest + 3 && pascal >= frame.lowest * 0.8
+    && pascal <= frame.highest * 1.25;
 
 const lineWord = places => places.length === 1 ? 'line' : 'lines';
 // What has no place on it, in words that stand beside it
@@ -189,10 +193,13 @@ export function mapWords(frame, dots) {
     const side = ({ kelvin, pascal }) => {
         if (kelvin >= frame.critical) return 'above the critical temperature';
         const next = frame.saturation.findIndex(([t]) => t > kelvin);
-        return next < 1 ? '' : pascal > frame.saturation[next][1] ? 'above the saturation line' : pascal < frame.saturation[next - 1][1] ? 'below the saturation line' : 'at the saturation line';
+        return next < 1 ? '' : pascal > frame.saturation[next][1] ? 'above the saturation line' : pascal < frame.saturation[next - 1][1]
+            ? 'below the saturation line' : 'at the saturation line';
     };
     const STATUS = { answered: 'answered', doubt: "answered, but the gauge can't tell", refused: 'refused', unknown: 'not known yet' };
-    const one = dot => `line ${dot.place} at ${(dot.kelvin - ZERO).toFixed(1)} °C and ${(dot.pascal / BAR).toFixed(1)} bar, ${[STATUS[dot.status], side(dot)].filter(Boolean).join(', ')}`;
+    const one = dot => [`line ${dot.place} at ${(dot.kelvin - ZERO).toFixed(1)} °C and ${(dot.pascal / BAR).toFixed(1)} bar`, STATUS[dot.status], side(dot)]
+        .filter(Boolean).join(', ');
     const here = dots.filter(dot => onMap(frame, dot));
-    return `Map of temperature and pressure, with the saturation line, the melting line and the critical box. ${here.length ? here.map(one).join('; ') : 'No reading stands on it yet'}.`;
+    return 'Map of temperature and pressure, with the saturation line, the melting line and the critical box. '
+        + `${here.length ? here.map(one).join('; ') : 'No reading stands on it yet'}.`;
 }

@@ -60,7 +60,8 @@ export function sheetOf(form) {
         const reading = kind ? read(row, 'reading', typed.reading, kind) : null;
         if (!kind && !isBlank(typed.reading)) mark(row, 'kind', 'Say what was read: bar absolute, bar by a gauge, kg/m³ or kg weighed.');
         const litres = read(row, 'litres', typed.litres, SCALES.litres);
-        if (kind === SCALES.weighed && !isBlank(typed.celsius)) notes.push({ row, field: 'celsius', words: 'Not used: a weighed cylinder needs no temperature.' });
+        if (kind === SCALES.weighed && !isBlank(typed.celsius)) notes.push({ row, field: 'celsius',
+            words: 'Not used: a weighed cylinder needs no temperature.' });
         lines.push(`C ${writtenAs(number)} ${writtenAs(celsius)} ${kind ? kind.letter : 'P'} ${writtenAs(reading)} ${writtenAs(litres)}`);
     });
     return { text: marks.length ? null : lines.join('\n') + '\n', marks, notes };
@@ -134,10 +135,10 @@ function unsure(library, record) {
     const away = Number(value) - saturation.pressure;
     if (away < -ACROSS || away > ACROSS) return null;
     const least = atOrBelow(saturation.vapour * Number(volume)), most = atOrBelow(saturation.liquid * Number(volume));
-    const words = `the gauge can't tell. At ${celsiusOf(temperature)} C the vapour pressure is ${pressureShown(saturation.pressure)} bar, and ${ofSheet(value, 5)} bar `
-        + `is within 2 bar of it. At the vapour pressure the cylinder holds ${held(least)} kg if all is vapour, ${held(most)} kg if all is liquid, and anything `
-        + 'between if it holds both. Weigh it and write W and the grams of agent in the place of P and the pressure, or warm it evenly to 40 to 45 C, minding its '
-        + 'pressure, and read again.';
+    const words = `the gauge can't tell. At ${celsiusOf(temperature)} C the vapour pressure is ${pressureShown(saturation.pressure)} bar, `
+        + `and ${ofSheet(value, 5)} bar is within 2 bar of it. At the vapour pressure the cylinder holds ${held(least)} kg if all is vapour, `
+        + `${held(most)} kg if all is liquid, and anything between if it holds both. Weigh it and write W and the grams of agent in the place of P and the `
+        + 'pressure, or warm it evenly to 40 to 45 C, minding its pressure, and read again.';
     return { kind: 'gauge', words, least, most, vapour: saturation.vapour, liquid: saturation.liquid, pressure: saturation.pressure };
 }
 function tooFull(line) {
@@ -149,7 +150,8 @@ function tooFull(line) {
             + "Check its volume, and that the empty cylinder's weight was taken off." };
     }
     if (!(line.state.density > FILLED)) return null;
-    return { kind: 'above', words: `${densityShown(line.state.density)} kg/m3 is more than a cylinder is filled with (750 kg/m3). Check its volume and its reading.` };
+    return { kind: 'above', words: `${densityShown(line.state.density)} kg/m3 is more than a cylinder is filled with (750 kg/m3). `
+        + 'Check its volume and its reading.' };
 }
 
 function lineOf(library, record, place, answer, records) {
@@ -211,10 +213,12 @@ export function explanationOf(library, outcome, bytes) {
     const lines = outcome.lines.filter(line => line.refusal !== null || line.milligrams !== null).flatMap(line => toldOf(library, line));
     if (outcome.held !== null) {
         const gauges = warned(outcome, 'gauge').length, above = warned(outcome, 'above').length;
-        lines.push(`Held ${held(outcome.held)} kg, needed ${needed(outcome.need)} kg: ${marginOf(outcome)}.` + (gauges ? ` Gauges that can't tell: ${gauges}.` : '')
+        lines.push(`Held ${held(outcome.held)} kg, needed ${needed(outcome.need)} kg: ${marginOf(outcome)}.`
+            + (gauges ? ` Gauges that can't tell: ${gauges}.` : '')
             + (above ? ` Lines above 750 kg/m3: ${above}.` : ''));
     } else {
-        lines.push((outcome.refusal === 13 ? `Needed ${needed(outcome.need)} kg. ` : '') + `Sent back by ${outcome.refusal}. ${wordsOf(library, outcome.refusal)}`);
+        lines.push((outcome.refusal === 13 ? `Needed ${needed(outcome.need)} kg. ` : '')
+            + `Sent back by ${outcome.refusal}. ${wordsOf(library, outcome.refusal)}`);
     }
     if (outcome.refusal === 14) lines.push(whereOf(bytes));
     return lines.map(line => line + '\n').join('');

@@ -24,7 +24,8 @@ const SATURATED = [['pressure', 'vapour pressure', 'Pa'], ['vapour', 'saturated 
 // README, "For the trace heating": from 21 to 41 °C the correlation's authors don't vouch for it, which is within 10 K of 304.1282 K
 export const isVouchedFor = t => t < 294.1282 || t > 314.15;
 
-// form: { temperature, temperatureUnit, other, otherUnit }, as typed and chosen. { door, t, x, marks, notes }: t and x are null for a blank, and for what is marked.
+// form: { temperature, temperatureUnit, other, otherUnit }, as typed and chosen. { door, t, x, marks, notes }: t and x are null for a blank, and for
+// what is marked.
 export function questionOf(form) {
     const marks = [], notes = [];
     const read = (field, typed, scale, choose) => {
@@ -55,11 +56,12 @@ const rows = (names, figures) => names.map(([key, says, unit]) => element('tr', 
     element('th', { scope: 'row' }, says), element('td', { class: 'value' }, figures ? String(figures[key]) : '–'), element('td', {}, unit)));
 
 function caveat(t) {
-    const known = element('p', {}, 'The conductivity is the correlation of Huber, Sykioti, Assael and Perkins (2016). Its authors put their full model at 1 % for liquid from '
-        + '−49 to 26 °C, and at 3 % for vapour and above the critical temperature; this library works their simpler critical enhancement, which they give to about 5 % of '
-        + 'that part, and only more than 10 K away from the critical point.');
+    const known = element('p', {}, 'The conductivity is the correlation of Huber, Sykioti, Assael and Perkins (2016). Its authors put their full model at '
+        + '1 % for liquid from −49 to 26 °C, and at 3 % for vapour and above the critical temperature; this library works their simpler critical '
+        + 'enhancement, which they give to about 5 % of that part, and only more than 10 K away from the critical point.');
     if (t === null || isVouchedFor(t)) return [known];
-    return [element('p', { class: 'warning' }, element('b', {}, 'The conductivity is not vouched for here.'), ' From 21 to 41 °C its authors don’t vouch for it: it stays '
+    return [element('p', { class: 'warning' }, element('b', {}, 'The conductivity is not vouched for here.'),
+        ' From 21 to 41 °C its authors don’t vouch for it: it stays '
         + 'finite at the critical point (31 °C, 74 bar), where the real one doesn’t. At 36.85 °C and 400 kg/m³ it is 4 % above their full model.'), known];
 }
 
@@ -90,7 +92,8 @@ function answer(library, question) {
 
 function paint(library) {
     const question = questionOf({
-        temperature: byId('temperature').value, temperatureUnit: byId('temperature-unit').value, other: byId('other').value, otherUnit: byId('other-unit').value,
+        temperature: byId('temperature').value, temperatureUnit: byId('temperature-unit').value, other: byId('other').value,
+            otherUnit: byId('other-unit').value,
     });
     const said = answer(library, question);
     paintFields(question);
@@ -102,7 +105,8 @@ function paint(library) {
     byId('caveat').replaceChildren(...caveat(said.figures ? question.t : null));
     const saturation = question.t === null ? null : library.saturation(question.t);
     byId('saturated').replaceChildren(...rows(SATURATED, saturation && saturation.figures));
-    byId('saturation-says').textContent = saturation === null ? 'No temperature yet.' : saturation.figures ? '' : `None: ${library.words(saturation.refused).says}.`;
+    byId('saturation-says').textContent = saturation === null ? 'No temperature yet.' : saturation.figures ? ''
+        : `None: ${library.words(saturation.refused).says}.`;
 }
 
 export function openStates(library) {

@@ -557,6 +557,8 @@ async function states(person, check) {
         check.is(`a state refused by ${number}`, [now.word, now.figures.map(([, value]) => value), now.marked], [`refused by ${number}`, nothing, marked]);
         check.has(`a state refused by ${number}: its words`, now.words, `${REFUSALS[number].says}. ${REFUSALS[number].todo}`);
     }
+    await until(() => run(() => /^refused by 19\. Solid: dry ice/.test(document.getElementById('spoken').textContent)), 'the state to be spoken');
+    check.ok('a state is spoken when the typing rests', true);
     now = await ask('20', 1, '', 1);
     check.is('a blank pressure', [now.word, now.words, now.figures.map(([, value]) => value)], ['NO STATE YET', 'Blank: the pressure or density.', nothing]);
     now = await ask('', 1, '57.3', 1);
@@ -646,7 +648,7 @@ async function named(person, check) {
         [...document.querySelectorAll('#need, .celsius input, .reading input, .litres input, #temperature, #other')].every(input =>
         input.inputMode === 'decimal' && input.type === 'text')), true);
     check.is('the verdict is spoken politely, in one place',
-        await run(() => [...document.querySelectorAll('#bank [aria-live]')].map(node => node.id + ' ' + node.getAttribute('aria-live'))), ['spoken polite']);
+        await run(() => [...document.querySelectorAll('[aria-live]')].map(node => node.id + ' ' + node.getAttribute('aria-live'))), ['spoken polite']);
     check.is('its language', await run(() => document.documentElement.lang), 'en');
     for (const scheme of ['light', 'dark']) {
         await person.browser.scheme(scheme);

@@ -1,4 +1,4 @@
-// A browser's PNG in fewer bytes, for README: each pixel the nearest of the 256 colours that it has most of.
+// A browser's PNG in fewer bytes, for README: each pixel the nearest of 256 colours, those that it has most of and that stand apart from each other.
 import zlib from 'node:zlib';
 
 const CRCS = Uint32Array.from({ length: 256 }, (_, n) => {
@@ -47,10 +47,18 @@ function read(png) {
 }
 const apart = (one, other) => [16, 8, 0].reduce((sum, shift) => sum + ((one >> shift & 255) - (other >> shift & 255)) ** 2, 0);
 
+function paletteOf(colours) {
+    for (let least = 0; ; least += 2) {
+        const chosen = [];
+        for (const colour of colours) if (chosen.length <= 256 && chosen.every(other => apart(colour, other) > least * least)) chosen.push(colour);
+        if (chosen.length <= 256) return chosen;
+    }
+}
+
 export function smaller(png) {
     const { width, height, pixels } = read(png), counts = new Map();
     for (const pixel of pixels) counts.set(pixel, (counts.get(pixel) || 0) + 1);
-    const palette = [...counts].sort(([, one], [, other]) => other - one).slice(0, 256).map(([colour]) => colour);
+    const palette = paletteOf([...counts].sort(([, one], [, other]) => other - one).map(([colour]) => colour));
     const placeOf = colour => palette.reduce((best, other, i) => apart(colour, other) < apart(colour, palette[best]) ? i : best, 0);
     const nearest = new Map([...counts.keys()].map(colour => [colour, placeOf(colour)]));
     const rows = Buffer.alloc((width + 1) * height), header = Buffer.alloc(13), colours = Buffer.alloc(3 * palette.length);

@@ -38,8 +38,10 @@ export async function takeShots(person) {
         await shot(`covered-${scheme}`);
         await bank('150', DOUBT);
         await shot(`doubt-${scheme}`);
+        await browser.size(1200, 620);
         await run(() => document.querySelector('.below').scrollIntoView());
         await shot(`map-${scheme}`);
+        await browser.size(1200, 900);
         await bank('120', BACK);
         await shot(`sent-back-${scheme}`);
         await state();

@@ -44,3 +44,12 @@ export function options(select, choices) {
 }
 
 export const sentence = words => words.charAt(0).toUpperCase() + words.slice(1);
+
+let speaking = 0;
+// for a screen reader, when the typing has come to rest
+export function speak(words) {
+    clearTimeout(speaking);
+    speaking = setTimeout(() => {
+        if (byId('spoken').textContent !== words) byId('spoken').textContent = words;
+    }, 900);
+}

@@ -4,7 +4,7 @@ import { KINDS, densityShown, explanationOf, held, kelvinOf, marginOf, needed, o
 import { bankWords, cylinderPicture, frameOf, mapPicture, mapWords, offMap, rangesOf } from './picture.mjs';
 import { mustAnswerAsKnown } from './known.mjs';
 import { openStates } from './states.mjs';
-import { byId, element, grow, mark, options, sentence, turnSign } from './dom.mjs';
+import { byId, element, grow, mark, options, sentence, speak, turnSign } from './dom.mjs';
 
 const FIELDS = ['number', 'celsius', 'reading', 'kind', 'litres'];
 const LABELS = { number: 'number', celsius: '°C', reading: 'reading', kind: 'of what', litres: 'litres' };
@@ -14,7 +14,7 @@ const bytesOf = text => new TextEncoder().encode(text);
 
 let library, frame;
 let rows = [];
-let made = 0;                        // rows that there ever were: each has ids of its own
+let made = 0; // rows that there ever were: each has ids of its own
 let shown = { sheet: null, report: null, 'file-report': null };
 let dots = [];
 
@@ -180,8 +180,7 @@ function doubtsOf(outcome) {
     if (above.length) said.push([`${several(above.length, 'line is', 'lines are')} above 750 kg/m³`, ` (${linesOf(above)})`]);
     return said;
 }
-const counted = (front, doubts) => doubts.map((words, i) => [(i ? ', and ' : `${front} `) + words[0], words[1]]);
-
+const counted = (front, doubts) => doubts.map(([count, which], i) => [(i ? ', and ' : `${front} `) + count, which]);
 const plain = but => but.map(words => words.join('')).join('');
 
 // What the verdict's place says: { is, word, but, words, sums }
@@ -199,19 +198,11 @@ function verdictOf(outcome) {
     return { is: 'back', word: `SENT BACK ${outcome.refusal}`, but: counted('and', doubts), words, sums: null };
 }
 
-let speaking = 0;
-// for a screen reader, when the typing has come to rest
-function speak(words) {
-    clearTimeout(speaking);
-    speaking = setTimeout(() => {
-        if (byId('spoken').textContent !== words) byId('spoken').textContent = words;
-    }, 900);
-}
 function paintVerdict({ is, word, but, words, sums }) {
     byId('verdict').dataset.is = is;
     byId('sign').textContent = SIGN[is];
     byId('word').textContent = word;
-    byId('but').replaceChildren(...but.flatMap(([words, which]) => [words, element('span', { class: 'which' }, which)]));
+    byId('but').replaceChildren(...but.flatMap(([count, which]) => [count, element('span', { class: 'which' }, which)]));
     byId('but').hidden = but.length === 0;
     byId('words').textContent = words;
     byId('words').hidden = words === '';

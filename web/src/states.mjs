@@ -1,7 +1,7 @@
 // The second view: a temperature with a pressure or a density to the state's figures.
 import { double, mayBeThousands, separator } from './decimals.mjs';
 import { readAs } from './sheet.mjs';
-import { byId, element, mark, options, turnSign } from './dom.mjs';
+import { byId, element, mark, options, speak, turnSign } from './dom.mjs';
 
 // decimals.mjs: (typed × 10^places + more) / 10^over, in K, Pa or kg/m³, by one rounding
 const TEMPERATURES = {
@@ -114,7 +114,10 @@ export function openStates(library) {
     options(byId('temperature-unit'), says(TEMPERATURES));
     options(byId('other-unit'), says(OTHERS));
     byId('turn').addEventListener('click', () => turnSign(byId('temperature')));
-    byId('asked').addEventListener('input', () => paint(library));
+    byId('asked').addEventListener('input', () => {
+        paint(library);
+        speak(`${byId('phase').textContent}. ${byId('state-words').textContent}`);
+    });
     byId('asked').addEventListener('submit', event => event.preventDefault());
     paint(library);
 }

@@ -12,7 +12,7 @@ export async function openChromium(program, folder) {
         '--no-first-run', '--disable-background-networking', '--disable-component-update', '--disable-sync', '--mute-audio', `--user-data-dir=${folder}/profile`, 'about:blank'];
     const child = spawn(program, words, { stdio: ['ignore', 'ignore', fs.openSync(`${folder}/chromium.err`, 'w'), 'pipe', 'pipe'] });
     const waiting = new Map(), events = [];
-    let number = 0, rest = '', sessionId;
+    let number = 0, rest = '', sessionId, without;
     child.stdio[4].on('data', data => {
         const texts = (rest + data).split('\0');
         rest = texts.pop();
@@ -35,10 +35,11 @@ export async function openChromium(program, folder) {
     ({ sessionId } = await send('Target.attachToTarget', { targetId, flatten: true }));
     for (const domain of ['Page', 'Runtime', 'Network', 'Log', 'DOM']) await send(`${domain}.enable`);
     await send('Browser.setDownloadBehavior', { behavior: 'allow', downloadPath: folder, eventsEnabled: true });
+    await send('Browser.grantPermissions', { permissions: ['clipboardReadWrite', 'clipboardSanitizedWrite'] });
     const { product } = await send('Browser.getVersion');
 
     const key = async (name, modifiers = 0) => {
-        const [code, text, as] = KEYS[name] || [name.toUpperCase().charCodeAt(0), modifiers ? undefined : name];
+        const [code, text, as] = KEYS[name] || [/[a-z0-9]/i.test(name) ? name.toUpperCase().charCodeAt(0) : 0, name];
         const common = { key: as || name, code: name, windowsVirtualKeyCode: code, modifiers };
         await send('Input.dispatchKeyEvent', { type: text ? 'keyDown' : 'rawKeyDown', text, ...common });
         await send('Input.dispatchKeyEvent', { type: 'keyUp', ...common });
@@ -78,19 +79,23 @@ export async function openChromium(program, folder) {
             const { data } = await send('Page.printToPDF', { printBackground: true, preferCSSPageSize: true, paperWidth: 8.27, paperHeight: 11.69 });
             fs.writeFileSync(path, Buffer.from(data, 'base64'));
         },
-        // before any script of the next page runs
-        before: async source => (await send('Page.addScriptToEvaluateOnNewDocument', { source })).identifier,
+        withoutWasm: async is => {
+            if (is) without = (await send('Page.addScriptToEvaluateOnNewDocument', { source: 'delete window.WebAssembly;' })).identifier;
+            else await send('Page.removeScriptToEvaluateOnNewDocument', { identifier: without });
+        },
         withoutScript: is => send('Emulation.setScriptExecutionDisabled', { value: is }),
         text: async () => { // where scripts are off, by the tree of what is shown
             const { nodes } = await send('Accessibility.getFullAXTree');
             return nodes.filter(node => !node.ignored && node.role && node.role.value === 'StaticText').map(node => node.name.value).join('\n');
         },
-        tree: async () => (await send('Accessibility.getFullAXTree')).nodes.filter(node => !node.ignored),
         complaints: async () => events.filter(({ method }) => ['Log.entryAdded', 'Runtime.exceptionThrown', 'Runtime.consoleAPICalled'].includes(method))
             .map(({ params }) => JSON.stringify(params.entry ? params.entry.text : params.exceptionDetails || params.args).slice(0, 300)),
         asked: async () => events.filter(({ method }) => method === 'Network.requestWillBeSent').map(({ params }) => params.request.url).filter(url => !/^(about|blob):/.test(url)),
         close: async () => {
-            await Promise.race([send('Browser.close').catch(() => {}), new Promise(done => setTimeout(done, 2000))]);
+            const end = new Promise(done => child.exitCode === null ? child.once('exit', done) : done());
+            const wait = new Promise(done => setTimeout(done, 5000));
+            send('Browser.close').catch(() => {});
+            await Promise.race([end, wait]);
             child.kill();
         },
     };

@@ -26,7 +26,19 @@ const STATES = [
     ['D', 300, 128.4, 'vapour', [300, 5000041.592016222, 128.4, -99772.20393209446, -60831.07003788712, 852.582275508323,
         1802.5510938333791, 223.2487520074233, 0, 0.02353634366010718]],
 ];
-const REFUSED = [['P', 217, 5e6, 19], ['P', 304, 7.5e6, 6], ['D', 250, 500, 8]];
+// On each side of a boundary, the one double and the next (RULES 8): a phase, or a refusal's number
+const BOUNDARIES = [
+    ['P', 217, 2429700.0645423313, 'liquid'], ['P', 217, 2429700.0645423317, 19], ['P', 216.592, 517950, 'vapour'], ['P', 216.592, 517950.00000000006, 19],
+    ['P', 216.59199999999998, 5e6, 4], ['P', 523, 5e6, 'supercritical'], ['P', 523.0000000000001, 5e6, 4],
+    ['P', 303.1282, 7e6, 6], ['P', 303.12819999999994, 7e6, 'vapour'], ['P', 305.1282, 8e6, 6], ['P', 305.1282, 8000000.000000001, 'supercritical'],
+    ['P', 300, 3e7, 'liquid'], ['P', 300, 30000000.000000004, 5], ['P', 300, 1e4, 'vapour'], ['P', 300, 9999.999999999998, 5],
+    ['P', 250, 1785029.065366501, 'vapour'], ['P', 250, 1785029.0653665012, 8], ['P', 250, 1785029.0653665015, 'liquid'],
+    ['P', 304.12819999999994, 6.9e6, 'vapour'], ['P', 304.1282, 6.9e6, 'supercritical'],
+    ['D', 304.12819999999994, 340, 'vapour'], ['D', 304.1282, 340, 'supercritical'],
+    ['D', 303.1282, 350.7, 6], ['D', 303.1282, 350.69999999999993, 8], ['D', 305.1282, 584.5, 6], ['D', 305.1282, 584.5000000000001, 'supercritical'],
+    ['D', 216.59199999999998, 10, 4], ['D', 216.592, 10, 'vapour'], ['D', 523, 10, 'supercritical'], ['D', 523.0000000000001, 10, 4],
+    ['D', 250, 46.646153870768245, 'vapour'], ['D', 250, 46.64615387076825, 8], ['D', 250, 1045.9895507737242, 8], ['D', 250, 1045.9895507737244, 'liquid'],
+];
 const SATURATIONS = [
     [293.15, [5729194.424293311, 194.20420359600897, 773.3921890872848]],
     [216.592, [517961.8369087662, 13.761366757358942, 1178.525122234566]],
@@ -48,12 +60,16 @@ export function mustAnswerAsKnown(library, version) {
         const state = library.state(door, t, x);
         must(state.phase === phase && sameBits(state.figures, known), `the state ${door} ${t} ${x}`);
     }
-    for (const [door, t, x, number] of REFUSED) must(library.state(door, t, x).refused === number, `the state ${door} ${t} ${x}`);
+    for (const [door, t, x, known] of BOUNDARIES) {
+        const { phase, refused } = library.state(door, t, x);
+        must((phase || refused) === known, `the state ${door} ${t} ${x}`);
+    }
     for (const [t, known] of SATURATIONS) {
         const { figures } = library.saturation(t);
         must(figures && sameBits(figures, known), `saturation at ${t}`);
     }
     const { says, todo } = library.words(19);
     must(says === SOLID.says && todo === SOLID.todo, 'the words of 19');
-    must(library.saturation(304.1282).refused === 4, 'saturation at 304.1282');
+    for (const t of [216.59199999999998, 304.1282]) must(library.saturation(t).refused === 4, `saturation at ${t}`);
+    must(library.saturation(304.12819999999994).figures, 'saturation below 304.1282');
 }

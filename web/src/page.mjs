@@ -193,7 +193,7 @@ function verdictOf(outcome) {
     }
     const { says, todo } = library.words(outcome.refusal);
     const refused = outcome.lines.filter(line => line.refusal !== null);
-    const words = [`No verdict. ${says}. ${todo}`, refused.length ? `${sentence(linesOf(refused))}.` : '', ON_THE_FORM[outcome.refusal] || ''].filter(Boolean).join(' ');
+    const words = [`${says}. ${todo}`, refused.length ? `Refused: ${linesOf(refused)}.` : '', ON_THE_FORM[outcome.refusal] || ''].filter(Boolean).join(' ');
     return { is: 'back', word: `SENT BACK ${outcome.refusal}`, but: counted('and', doubts), words, sums: null };
 }
 

@@ -165,8 +165,8 @@ export function mapPicture(frame, dots, width) {
     const groups = gather(here, x, y, width);
     const names = groups.map(({ px, py, places, turned }) => label(px + (turned ? -9 : 9), py - 8, `name${turned ? ' end' : ''}`, rangesOf(places)));
     const words = [
-        label(x(268), y(150 * BAR), 'region middle', 'liquid'), label(x(warm ? 380 : 330), y(150 * BAR), 'region middle', 'supercritical'),
-        label(x(283), y(9 * BAR), 'region middle', 'vapour'), label(x(253), y(23.5 * BAR), 'note end', narrow ? 'saturation' : 'saturation, ±2 bar'),
+        label(x(268), y(170 * BAR), 'region middle', 'liquid'), label(x(warm ? 400 : 329), y(9 * BAR), 'region middle', 'supercritical'),
+        label(x(281), y(9 * BAR), 'region middle', 'vapour'), label(x(253), y(23.5 * BAR), 'note end', narrow ? 'saturation' : 'saturation, ±2 bar'),
         label(x(box.right) + 7, y(box.low) + 12, 'note', narrow ? 'box' : 'critical box')];
     if (!warm) words.push(label(x(melting[melting.length - 1][0]) + 4, y(frame.highest) + 14, 'note', '← solid'));
     return ['svg', { viewBox: `0 0 ${width} ${height}`, width, height, class: 'map', 'aria-hidden': 'true' },
@@ -175,13 +175,14 @@ export function mapPicture(frame, dots, width) {
 }
 const onMap = (frame, { kelvin, pascal }) => kelvin >= ZERO - 60 && kelvin <= frame.hottest + 3 && pascal >= frame.lowest * 0.8 && pascal <= frame.highest * 1.25;
 
+const lineWord = places => places.length === 1 ? 'line' : 'lines';
 // What has no place on it, in words that stand beside it
 export function offMap(frame, dots, weighed, nowhere) {
     const beyond = dots.filter(dot => !onMap(frame, dot)).map(dot => dot.place);
     const said = [];
-    if (weighed.length) said.push(`Weighed, and so not on the map: line ${rangesOf(weighed)}.`);
-    if (beyond.length) said.push(`Beyond the map: line ${rangesOf(beyond)}.`);
-    if (nowhere.length) said.push(`No temperature with a pressure yet: line ${rangesOf(nowhere)}.`);
+    if (weighed.length) said.push(`Weighed, and so not on the map: ${lineWord(weighed)} ${rangesOf(weighed)}.`);
+    if (beyond.length) said.push(`Beyond the map: ${lineWord(beyond)} ${rangesOf(beyond)}.`);
+    if (nowhere.length) said.push(`No temperature with a pressure yet: ${lineWord(nowhere)} ${rangesOf(nowhere)}.`);
     return said.join(' ');
 }
 export function mapWords(frame, dots) {

@@ -43,10 +43,9 @@ export function sheetOf(form) {
         return null;
     };
     const read = (row, field, typed, { places, more }) => {
-        const words = mixed(typed, placeOf(row, field));
-        if (words) return mark(row, field, words);
         try {
-            const n = whole(typed, places, more);
+            const n = whole(typed, places, more), words = mixed(typed, placeOf(row, field));
+            if (words) return mark(row, field, words);
             if (mayBeThousands(typed)) notes.push({ row, field, words: readAs(typed) });
             return n;
         } catch (slip) {
@@ -55,7 +54,7 @@ export function sheetOf(form) {
     };
     const lines = [`N ${writtenAs(read(-1, 'need', form.need, SCALES.need))}`];
     form.rows.forEach((typed, row) => {
-        const kind = typed.kind in KINDS ? SCALES[typed.kind] : null;
+        const kind = Object.keys(KINDS).includes(typed.kind) ? SCALES[typed.kind] : null;
         const number = read(row, 'number', typed.number, SCALES.number);
         const celsius = read(row, 'celsius', typed.celsius, SCALES.celsius);
         const reading = kind ? read(row, 'reading', typed.reading, kind) : null;

@@ -1,4 +1,3 @@
-#!/usr/bin/env python3
 """web/comparing/sheets.py FOLDER [--sheets N] [--forms N] [--seed S]: sheets, good and damaged, and what the program writes of each; and forms as they are
 typed, and the text that each should give. For sheets.mjs:
 
@@ -147,7 +146,8 @@ class Sheets:
             text.replace(b' P ', b' '), text.replace(b'C ', b'C 0', 1), text.replace(b' W ', b' - ', 1), b'-' + text, text + b'C 1'])
 
 
-CASES = ['answered', 'answered', 'answered', 'good', 'gauges', 'gauges', 'weighings', 'readings', 'readings', 'need_is_none', 'counted', 'damaged', 'damaged', 'in_another_form']
+CASES = ['answered', 'answered', 'answered', 'good', 'gauges', 'gauges', 'weighings', 'readings', 'readings', 'need_is_none', 'counted', 'damaged', 'damaged',
+         'in_another_form']
 
 
 def explained(texts):

@@ -1,4 +1,3 @@
-#!/usr/bin/env python3
 """web/comparing/typed.py [--count N] [--seed S]: numbers as somebody types them, and what the sheet and a door should have of them, by exact fractions.
 
 Written from README's table ("A sheet"), RULES 6.2 and 6.4 and these rules of a field, and from nothing else: a number is digits 0 to 9, with at most one

@@ -146,7 +146,7 @@ export async function openLibrary(bytes) {
 
         // What a refusal says and what to do, parted at the first full stop with a space after it (RULES 14.1)
         words(number) {
-            must(Number.isInteger(number), `${number} is no refusal's number`);
+            must(Number.isInteger(number) && number >= 0 && number < 2 ** 32, `${number} is no refusal's number`);
             return memory.lend([MOST_WORDS], place => {
                 const n = answeredLength(wasm.makhroeng_words(number, place, BigInt(MOST_WORDS)), 0, MOST_WORDS);
                 must(n > 0, `there are no words for ${number}`);

@@ -216,23 +216,25 @@ impl<'a> Rest<'a> {
     }
 }
 
-/// What was lent, with guards about it.
+/// How many guards stand before what is lent, and how many after.
+const GUARDS: usize = 4;
+
+/// What is lent, and what is right after the call, both with guards about them.
 struct Lent<T> {
     room: Vec<T>,
     after: Vec<T>,
 }
 
 impl<T: Unit> Lent<T> {
-    const GUARDS: usize = 4;
-
     fn of(rest: &mut Rest, len: u64) -> Option<Lent<T>> {
-        let guarded = |part: Vec<T>| [&[T::GUARD; 4][..], &part, &[T::GUARD; 4][..]].concat();
+        let guards = [T::GUARD; GUARDS];
+        let guarded = |part: Vec<T>| [&guards[..], &part, &guards].concat();
         Some(Lent { room: guarded(rest.part(len)?), after: guarded(rest.part(len)?) })
     }
 
     fn lend(&mut self) -> &mut [T] {
         let len = self.room.len();
-        &mut self.room[Self::GUARDS..len - Self::GUARDS]
+        &mut self.room[GUARDS..len - GUARDS]
     }
 
     fn is_right(&self) -> bool {

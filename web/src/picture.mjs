@@ -167,9 +167,10 @@ export function mapPicture(frame, dots, width) {
         ['path', { class: 'line melting', d: path(melting.map(plane)) }]];
     const groups = gather(here, x, y, width);
     const names = groups.map(({ px, py, places, turned }) => label(px + (turned ? -9 : 9), py - 8, `name${turned ? ' end' : ''}`, rangesOf(places)));
+    const region = `region middle${narrow ? ' small' : ''}`;
     const words = [
-        label(x(268), y(170 * BAR), 'region middle', 'liquid'), label(x(warm ? 400 : 329), y(9 * BAR), 'region middle', 'supercritical'),
-        label(x(281), y(9 * BAR), 'region middle', 'vapour'), label(x(253), y(23.5 * BAR), 'note end', narrow ? 'saturation' : 'saturation, ±2 bar'),
+        label(x(268), y(170 * BAR), region, 'liquid'), label(x(warm ? 400 : 329), y(9 * BAR), region, 'supercritical'),
+        label(x(281), y(9 * BAR), region, 'vapour'), label(x(253), y(23.5 * BAR), 'note end', narrow ? 'saturation' : 'saturation, ±2 bar'),
         label(x(box.right) + 7, y(box.low) + 12, 'note', narrow ? 'box' : 'critical box')];
     if (!warm) words.push(label(x(melting[melting.length - 1][0]) + 4, y(frame.highest) + 14, 'note', '← solid'));
     return ['svg', { viewBox: `0 0 ${width} ${height}`, width, height, class: 'map', 'aria-hidden': 'true' },

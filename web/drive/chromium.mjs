@@ -2,17 +2,17 @@
 import { spawn } from 'node:child_process';
 import fs from 'node:fs';
 
-// name, code, number of the key; a letter types itself
+// the number of a key, what it types, and its name where that is another; a letter types itself
 const KEYS = {
-    Tab: [9], Enter: [13, '\r'], Delete: [46], Backspace: [8], Escape: [27], ArrowLeft: [37], ArrowUp: [38], ArrowRight: [39], ArrowDown: [40], Home: [36],
-        End: [35], Space: [32, ' ', ' '],
+    Tab: [9], Enter: [13, '\r'], Delete: [46], Backspace: [8], Escape: [27], ArrowLeft: [37], ArrowUp: [38], ArrowRight: [39], ArrowDown: [40],
+    Home: [36], End: [35], Space: [32, ' ', ' '],
 };
 
 export async function openChromium(program, folder) {
-    const words = ['--headless=new', '--no-sandbox', '--disable-gpu', '--disable-dev-shm-usage', '--remote-debugging-pipe', '--hide-scrollbars',
-        '--window-size=1200,900', '--lang=en-US',
-        '--no-first-run', '--disable-background-networking', '--disable-component-update', '--disable-sync', '--mute-audio',
-            `--user-data-dir=${folder}/profile`, 'about:blank'];
+    const words = ['--headless=new', '--disable-gpu', '--disable-dev-shm-usage', '--remote-debugging-pipe', '--hide-scrollbars', '--window-size=1200,900',
+        '--lang=en-US', '--no-first-run', '--disable-background-networking', '--disable-component-update', '--disable-sync', '--mute-audio',
+        ...(process.getuid() === 0 ? ['--no-sandbox'] : []), // which root can't have
+        `--user-data-dir=${folder}/profile`, 'about:blank'];
     const child = spawn(program, words, { stdio: ['ignore', 'ignore', fs.openSync(`${folder}/chromium.err`, 'w'), 'pipe', 'pipe'] });
     const waiting = new Map(), events = [];
     let number = 0, rest = '', sessionId, without;

@@ -5,20 +5,17 @@ import net from 'node:net';
 
 // WebDriver's own letters for keys
 const KEYS = {
-    Tab: '\ue004', Enter: '\ue007', Delete: '\ue017', Backspace: '\ue003', Escape: '\ue00c', ArrowLeft: '\ue012', ArrowUp: '\ue013', ArrowRight: '\ue014',
-        ArrowDown: '\ue015',
-    Home: '\ue011', End: '\ue010', Space: ' ', Control: '\ue009', Shift: '\ue008',
+    Tab: '\ue004', Enter: '\ue007', Delete: '\ue017', Backspace: '\ue003', Escape: '\ue00c', ArrowLeft: '\ue012', ArrowUp: '\ue013',
+    ArrowRight: '\ue014', ArrowDown: '\ue015', Home: '\ue011', End: '\ue010', Space: ' ', Control: '\ue009', Shift: '\ue008',
 };
 const PREFS = {
     'app.update.enabled': false, 'browser.shell.checkDefaultBrowser': false, 'datareporting.policy.dataSubmissionEnabled': false,
-        'toolkit.telemetry.enabled': false,
-    'browser.aboutwelcome.enabled': false, 'browser.startup.page': 0, 'network.captive-portal-service.enabled': false,
-        'network.connectivity-service.enabled': false,
-    'extensions.getAddons.cache.enabled': false, 'services.settings.server': 'data:,', 'browser.safebrowsing.malware.enabled': false,
-        'ui.prefersReducedMotion': 1,
-    'browser.safebrowsing.phishing.enabled': false, 'browser.download.folderList': 2, 'browser.download.useDownloadDir': true, 'intl.accept_languages': 'en-US',
-    'browser.download.always_ask_before_handling_new_types': false, 'dom.events.testing.asyncClipboard': true, 'browser.download.alwaysOpenPanel': false,
-        'accessibility.tabfocus': 7, 'layout.css.prefers-color-scheme.content-override': 1,
+    'toolkit.telemetry.enabled': false, 'browser.aboutwelcome.enabled': false, 'browser.startup.page': 0, 'network.captive-portal-service.enabled': false,
+    'network.connectivity-service.enabled': false, 'extensions.getAddons.cache.enabled': false, 'services.settings.server': 'data:,',
+    'browser.safebrowsing.malware.enabled': false, 'browser.safebrowsing.phishing.enabled': false, 'browser.download.folderList': 2,
+    'browser.download.useDownloadDir': true, 'browser.download.always_ask_before_handling_new_types': false, 'browser.download.alwaysOpenPanel': false,
+    'dom.events.testing.asyncClipboard': true, 'accessibility.tabfocus': 7, 'intl.accept_languages': 'en-US', 'ui.prefersReducedMotion': 1,
+    'layout.css.prefers-color-scheme.content-override': 1,
 };
 const sleep = ms => new Promise(done => setTimeout(done, ms));
 

@@ -97,6 +97,8 @@ const EDITS = [
     ['typed', 'decimals.mjs', 'const x = Number(text);', "const x = Number(typed.replace(',', '.')) * 10 ** (places - over) + Number(more) / 10 ** over;"],
     ['typed', 'decimals.mjs', 'if (!Number.isFinite(x)) throw', 'if (false) throw'],
     ['typed', 'decimals.mjs', 'found.size === 1', 'found.size > 0'],
+    ['typed', 'sheet.mjs', 'Number(record.temperature) / 10000', 'Number(record.temperature) * 0.0001'],
+    ['typed', 'sheet.mjs', 'Number(record.value) / 1000', 'Number(record.value) * 0.001'],
     ['replay', 'library.mjs', "'energy', 'enthalpy'", "'enthalpy', 'energy'"],
     ['replay', 'library.mjs', "256: 'vapour', 257: 'liquid'", "256: 'liquid', 257: 'vapour'"],
     ['replay', 'library.mjs', "['pressure', 'vapour', 'liquid']", "['pressure', 'liquid', 'vapour']"],
@@ -140,8 +142,8 @@ async function main([wasmFile, callsFile, typedFile, sheetsFolder]) {
     const differ = (exports, lib) => totals(replay(exports, lib, calls).counts).differ;
     const finds = {
         typed: async folder => {
-            const decimals = await moduleOf(folder, 'decimals.mjs');
-            return typed.filter(line => !right(decimals, line)).length;
+            const decimals = await moduleOf(folder, 'decimals.mjs'), sheet = await moduleOf(folder, 'sheet.mjs');
+            return typed.filter(line => !right(decimals, sheet, line)).length;
         },
         replay: async folder => differ(await instanceOf(wasm), await (await moduleOf(folder, 'library.mjs')).openLibrary(wasm)),
         sheets: async folder => {

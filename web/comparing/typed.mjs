@@ -1,8 +1,9 @@
-// node web/comparing/typed.mjs, with the lines of typed.py on standard input: what web/src/decimals.mjs makes of each number that was typed, against
-// exact fractions. Ends with how many of each case were numbers, blanks and slips, and `N compared, 0 differ`.
+// node web/comparing/typed.mjs, with the lines of typed.py on standard input: what web/src/decimals.mjs makes of each number that was typed, and what
+// web/src/sheet.mjs hands to a door of the sheet's number, against exact fractions. Ends with how many of each case were numbers, blanks and slips, and `N compared, 0 differ`.
 import { createInterface } from 'node:readline';
 import { pathToFileURL } from 'node:url';
 import * as decimals from '../src/decimals.mjs';
+import * as sheet from '../src/sheet.mjs';
 
 const view = new DataView(new ArrayBuffer(8));
 const hex = x => {
@@ -21,8 +22,11 @@ function made(decimals, work, shown) {
     }
 }
 
+// RULES 6.4: what a door is asked with for the sheet's number
+const handedOver = (sheet, { letter }, n) => letter ? sheet.askedOf({ letter, value: n }) : sheet.kelvinOf({ temperature: n });
+
 // Whether all that is made of a line is right: the sheet's number, the kind of its slip, the double of a door, the separator, and the scale's own numbers
-export function right(decimals, line) {
+export function right(decimals, sheet, line) {
     const { typed, scale, places, more, over } = line;
     const own = decimals.SCALES[scale];
     if (own.places !== places || own.more !== BigInt(more) || (own.over ?? null) !== over) return false;
@@ -31,6 +35,7 @@ export function right(decimals, line) {
     if (over !== null) {
         const double = made(decimals, () => decimals.double(typed, places, BigInt(more), over), hex);
         if (double.answer !== line.double) return false;
+        if (/^[0-9]+$/.test(line.whole) && hex(handedOver(sheet, own, BigInt(line.whole))) !== line.double) return false;
     }
     return decimals.separator(typed) === line.separator;
 }
@@ -44,7 +49,7 @@ async function main() {
         count[line.whole === null ? 'blanks' : line.whole === 'slip' ? 'slips' : 'numbers']++;
         if (line.double !== null && line.double !== 'slip') count.doubles++;
         compared++;
-        if (!right(decimals, line) && differ++ < 5) console.log('differs:', text);
+        if (!right(decimals, sheet, line) && differ++ < 5) console.log('differs:', text);
     }
     console.table(counts);
     console.log(`${compared} compared, ${differ} differ`);

@@ -2,7 +2,8 @@
  * and the scorer of cylinder banks.
  *
  * Nothing is kept between calls: there is no global, so any number of threads may call at once, as long as no two lend
- * the same output. No function allocates or prints. No pointer may be null, even where its length is 0.
+ * the same output. No function allocates or prints. No pointer may be null, even where its length is 0. The processor has to
+ * round to nearest and to keep what is below the normal range, as a C program finds it at its start (RULES 4.1).
  * RULES 3.1 is section 3.1 of docs/RULES.md. */
 #ifndef MAKHROENG_H
 #define MAKHROENG_H

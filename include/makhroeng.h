@@ -29,7 +29,8 @@ enum {
     MAKHROENG_WORKED = 260
 };
 
-/* What a door, or saturation, returns where it refuses (RULES 3.1). makhroeng_words has the words of each. */
+/* What a door, saturation, or many states at once return where they refuse (RULES 3.1). makhroeng_words has the words of
+ * each. */
 enum {
     MAKHROENG_NOT_FINITE = 3,      /* the temperature, or the pressure or density, is infinite or not a number */
     MAKHROENG_TEMPERATURE_OUT = 4, /* not 216.592 to 523 K; for saturation, not 216.592 to below 304.1282 K */
@@ -54,7 +55,7 @@ enum {
     MAKHROENG_CP,          /* J/(kg K) */
     MAKHROENG_SOUND,       /* m/s */
     MAKHROENG_FALLEN,      /* how many of the equation's 42 terms fell away: their exponential's argument is below -36 */
-    MAKHROENG_CONDUCTIVITY /* W/(m K), the thermal conductivity: the two state_ functions work it where ten are lent */
+    MAKHROENG_CONDUCTIVITY /* W/(m K), the thermal conductivity: the state_ functions work it where ten are lent, states_ always */
 };
 
 /* The places in `figures` of saturation. */
@@ -89,8 +90,10 @@ uint32_t makhroeng_state_from_density(double temperature, double density, double
  * are temperatures_len and figures_len is ten times that, it returns MAKHROENG_WORKED, and for each place i
  *     answers[i] = makhroeng_state_from_pressure(temperatures[i], pressures[i], figures + 10 * i, 10)
  * was done: a state's ten figures stand in figures[10 * i] to figures[10 * i + 9], and where answers[i] is below 256, a
- * refusal's number, these ten are as they were. Where a length doesn't fit, be it too small or too large: 15, with every
- * answer and every figure as it was. `answers` and `figures` must overlap nothing else that is lent. Since version 1.7.0. */
+ * refusal's number but never 15, these ten are as they were. Where a length doesn't fit, be it too small or too large: 15,
+ * with every answer and every figure as it was. No places at all fit too, and want pointers that aren't null all the same.
+ * `answers` and `figures` must overlap nothing else that is lent, and each array is aligned as C aligns it.
+ * Since version 1.7.0. */
 uint32_t makhroeng_states_from_pressure(const double *temperatures, size_t temperatures_len, const double *pressures,
                                         size_t pressures_len, uint32_t *answers, size_t answers_len, double *figures,
                                         size_t figures_len);

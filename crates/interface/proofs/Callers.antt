@@ -1,9 +1,8 @@
 -- What a caller may take from the promises of the two functions that give all that a state carries, what stands in the figures, by how many are lent; and
 -- from that of many states at once. Assumes nothing.
 use mathlib.Core.Path.{_≡_, refl}
-use mathlib.Core.Bool.{true}
 use mathlib.Core.List.{List}
-use Prim.Native.Nat.{ℕ, _≤_, _<_}
+use Prim.Native.Nat.{ℕ, _*_, _≤_, _<_}
 use contract.Lifetimes.{Lfts}
 use denote.Ref.{RefT, now}
 use lib.ListN.{length, getD}
@@ -19,8 +18,8 @@ use Rattle.door_conductivity.specs.Conducted.{conducting, withConductivity}
 use Rattle.door_conductivity.specs.declared.Conductivity.the-variants.{Is}
 use Rattle.interface_figures.specs.Figures.{asked, CarriedIn, CountedIn}
 use Rattle.interface_figures.proofs.Callers.{unasked, ten-ask, tenth}
-use Rattle.interface_states.specs.States.{fits}
-use Rattle.interface_states.proofs.Callers.{ten, place}
+use Rattle.interface_figures.proofs.Unique.{one-handed}
+use Rattle.interface_states.proofs.Callers.{ten, worked, place, unworked}
 use Rattle.interface.proofs.makhroeng_state_from_pressure.Reads as state-from-pressure
 use Rattle.interface.proofs.makhroeng_state_from_density.Reads as state-from-density
 use Rattle.interface.proofs.makhroeng_states_from_pressure.Reads as states-from-pressure
@@ -54,17 +53,31 @@ pub state-from-density-tenth : (κs : Lfts 1) → Figures (state-from-density.Po
     → (s : State) (x : Float) → densityDoor of1996 document01 (a .0) (a .1 .0) ≡ Answer.State s → of1996 .conductivity (s .t) (s .rho) ≡ Number x → getD new 9 nan ≡ x)
 state-from-density-tenth κs a r x p h s k e w = asked-tenth _ _ _ r h p s k e w
 
--- ---- of many states: each place is as makhroeng_state_from_pressure leaves it, where it is lent that place's ten figures
-abbrev FiguresAndAnswers : Type 0 → Type 0 → Type 0 → Type 0
-FiguresAndAnswers S T U = S × (T × (RefT (List ℕ) × (RefT (List Float) × U)))
+-- ---- of many states
 
-abbrev Worked : {A S T U : Type 0} → (A → ℕ → FiguresAndAnswers S T U → Type 0) → (A → List ℕ → List Float → Type 0) → Type 0
-Worked {A} {S} {T} {U} Post Q = (a : A) (r : ℕ) (x : FiguresAndAnswers S T U) → Post a r x → Q a (now (x .1 .1 .0)) (now (x .1 .1 .1 .0))
+abbrev AnswersAndFigures : Type 0 → Type 0 → Type 0 → Type 0
+AnswersAndFigures S T U = S × (T × (RefT (List ℕ) × (RefT (List Float) × U)))
 
-pub states-from-pressure-place : (κs : Lfts 4) → Worked (states-from-pressure.Post κs) (λ a answers figures.
-    fits (length (now (a .0))) (length (now (a .1 .0))) (length (now (a .1 .1 .0))) (length (now (a .1 .1 .1 .0))) ≡ true
-    → (i : ℕ) (d : Float) → i < length (now (a .0))
-    → CarriedIn (ten i (now (a .1 .1 .1 .0))) (ten i figures)
-    (withConductivity of1996 (asked (ten i (now (a .1 .1 .1 .0)))) (pressureDoor of1996 document01 (getD (now (a .0)) i d) (getD (now (a .1 .0)) i d)))
-    (getD answers i 0))
-states-from-pressure-place κs a r x p fit i d h = place _ _ _ _ _ _ r p fit i d h
+-- whatever meets its promise, and whatever meets that of one state
+abbrev AfterMany : {A S T U : Type 0} → (A → ℕ → AnswersAndFigures S T U → Type 0) → (A → ℕ → List ℕ → List Float → Type 0) → Type 0
+AfterMany {A} {S} {T} {U} Post Q = (a : A) (r : ℕ) (x : AnswersAndFigures S T U) → Post a r x → Q a r (now (x .1 .1 .0)) (now (x .1 .1 .1 .0))
+
+-- where the lengths fit, it returns 260, and makhroeng_state_from_pressure, where it is lent ten figures as they stand at a place, with the temperature and
+-- the pressure there, returns the answer of that place and leaves the figures of that place
+pub states-from-pressure-place : (κs : Lfts 4) (κ : Lfts 1) → AfterMany (states-from-pressure.Post κs) (λ a r answers figures.
+    length (now (a .1 .0)) ≡ length (now (a .0)) → length (now (a .1 .1 .0)) ≡ length (now (a .0))
+    → length (now (a .1 .1 .1 .0)) ≡ 10 * length (now (a .0))
+    → (r ≡ 260) × ((i : ℕ) (d : Float) → i < length (now (a .0)) → Figures (state-from-pressure.Post κ) (λ b s left.
+    b .0 ≡ getD (now (a .0)) i d → b .1 .0 ≡ getD (now (a .1 .0)) i d → now (b .1 .1 .0) ≡ ten i (now (a .1 .1 .1 .0))
+    → (s ≡ getD answers i 0) × (left ≡ ten i figures))))
+states-from-pressure-place κs κ a r x p even room tenfold = (
+  worked p even room tenfold,
+  λ i d h b s y q t e f. one-handed (rw (t, e, f) at q) (place p even room tenfold i d h),
+)
+
+-- and where one doesn't, it returns 15, and all is as it was
+pub states-from-pressure-unworked : (κs : Lfts 4) → AfterMany (states-from-pressure.Post κs) (λ a r answers figures.
+    ((length (now (a .1 .0)) ≡ length (now (a .0)))
+    × ((length (now (a .1 .1 .0)) ≡ length (now (a .0))) × (length (now (a .1 .1 .1 .0)) ≡ 10 * length (now (a .0)))) → ⊥)
+    → (r ≡ 15) × ((answers ≡ now (a .1 .1 .0)) × (figures ≡ now (a .1 .1 .1 .0))))
+states-from-pressure-unworked κs a r x p = unworked p

@@ -1,8 +1,9 @@
--- What a caller may take from the promise: at each place stands what is handed over there for one state. Assumes nothing.
+-- What a caller may take from the promise: where the lengths fit, each place is what is handed over of one state, and where they don't, all stays.
+-- Assumes nothing.
 use mathlib.Core.Path.{_≡_, refl, sym, ap, _∙_}
-use mathlib.Core.Bool.{true}
-use mathlib.Core.List.{List, [], _∷_, _++_}
-use Prim.Native.Nat.{ℕ, zero, suc, _+_, _*_, _≤_, _<_}
+use mathlib.Core.Bool.{false}
+use mathlib.Core.List.{List, [], _∷_}
+use Prim.Native.Nat.{ℕ, zero, suc, _+_, _*_, _<_}
 use native.Mathlib.Omega.{arith}
 use borrow.Author.Tests.{le-ltb, le-leb}
 use lib.ListN.{length, getD, take, drop, length-drop}
@@ -15,7 +16,7 @@ use Rattle.door_conductivity.specs.Conducted.{withConductivity}
 use Rattle.door_conductivity.specs.declared.Conducted.{Conducted}
 use Rattle.interface_figures.specs.Figures.{laidOver, conductedNumber, carried, carriedOf, asked, CarriedIn}
 use Rattle.interface_states.specs.States.{fits, given, numbers, tens, StatesIn}
-use Rattle.interface_states.proofs.Fitting.{fitting}
+use Rattle.interface_states.proofs.Fitting.{so-fits, fitting, no-fit}
 use Rattle.interface_states.proofs.Places.{at}
 
 -- what is handed over is as long as what was lent
@@ -65,16 +66,28 @@ ten-at (t ∷ ts) (p ∷ ps) figures (suc i) d e f h =
     ∙ ten-at ts ps (drop 10 figures) i d (omega (arith, e)) (rw (length-drop 10 figures) (omega (arith, f))) (omega (arith, h))
     ∙ ap (carriedOf (at (getD ts i d) (getD ps i d))) (sym (ten-behind i figures))
 
--- EACH PLACE IS WHAT IS HANDED OVER OF ONE STATE THAT IS LENT ITS TEN FIGURES
-pub place : (ts ps : List Float) (answers new : List ℕ) (figures out : List Float) (r : ℕ) → StatesIn ts ps answers new figures out r
-    → fits (length ts) (length ps) (length answers) (length figures) ≡ true → (i : ℕ) (d : Float) → i < length ts
-    → CarriedIn (ten i figures) (ten i out) (withConductivity of1996 (asked (ten i figures)) (pressureDoor of1996 document01 (getD ts i d) (getD ps i d))) (getD new i 0)
-unfolding asked
-place ts ps answers new figures out r p fit i d h =
-    let f = fitting (length ts) (length ps) (length answers) (length figures) fit in
-    let long = ten-length (length ts) i figures (f .1 .1) h in
-    rw (le-leb 10 (length (ten i figures)) (omega (arith, long)))
-    (record {
-      number = rw (le-ltb (length (ten i figures)) 8 (omega (arith, long)), p .answered, fit) (number-at ts ps i d (f .0) h);
-      figures = rw (le-ltb (length (ten i figures)) 8 (omega (arith, long)), p .figured, fit) (ten-at ts ps figures i d (f .0) (f .1 .1) h);
-    })
+-- ---- of whatever meets the promise
+module _ {ts ps : List Float} {answers new : List ℕ} {figures out : List Float} {r : ℕ} (p : StatesIn ts ps answers new figures out r) where
+  -- WHERE THE LENGTHS FIT it returns 260, and EACH PLACE IS WHAT IS HANDED OVER OF ONE STATE THAT IS LENT ITS TEN FIGURES
+  module _ (even : length ps ≡ length ts) (room : length answers ≡ length ts) (tenfold : length figures ≡ 10 * length ts) where
+    pub worked : r ≡ 260
+    worked = p .number ∙ rw (so-fits _ _ _ _ even room tenfold) refl
+
+    pub place : (i : ℕ) (d : Float) → i < length ts
+        → CarriedIn (ten i figures) (ten i out)
+        (withConductivity of1996 (asked (ten i figures)) (pressureDoor of1996 document01 (getD ts i d) (getD ps i d))) (getD new i 0)
+    unfolding asked
+    place i d h =
+        let fit = so-fits (length ts) (length ps) (length answers) (length figures) even room tenfold in
+        let long = ten-length (length ts) i figures tenfold h in
+        rw (le-leb 10 (length (ten i figures)) (omega (arith, long)))
+        (record {
+          number = rw (le-ltb (length (ten i figures)) 8 (omega (arith, long)), p .answered, fit) (number-at ts ps i d even h);
+          figures = rw (le-ltb (length (ten i figures)) 8 (omega (arith, long)), p .figured, fit) (ten-at ts ps figures i d even tenfold h);
+        })
+
+  -- WHERE A LENGTH DOESN'T FIT it returns 15, and every answer and every figure is as it was
+  pub unworked : ((length ps ≡ length ts) × ((length answers ≡ length ts) × (length figures ≡ 10 * length ts)) → ⊥) → (r ≡ 15) × ((new ≡ answers) × (out ≡ figures))
+  unworked h =
+      let e = no-fit (length ts) (length ps) (length answers) (length figures) (λ fit. h (fitting (length ts) (length ps) (length answers) (length figures) fit)) in
+      (p .number ∙ rw e refl, (p .answered ∙ rw e refl, p .figured ∙ rw e refl))

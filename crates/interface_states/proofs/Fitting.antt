@@ -25,7 +25,18 @@ each-true true true z h = (refl, (refl, h))
 each-true true false z h = absurd (true≢false (sym h))
 each-true false y z h = absurd (true≢false (sym h))
 
+pub so-fits : (n p a f : ℕ) → p ≡ n → a ≡ n → f ≡ 10 * n → fits n p a f ≡ true
+so-fits n p a f x y z = rw (eq-eqb p n x, eq-eqb a n y, eq-eqb f (10 * n) z) refl
+
 pub fitting : (n p a f : ℕ) → fits n p a f ≡ true → (p ≡ n) × ((a ≡ n) × (f ≡ 10 * n))
 fitting n p a f h =
     let e = each-true (eqb p n) (eqb a n) (eqb f (10 * n)) h in
     (eqb-true p n (e .0), (eqb-true a n (e .1 .0), eqb-true f (10 * n) (e .1 .1)))
+
+-- and where one of them fails
+either-way : (n p a f : ℕ) (b : Bool) → fits n p a f ≡ b → (fits n p a f ≡ true → ⊥) → fits n p a f ≡ false
+either-way n p a f true e h = absurd (h e)
+either-way n p a f false e h = e
+
+pub no-fit : (n p a f : ℕ) → (fits n p a f ≡ true → ⊥) → fits n p a f ≡ false
+no-fit n p a f = either-way n p a f (fits n p a f) refl

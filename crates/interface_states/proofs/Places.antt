@@ -2,7 +2,7 @@
 use mathlib.Core.Path.{_≡_, refl, sym, ap, _∙_}
 use mathlib.Core.Bool.{true, false}
 use mathlib.Core.List.{List, [], _∷_, _++_, append-assoc, append-nil}
-use Prim.Native.Nat.{ℕ, zero, suc, _+_, _-_, _*_, _≤_, _<_}
+use Prim.Native.Nat.{ℕ, zero, suc, _+_, _*_, _≤_, _<_}
 use native.Mathlib.Omega.{arith}
 use borrow.Author.Tests.{le-ltb, le-leb}
 use lib.ListN.{length, getD, take, drop, set, length-append, length-set, length-drop, take-append-drop, drop-of-length-le}
@@ -21,14 +21,14 @@ use Rattle.interface_states.proofs.Fitting.{fitting}
 abbrev pub at : Float → Float → Conducted
 at t p = withConductivity of1996 true (pressureDoor of1996 document01 t p)
 
-pub given-length : (ts ps : List Float) → length ps ≡ length ts → length (given ts ps) ≡ length ts
+given-length : (ts ps : List Float) → length ps ≡ length ts → length (given ts ps) ≡ length ts
 unfolding given
 given-length [] ps e = refl
 given-length (t ∷ ts) [] e = absurd (omega (arith, e))
 given-length (t ∷ ts) (p ∷ ps) e = ap suc (given-length ts ps (omega (arith, e)))
 
 -- place i, and those behind it
-pub given-from : (ts ps : List Float) (i : ℕ) (d : Float) → length ps ≡ length ts → i < length ts
+given-from : (ts ps : List Float) (i : ℕ) (d : Float) → length ps ≡ length ts → i < length ts
     → drop i (given ts ps) ≡ at (getD ts i d) (getD ps i d) ∷ drop (suc i) (given ts ps)
 unfolding given
 given-from [] ps i d e h = absurd (omega (arith, h))
@@ -36,7 +36,8 @@ given-from (t ∷ ts) [] i d e h = absurd (omega (arith, e))
 given-from (t ∷ ts) (p ∷ ps) zero d e h = refl
 given-from (t ∷ ts) (p ∷ ps) (suc i) d e h = given-from ts ps i d (omega (arith, e)) (omega (arith, h))
 
--- after i turns the first i places are as they are given, and with what is left to do they make the whole
+-- after i turns the first i places are as they are given, and with what is left to do they make the whole; no length has changed, by which what is
+-- known of the lengths at entry is known of those now
 pub record Turn (ts ps : List Float) (answers₀ answers : List ℕ) (figures₀ figures : List Float) (i : ℕ) : Type 0 where
   pub fit : fits (length ts) (length ps) (length answers₀) (length figures₀) ≡ true
   pub even : length ps ≡ length ts
@@ -79,7 +80,7 @@ next-number answers i a rest h =
 
 -- ten figures put behind the first k
 module _ (figures ten : List Float) (k : ℕ) (wide : k + 10 ≤ length figures) (is-ten : length ten ≡ 10) where
-  abbrev pub placed : List Float
+  abbrev placed : List Float
   placed = take k figures ++ (ten ++ drop 10 (drop k figures))
 
   front : length (take k figures ++ ten) ≡ k + 10
@@ -88,18 +89,18 @@ module _ (figures ten : List Float) (k : ℕ) (wide : k + 10 ≤ length figures)
   split : placed ≡ (take k figures ++ ten) ++ drop 10 (drop k figures)
   split = sym (append-assoc (take k figures) ten (drop 10 (drop k figures)))
 
-  pub placed-length : length placed ≡ length figures
+  placed-length : length placed ≡ length figures
   placed-length =
       ap length split ∙ length-append (take k figures ++ ten) (drop 10 (drop k figures))
       ∙ rw (front, length-drop 10 (drop k figures), length-drop k figures) (omega (arith, wide))
 
-  pub taken : take (k + 10) placed ≡ take k figures ++ ten
+  taken : take (k + 10) placed ≡ take k figures ++ ten
   taken = ap (take (k + 10)) split ∙ take-at (take k figures ++ ten) (drop 10 (drop k figures)) (k + 10) front
 
-  pub dropped : drop (k + 10) placed ≡ drop 10 (drop k figures)
+  dropped : drop (k + 10) placed ≡ drop 10 (drop k figures)
   dropped = ap (drop (k + 10)) split ∙ drop-at (take k figures ++ ten) (drop 10 (drop k figures)) (k + 10) front
 
-  pub next-tens : (a : Conducted) (rest : List Conducted) (m : ℕ) → m ≡ k + 10 → ten ≡ carriedOf a (take 10 (drop k figures))
+  next-tens : (a : Conducted) (rest : List Conducted) (m : ℕ) → m ≡ k + 10 → ten ≡ carriedOf a (take 10 (drop k figures))
       → take m placed ++ tens rest (drop m placed) ≡ take k figures ++ tens (a ∷ rest) (drop k figures)
   unfolding tens
   next-tens a rest m e is-a =

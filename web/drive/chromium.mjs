@@ -47,6 +47,8 @@ export async function openChromium(program, folder) {
         await send('Input.dispatchKeyEvent', { type: text ? 'keyDown' : 'rawKeyDown', text, ...common });
         await send('Input.dispatchKeyEvent', { type: 'keyUp', ...common });
     };
+    const media = {}; // each call says all of it
+    const emulate = change => send('Emulation.setEmulatedMedia', Object.assign(media, change));
     const run = async (source, ...args) => {
         const { result, exceptionDetails: wrong } = await send('Runtime.evaluate', {
             expression: `(${source})(...${JSON.stringify(args)})`, awaitPromise: true, returnByValue: true, userGesture: true,
@@ -68,8 +70,8 @@ export async function openChromium(program, folder) {
             { type: 'rawKeyDown', key: 'a', code: 'KeyA', windowsVirtualKeyCode: 65, modifiers: 2, commands: ['selectAll'] })
             .then(() => send('Input.dispatchKeyEvent', { type: 'keyUp', key: 'a', code: 'KeyA', windowsVirtualKeyCode: 65, modifiers: 2 })),
         size: (width, height, mobile) => send('Emulation.setDeviceMetricsOverride', { width, height, deviceScaleFactor: 1, mobile: Boolean(mobile) }),
-        scheme: name => send('Emulation.setEmulatedMedia', { features: [{ name: 'prefers-color-scheme', value: name }] }),
-        paper: is => send('Emulation.setEmulatedMedia', { media: is ? 'print' : '' }),
+        scheme: name => emulate({ features: [{ name: 'prefers-color-scheme', value: name }] }),
+        paper: is => emulate({ media: is ? 'print' : '' }),
         file: async (selector, path) => {
             const { root } = await send('DOM.getDocument');
             const { nodeId } = await send('DOM.querySelector', { nodeId: root.nodeId, selector });

@@ -97,6 +97,14 @@ export async function openFirefox(program, folder) {
         } };
         Services.obs.addObserver(${kept}.whoAsks = observer, 'http-on-modify-request');
     }`);
+    // what the browser is told comes to the page a little later
+    const matched = async (media, is) => {
+        for (let i = 0; i < 100; i++) {
+            if (await run('media => matchMedia(media).matches', media) === is) return;
+            await sleep(20);
+        }
+        throw new Error(`the page does not come to know that ${media} is ${is}`);
+    };
     const actions = list => send('WebDriver:PerformActions',
         { actions: [{ type: 'key', id: 'keys', actions: list.flatMap(([type, value]) => ({ type, value })) }] });
     const stroke = key => [['keyDown', key], ['keyUp', key]];
@@ -127,9 +135,15 @@ export async function openFirefox(program, folder) {
                 await sleep(150);
             }
         },
-        scheme: name => inside("dark => { Services.prefs.setIntPref('layout.css.prefers-color-scheme.content-override', dark ? 0 : 1); }", name === 'dark'),
+        scheme: async name => {
+            await inside("dark => { Services.prefs.setIntPref('layout.css.prefers-color-scheme.content-override', dark ? 0 : 1); }", name === 'dark');
+            await matched(`(prefers-color-scheme: ${name})`, true);
+        },
         withoutWasm: is => inside("is => { Services.prefs.setBoolPref('javascript.options.wasm', !is); }", is),
-        paper: is => inside("type => { gBrowser.selectedBrowser.browsingContext.mediumOverride = type; }", is ? 'print' : ''),
+        paper: async is => {
+            await inside('type => { gBrowser.selectedBrowser.browsingContext.mediumOverride = type; }', is ? 'print' : '');
+            await matched('print', is);
+        },
         file: async (selector, path) => {
             const { value } = await send('WebDriver:FindElement', { using: 'css selector', value: selector });
             await send('WebDriver:ElementSendKeys', { id: Object.values(value)[0], text: path });

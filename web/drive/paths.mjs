@@ -366,14 +366,16 @@ async function papers(person, check) {
             seen('footer'), ink.color, ink.backgroundColor]; };
     const black = 'rgb(0, 0, 0)', white = 'rgb(255, 255, 255)';
     check.is('on paper: no buttons, all else, black on white', await run(PAPER), [false, false, true, true, true, true, true, true, true, black, white]);
+    await browser.paper(false);
     await browser.scheme('dark');
+    check.ok('in the dark on the screen', (await run(PAPER)).at(-1) !== white);
     await browser.paper(true);
     check.is('on paper in the dark too', (await run(PAPER)).slice(-2), [black, white]);
     await run(() => { document.body.dataset.print = 'sheet'; });
     check.is('on paper, the sheet alone', await run(PAPER), [false, false, false, false, true, false, false, false, false, black, white]);
     await run(() => { delete document.body.dataset.print; });
-    await browser.scheme('light');
     await browser.paper(false);
+    await browser.scheme('light');
     await browser.pdf(path.join(person.shots, `${browser.name}-print.pdf`));
     check.ok('a PDF is made', fs.readFileSync(path.join(person.shots, `${browser.name}-print.pdf`), 'latin1').startsWith('%PDF-')
         && fs.statSync(path.join(person.shots, `${browser.name}-print.pdf`)).size > 10000);

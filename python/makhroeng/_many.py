@@ -40,8 +40,8 @@ def states(T: Numbers, p: Numbers) -> States:
     TypeError: T[1] is None: a blank is never read as a number
 
     Taken are numpy's arrays, of any shape and of floats or ints, array.array and flat sequences; two arrays of the same shape, since only a single
-    number, or an array without a dimension, is spread. What comes back is numpy's where numpy is there, else array.array. All is worked in one call, without Python's lock, at some
-    20 us a state: threads that take a slice each work side by side. It can't be interrupted.
+    number, or an array without a dimension, is spread. What comes back is numpy's where numpy is there, else array.array. All is worked in one call,
+    without Python's lock, at some 20 us a state: threads that take a slice each work side by side. It can't be interrupted.
     """
     np = _numpy()
     if np is not None:

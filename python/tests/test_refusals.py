@@ -205,8 +205,6 @@ class Blanks(unittest.TestCase):
         self.named("T[1]", makhroeng.states, numpy.ma.MaskedArray([300.0, None], dtype=object), 5e6)
         for fields in ([("a", "f8")], [("a", "f8"), ("b", "f8")]):
             self.named("p", makhroeng.states, 300.0, numpy.ma.MaskedArray(numpy.zeros(2, dtype=fields), mask=numpy.ones(2, dtype=bool)))
-        filling = numpy.ma.MaskedArray([300.0, 1e20], fill_value=300.0)
-        self.assertEqual(makhroeng.states(filling, 5e6).refused.tolist(), [0, 4])
         none_masked = numpy.ma.MaskedArray([300.0, 301.0])
         self.assertEqual(places(makhroeng.states(none_masked, 5e6)), places(makhroeng.states([300.0, 301.0], 5e6)))
 

@@ -62,7 +62,8 @@ class Reports(unittest.TestCase):
         right = makhroeng.report(SHEET)
         self.assertEqual(type(right), bytes)
         doubled = bytes(byte for byte in SHEET for _ in range(2))
-        for same in (Answering(SHEET), AnsweringArray(SHEET), bytearray(SHEET), memoryview(SHEET), memoryview(bytearray(SHEET)), memoryview(doubled)[::2], memoryview(SHEET[::-1])[::-1]):
+        for same in (Answering(SHEET), AnsweringArray(SHEET), bytearray(SHEET), memoryview(SHEET),
+                     memoryview(bytearray(SHEET)), memoryview(doubled)[::2], memoryview(SHEET[::-1])[::-1]):
             self.assertEqual(makhroeng.report(same), right)
 
     def test_not_bytes(self) -> None:

@@ -5,6 +5,7 @@ another zlib may write other bytes.
 """
 from __future__ import annotations
 
+import ast
 import base64
 import hashlib
 import platform
@@ -52,17 +53,22 @@ def contents(prefix: Path) -> tuple[str, dict[str, bytes]]:
     info = f"makhroeng-{dotted}.dist-info"
     files = {f"makhroeng/{file.name}": file.read_bytes() for file in [*PACKAGE.glob("*.py"), PACKAGE / "py.typed"]}
     files["makhroeng/_built.py"] = f'"""Written by python/build: the library that this package was built for."""\nVERSION = {number}\n'.encode()
-    files["makhroeng/libmakhroeng.so"] = library.read_bytes()
+    files[f"makhroeng/libmakhroeng.so.{number // 10000}"] = library.read_bytes()
     files[f"{info}/METADATA"] = (
         f"Metadata-Version: 2.1\nName: makhroeng\nVersion: {dotted}\n"
         "Summary: States of carbon dioxide, and the scorer of cylinder banks, by a proved library\n"
-        f"Requires-Python: >={OLDEST_PYTHON}\n"
+        f"Requires-Python: >={OLDEST_PYTHON}\nDescription-Content-Type: text/plain\n\n{description()}\n"
     ).encode()
     files[f"{info}/WHEEL"] = f"Wheel-Version: 1.0\nGenerator: makhroeng python/build\nRoot-Is-Purelib: false\nTag: {tag}\n".encode()
     files[f"{info}/top_level.txt"] = b"makhroeng\n"
     record = "".join(f"{name},sha256={digest(data)},{len(data)}\n" for name, data in sorted(files.items()))
     files[f"{info}/RECORD"] = f"{record}{info}/RECORD,,\n".encode()
     return f"makhroeng-{dotted}-{tag}.whl", files
+
+
+def description() -> str:
+    """What the package says of itself."""
+    return ast.get_docstring(ast.parse((PACKAGE / "__init__.py").read_text())) or ""
 
 
 def digest(data: bytes) -> str:
@@ -74,7 +80,7 @@ def write(path: Path, files: dict[str, bytes]) -> None:
         for name, data in sorted(files.items()):
             entry = zipfile.ZipInfo(name, (1980, 1, 1, 0, 0, 0))
             entry.create_system = 3  # Unix, whose modes these are
-            entry.external_attr = (0o100755 if name.endswith(".so") else 0o100644) << 16
+            entry.external_attr = (0o100755 if ".so." in name else 0o100644) << 16
             wheel.writestr(entry, data)
 
 

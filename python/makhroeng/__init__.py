@@ -30,8 +30,3 @@ from makhroeng._many import states
 
 __all__ = ["Phase", "Refused", "Saturation", "State", "States", "report", "saturation", "state", "states", "version"]
 __version__ = dotted(VERSION)
-
-# a traceback and a pickle name them as their users do
-for _public in (Phase, Refused, Saturation, State, States, report, saturation, state, states, version):
-    _public.__module__ = __name__
-del _public

@@ -97,19 +97,25 @@ class Refused(ValueError):
     says    the first part of them
     todo    the second
 
+    The words are for whoever fills in a sheet, and speak of its units: where they say "times 10,000" it is the sheet's 0.1 mK, while T is in K here.
+
     >>> Refused(19).says
     'Solid: dry ice and no agent that flows'
     """
 
-    number: int
-    words: str
-
     def __init__(self, number: SupportsIndex) -> None:
-        self.number = operator.index(number)
-        super().__init__(self.number)  # its one argument, by which it is pickled
-        self.words = _library.words(self.number)
+        super().__init__(int(operator.index(number)))  # its one argument, by which it is pickled
         if not self.words:
             raise ValueError(f"no refusal has the number {self.number}")
+
+    @property
+    def number(self) -> int:
+        number: int = self.args[0]
+        return number
+
+    @property
+    def words(self) -> str:
+        return _library.words(self.number)
 
     # RULES 14.1: up to the first full stop with a space after it, and then what to do
 

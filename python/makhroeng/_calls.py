@@ -5,8 +5,8 @@ import ctypes
 from typing import Any, Union, overload
 
 from makhroeng._answers import Phase, Refused, Saturation, State
-from makhroeng._library import ANSWERED, FIGURES, LIBRARY, LONGEST_REPORT, dotted
-from makhroeng._numbers import number
+from makhroeng._library import ANSWERED, FIGURES, LIBRARY, LONGEST_REPORT, TOO_SHORT, dotted
+from makhroeng._numbers import Number, number
 
 
 class _NotGiven:
@@ -23,14 +23,14 @@ _THREE = ctypes.c_double * 3
 
 
 @overload
-def state(*, T: float, p: float) -> State: ...
+def state(*, T: Number, p: Number) -> State: ...
 
 
 @overload
-def state(*, T: float, rho: float) -> State: ...
+def state(*, T: Number, rho: Number) -> State: ...
 
 
-def state(*, T: float, p: float = _NOT_GIVEN, rho: float = _NOT_GIVEN) -> State:
+def state(*, T: Number, p: Number = _NOT_GIVEN, rho: Number = _NOT_GIVEN) -> State:
     """The state at T, in K, and either the pressure p, in Pa and absolute, or the density rho, in kg/m3; raises Refused where there is none.
 
     >>> s = state(T=313.15, p=10e6)
@@ -58,7 +58,7 @@ def state(*, T: float, p: float = _NOT_GIVEN, rho: float = _NOT_GIVEN) -> State:
     return State._make((_PHASES[answer], *eight, int(fallen), conductivity))
 
 
-def saturation(T: float) -> Saturation:
+def saturation(T: Number) -> Saturation:
     """The vapour pressure and the saturated densities at T, in K: a cylinder that holds both liquid and vapour shows this pressure, however much it
     holds. Raises Refused, by 4 from the critical temperature on.
 
@@ -86,9 +86,12 @@ def report(sheet: Union[bytes, bytearray, memoryview]) -> bytes:
         raise TypeError(f"report() takes a sheet's bytes, as Path(name).read_bytes() gives them, and not a {type(sheet).__name__}")
     if isinstance(sheet, memoryview) and sheet.itemsize != 1:
         raise TypeError(f"report() takes bytes, and this memoryview is of items of {sheet.itemsize}")
-    text = bytes(sheet)  # nobody else can write to them, or let go of them, while the library reads
+    # a copy: nobody else can write to it, or let go of it, while the library reads. By memoryview: what a subclass holds, whatever it would say of itself
+    text = bytes(memoryview(sheet))
     out = ctypes.create_string_buffer(LONGEST_REPORT)
     length: int = LIBRARY.makhroeng_report(text, len(text), out, LONGEST_REPORT)  # before out.raw, which copies
+    if length == 0:
+        raise Refused(TOO_SHORT)
     return out.raw[:length]
 
 

@@ -8,7 +8,7 @@ from typing import Any
 
 from makhroeng._answers import Refused, States
 from makhroeng._library import ANSWERED, FIGURES, LIBRARY, WORKED
-from makhroeng._numbers import Numbers, is_sequence, number, numpys, sequence
+from makhroeng._numbers import MANY, Numbers, is_sequence, number, numpys, sequence
 
 NAN = float("nan")
 _SOMEWHERE = ctypes.c_double()  # what an empty array points to: no pointer may be null
@@ -40,8 +40,8 @@ def states(T: Numbers, p: Numbers) -> States:
     TypeError: T[1] is None: a blank is never read as a number
 
     Taken are numpy's arrays, of any shape and of floats or ints, array.array and flat sequences; two arrays of the same shape, since only a single
-    number is spread. What comes back is numpy's where numpy is there, else array.array. All is worked in one call, without Python's lock, at some
-    20 us a state: threads that take a slice each work side by side. It can't be interrupted.
+    number, or an array without a dimension, is spread. What comes back is numpy's where numpy is there, else array.array. All is worked in one call,
+    without Python's lock, at some 20 us a state: threads that take a slice each work side by side. It can't be interrupted.
     """
     np = _numpy()
     if np is not None:
@@ -55,10 +55,10 @@ def _by_numpy(np: Any, T: Numbers, p: Numbers) -> States:
             return np.array(sequence(name, x), dtype=np.float64)
         if isinstance(x, np.ndarray):
             return numpys(np, name, x)
-        return number(name, x)
+        return number(name, x, MANY)
 
     def spread(x: Any, shape: tuple[int, ...]) -> Any:
-        return np.full(shape, x) if isinstance(x, float) else x
+        return x if np.shape(x) else np.full(shape, x, dtype=np.float64)
 
     temperatures, pressures = taken("T", T), taken("p", p)
     shape = _shape(getattr(temperatures, "shape", None), getattr(pressures, "shape", None))
@@ -74,7 +74,7 @@ def _by_numpy(np: Any, T: Numbers, p: Numbers) -> States:
 
 def _by_arrays(T: Numbers, p: Numbers) -> States:
     def taken(name: str, x: Any) -> Any:
-        return sequence(name, x) if is_sequence(x) else number(name, x)
+        return sequence(name, x) if is_sequence(x) else number(name, x, MANY)
 
     def length(x: Any) -> Any:
         return (len(x),) if isinstance(x, array) else None
@@ -91,13 +91,12 @@ def _by_arrays(T: Numbers, p: Numbers) -> States:
 
 
 def _shape(of_temperatures: Any, of_pressures: Any) -> tuple[int, ...]:
-    """The shape of both. A single number has none."""
+    """The shape of both. A single number has none, and numpy's array without a dimension is one as well."""
     if of_temperatures is None and of_pressures is None:
         raise TypeError("states() takes arrays, and T and p are a number each: state() is for one state")
-    if of_temperatures is not None and of_pressures is not None and of_temperatures != of_pressures:
+    if of_temperatures and of_pressures and of_temperatures != of_pressures:
         raise ValueError(f"the lengths don't fit: T has the shape {of_temperatures}, and p {of_pressures}")
-    shape: tuple[int, ...] = of_pressures if of_temperatures is None else of_temperatures
-    return shape
+    return of_temperatures or of_pressures or ()
 
 
 def _work(count: int, *addresses: int) -> None:

@@ -1,11 +1,13 @@
 """States over arrays: each place what state() gives for it, whatever form the arrays have."""
 import concurrent.futures
 import os
+import tempfile
 import time
 import types
 import unittest
 import unittest.mock
 from array import array
+from typing import Any
 
 import makhroeng
 from common import FIGURES, NAN, column, numpy, places, state_or_refusal, with_numpy
@@ -81,6 +83,75 @@ class Forms(unittest.TestCase):
         same = column([300.0, 310.0])
         self.assertEqual(makhroeng.states(same, same).refused.tolist(), [5, 5])
 
+    def test_what_is_lent(self) -> None:
+        """Arrays of the package's own: whoever gave them may write to theirs while the library reads."""
+        library = makhroeng._many.LIBRARY
+        for held in (list, column, lambda xs: array("d", xs)):
+            ts, ps = held(TS), held(PS)
+
+            def meanwhile(*lent: int) -> int:
+                for i in range(len(TS)):
+                    ts[i], ps[i] = 300.0, 5e6
+                return library.makhroeng_states_from_pressure(*lent)
+
+            with unittest.mock.patch.object(makhroeng._many, "LIBRARY", types.SimpleNamespace(makhroeng_states_from_pressure=meanwhile)):
+                self.assertEqual(places(makhroeng.states(ts, ps)), ONE_BY_ONE)
+            self.assertEqual([list(ts), list(ps)], [[300.0] * len(TS), [5e6] * len(TS)])
+
+    @with_numpy
+    def test_written_meanwhile(self) -> None:
+        """Whenever another thread writes to an array that is being copied: what is worked was looked at. It writes at the nth look at numpy here."""
+        good, large = [300, 301, 302], 2**53 + 1
+
+        class Meddled:
+            """numpy, with a write at the nth look."""
+
+            def __init__(self, n: int, write: Any) -> None:
+                self.left, self.write = n, write
+
+            def __getattr__(self, name: str) -> Any:
+                self.left -= 1
+                if self.left == 0:
+                    self.write()
+                return getattr(numpy, name)
+
+        def told(made: Any, write: Any) -> list[Any]:
+            """What came of it where the write was at the first look, the second, and so on until it would come too late."""
+            found = []
+            for n in range(1, 1000):
+                xs = made()
+                meddled = Meddled(n, lambda: write(xs))
+                try:
+                    found.append(makhroeng._numbers.numpys(meddled, "T", xs).tolist())
+                except (TypeError, ValueError) as error:
+                    found.append(str(error))
+                if meddled.left > 0:
+                    return found
+            raise AssertionError
+
+        def masked(xs: Any) -> None:
+            xs[1] = numpy.ma.masked
+            xs.data[1] = 999
+
+        def unmasked(xs: Any) -> None:
+            xs[1] = 301
+
+        def blank() -> Any:
+            return numpy.ma.MaskedArray([300, 999, 302], mask=[False, True, False])
+
+        beyond, hidden = "T[1] is an int beyond 2**53 on either side of 0: not every one is a float", "T[1] is masked: a blank is never read as a number"
+        for dtype in ("int64", "uint64", ">i8", object):
+            found = told(lambda: numpy.array(good, dtype=dtype), lambda xs: xs.__setitem__(1, large))
+            self.assertEqual([one for one in found if one not in (good, beyond)], [], dtype)
+            self.assertEqual([found[0], found[-1]], [beyond, good])
+        for dtype in ("int64", "float64", object):
+            found = told(lambda: numpy.ma.MaskedArray(good, mask=[False] * 3, dtype=dtype), masked)
+            self.assertEqual([one for one in found if one not in (good, hidden)], [], dtype)
+            self.assertEqual([found[0], found[-1]], [hidden, good])
+        found = told(blank, unmasked)
+        self.assertEqual([one for one in found if one not in (good, hidden)], [])
+        self.assertEqual([found[0], found[-1]], [good, hidden])
+
     @with_numpy
     def test_shapes(self) -> None:
         ts, ps = numpy.array(TS[:6]), numpy.array(PS[:6])
@@ -94,8 +165,18 @@ class Forms(unittest.TestCase):
                 makhroeng.states(numpy.full(one, 300.0), numpy.full(other, 5e6))
         for shape in ((0,), (0, 3), (3, 0)):
             self.assertEqual({kept.shape for kept in makhroeng.states(numpy.zeros(shape), 5e6)}, {shape})
-        alone = makhroeng.states(numpy.array(253.15), 2.5e6)
-        self.assertEqual((alone.rho.shape, float(alone.rho)), ((), makhroeng.state(T=253.15, p=2.5e6).rho))
+
+    @with_numpy
+    def test_no_dimension(self) -> None:
+        """Such an array is a single number (RULES 16), and with another one an array of no dimension."""
+        for t in (numpy.array(253.15), numpy.array(253.15, dtype=object), numpy.ma.MaskedArray(253.15)):
+            for p in (2.5e6, numpy.array(2500000)):
+                alone = makhroeng.states(t, p)
+                self.assertEqual((alone.rho.shape, float(alone.rho)), ((), makhroeng.state(T=253.15, p=2.5e6).rho))
+            self.assertEqual(places(makhroeng.states(t, PS)), places(makhroeng.states(253.15, PS)))
+            self.assertEqual(makhroeng.states(t, numpy.full((2, 3), 2.5e6)).rho.shape, (2, 3))
+            self.assertEqual(makhroeng.states(t, []).rho.shape, (0,))
+        self.assertEqual(places(makhroeng.states(TS, numpy.array(5000000))), places(makhroeng.states(TS, 5e6)))
 
     @with_numpy
     def test_layouts(self) -> None:
@@ -117,8 +198,21 @@ class Forms(unittest.TestCase):
         fixed = ts.copy()
         fixed.flags.writeable = False
         self.assertEqual(places(makhroeng.states(fixed, ps)), right)
-        small = ts.astype(numpy.float32)
-        self.assertEqual(places(makhroeng.states(small, ps)), places(makhroeng.states([float(t) for t in small], ps)))
+        for dtype in ("float32", "float16", "int16", ">i2", "uint16", "int32"):
+            small = ts.astype(dtype)
+            self.assertEqual(places(makhroeng.states(small, ps)), places(makhroeng.states([float(t) for t in small], ps)))
+        with tempfile.NamedTemporaryFile() as file:
+            file.write(ts.tobytes())
+            file.flush()
+            self.assertEqual(places(makhroeng.states(numpy.memmap(file.name, dtype=numpy.float64), ps)), right)
+
+    @with_numpy
+    def test_objects_in_fortrans_order(self) -> None:
+        ts = numpy.array([[300, 301.0, 302], [303, 304, None]], dtype=object)
+        with self.assertRaisesRegex(TypeError, r"^T\[1, 2\] is None"):
+            makhroeng.states(numpy.asfortranarray(ts), 5e6)
+        ts[1, 2] = 305
+        self.assertEqual(makhroeng.states(numpy.asfortranarray(ts), 5e6).T.tolist(), [[300.0, 301.0, 302.0], [303.0, 304.0, 305.0]])
 
 
 MANY, EACH = 24_000, 1_500

@@ -76,6 +76,7 @@ def told(words: list[str]) -> tuple[Any, ...]:
 
 class Crosscheck(unittest.TestCase):
     def compare(self, what: str, asked: list[Any], found: list[Any], right: list[Any]) -> None:
+        self.assertGreater(len(asked), 0)
         self.assertEqual([len(found), len(right)], [len(asked)] * 2)
         differ = [case for case in zip(asked, found, right) if case[1] != case[2]]
         kinds = collections.Counter("answered" if len(told) > 1 else f"refused by {told[0]}" for told in right)
@@ -132,8 +133,11 @@ class Crosscheck(unittest.TestCase):
                 return (refused.args[0],)
             return (phase, *map(bits, eight), bits(float(fallen)), bits(conductivity))
 
+        def few(part: int, most: int) -> int:
+            return min(max(STATES // part, 1), most)
+
         chance = random.Random(SEED + 4)
-        for name, door, count in (("p", doors.by_pressure, min(STATES // 1000, 30)), ("rho", doors.by_density, min(STATES // 100, 300))):
+        for name, door, count in (("p", doors.by_pressure, few(1000, 30)), ("rho", doors.by_density, few(100, 300))):
             pairs = [asked(chance, name) for _ in range(count)]
             found = [state_or_refusal(**{"T": t, name: x}) for t, x in pairs]
             self.compare(f"state(T, {name}) and crosscheck/doors.py", pairs, found, [right(door, t, x) for t, x in pairs])

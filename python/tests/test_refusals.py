@@ -2,6 +2,7 @@
 import decimal
 import fractions
 import unittest
+import warnings
 from array import array
 from typing import Any
 
@@ -30,6 +31,30 @@ SATURATION = [(3, NAN), (3, INF), (3, -INF), (4, 216.59199999999998), (4, 304.12
 class WithoutNumber:
     def __float__(self) -> float:
         return 300.0
+
+
+class Answering(float):
+    """What answers for itself, as the next three; what they hold is what counts."""
+
+    def __float__(self) -> float:
+        return 999.0
+
+
+class AnsweringInt(int):
+    def __float__(self) -> float:
+        return 999.0
+
+    def __index__(self) -> int:
+        return 999
+
+    __int__ = __index__
+
+
+class Small(int):
+    def __le__(self, other: Any) -> bool:
+        return True
+
+    __ge__ = __lt__ = __gt__ = __le__
 
 
 class Carrying:
@@ -114,6 +139,9 @@ class Blanks(unittest.TestCase):
         for x in (None, True, "300", b"300", bytearray(b"300"), memoryview(b"300"), {300.0: 1}, {300.0}, iter([300.0]), object()):
             self.named("T", makhroeng.states, x, [5e6])
             self.named("p", makhroeng.states, [300.0], x)
+            if x is not None:
+                with self.assertRaisesRegex(TypeError, "a number, a flat sequence of numbers or one of numpy's own arrays is wanted$"):
+                    makhroeng.states(x, [5e6])
         self.named("T[0]", makhroeng.states, array("u", "3"), 5e6)
 
     def test_ints(self) -> None:
@@ -131,6 +159,20 @@ class Blanks(unittest.TestCase):
                     with self.assertRaisesRegex(ValueError, r"^p(\[0\])? is an int beyond") as caught:
                         call(whole)
                     self.assertNotIsInstance(caught.exception, makhroeng.Refused)
+
+    def test_subclasses(self) -> None:
+        for t in (Answering(300), AnsweringInt(300), Small(300)):
+            self.assertEqual(makhroeng.state(T=t, p=5e6), makhroeng.state(T=300.0, p=5e6))
+            self.assertEqual(type(makhroeng.saturation(t).T), float)
+            self.assertEqual(list(makhroeng.states([t, 310.0], 5e6).T), [300.0, 310.0])
+            self.assertEqual(list(makhroeng.states(t, [5e6]).T), [300.0])
+        self.assertRaisesRegex(ValueError, "^T is an int beyond", makhroeng.saturation, Small(2**53 + 1))
+
+    @with_numpy
+    def test_numpys_subclasses(self) -> None:
+        for kind in (numpy.float16, numpy.float32, numpy.float64, numpy.int32, numpy.int64):
+            own = type("Own", (kind,), {"__float__": lambda self: 999.0, "__int__": lambda self: 999, "__index__": lambda self: 999})
+            self.assertEqual(makhroeng.state(T=own(300), p=5e6), makhroeng.state(T=300.0, p=5e6))
 
     @with_numpy
     def test_numpys_numbers(self) -> None:
@@ -153,6 +195,16 @@ class Blanks(unittest.TestCase):
             makhroeng.states(numpy.full((2, 2), 300.0), numpy.ma.masked_equal(numpy.array([[5e6, 5e6], [1e6, 5e6]]), 1e6))
         self.named("T[0]", makhroeng.states, [numpy.ma.masked], 5e6)
         self.named("T[0]", makhroeng.states, [ts], 5e6)
+        for dtype in ("int64", "int16", "uint8", ">i8", "float32", object):
+            with self.assertRaisesRegex(TypeError, r"^T\[1\] is masked"):
+                makhroeng.states(numpy.ma.MaskedArray([100, 101, 102], mask=[False, True, False], dtype=dtype), 5e6)
+        with self.assertRaisesRegex(TypeError, r"^T\[1\] is masked"):
+            makhroeng.states(numpy.ma.MaskedArray([300.0, None], mask=[False, True], dtype=object), 5e6)
+        with self.assertRaisesRegex(TypeError, "^T is masked"):
+            makhroeng.states(numpy.ma.MaskedArray(300.0, mask=True), [5e6])
+        self.named("T[1]", makhroeng.states, numpy.ma.MaskedArray([300.0, None], dtype=object), 5e6)
+        for fields in ([("a", "f8")], [("a", "f8"), ("b", "f8")]):
+            self.named("p", makhroeng.states, 300.0, numpy.ma.MaskedArray(numpy.zeros(2, dtype=fields), mask=numpy.ones(2, dtype=bool)))
         none_masked = numpy.ma.MaskedArray([300.0, 301.0])
         self.assertEqual(places(makhroeng.states(none_masked, 5e6)), places(makhroeng.states([300.0, 301.0], 5e6)))
 
@@ -167,11 +219,24 @@ class Blanks(unittest.TestCase):
             self.named("p", makhroeng.states, 300.0, numpy.zeros(2, dtype=dtype))
         self.named("p", makhroeng.states, [300.0], Carrying())
         self.named("p", makhroeng.states, [300.0], numpy.matrix([[5e6]]))
-        for dtype, x in (("int64", 2**53 + 1), ("int64", -(2**53) - 1), ("uint64", 2**53 + 1)):
-            with self.assertRaisesRegex(ValueError, r"^p\[0, 1\] is an int beyond"):
-                makhroeng.states(300.0, numpy.array([[5000000, x]], dtype=dtype))
+        for dtype in ("int64", ">i8", "uint64", ">u8", object):
+            for sign in (1, -1) if dtype not in ("uint64", ">u8") else (1,):
+                with self.assertRaisesRegex(ValueError, r"^p\[0, 1\] is an int beyond"):
+                    makhroeng.states(300.0, numpy.array([[5000000, sign * (2**53 + 1)]], dtype=dtype))
+                self.assertEqual(makhroeng.states(300.0, numpy.array([[5000000, sign * 2**53]], dtype=dtype)).refused.tolist(), [[0, 5]])
+        self.assertEqual(makhroeng.states(numpy.array([100, -100], dtype="int8"), 5e6).refused.tolist(), [4, 4])
         for dtype in ("int64", "uint64", "int32", "uint32", ">i8", "float32", ">f8"):
             self.assertEqual(places(makhroeng.states(300.0, numpy.array([5000000, 6000000], dtype=dtype))), places(makhroeng.states(300.0, [5e6, 6e6])))
+
+    @with_numpy
+    def test_signalling(self) -> None:
+        """A NaN that signals is a NaN, however numpy is told to take errors."""
+        with numpy.errstate(all="raise"), warnings.catch_warnings():
+            warnings.simplefilter("error")
+            for whole, dtype in ((0x7F800001, "4"), (0x7FF0000000000001, "8"), (0x7C01, "2")):
+                ts = numpy.array([whole], dtype=f"u{dtype}").view(f"f{dtype}")
+                self.assertEqual(makhroeng.states(ts, 5e6).refused.tolist(), [3])
+                self.assertRaisesRegex(makhroeng.Refused, "^refused by 3", makhroeng.state, T=ts[0], p=5e6)
 
 
 if __name__ == "__main__":

@@ -1,6 +1,8 @@
 """Reports of sheets: what is stored, what is no sheet, and what is not bytes."""
 import subprocess
+import types
 import unittest
+import unittest.mock
 from pathlib import Path
 from typing import Any
 
@@ -8,7 +10,19 @@ import makhroeng
 from common import AGAIN, ROOT, with_again
 
 STORED = ROOT / "examples/stored"
-SHEET = (STORED / "covered.sheet").read_bytes()
+SHEET, RIGHT = (STORED / "covered.sheet").read_bytes(), (STORED / "covered.report").read_bytes()
+
+
+class Answering(bytes):
+    """What answers for itself; what it holds is what counts."""
+
+    def __bytes__(self) -> bytes:
+        return b"other"
+
+
+class AnsweringArray(bytearray):
+    def __bytes__(self) -> bytes:
+        return b"other"
 
 
 class Reports(unittest.TestCase):
@@ -48,14 +62,35 @@ class Reports(unittest.TestCase):
         right = makhroeng.report(SHEET)
         self.assertEqual(type(right), bytes)
         doubled = bytes(byte for byte in SHEET for _ in range(2))
-        for same in (bytearray(SHEET), memoryview(SHEET), memoryview(bytearray(SHEET)), memoryview(doubled)[::2], memoryview(SHEET[::-1])[::-1]):
+        for same in (Answering(SHEET), AnsweringArray(SHEET), bytearray(SHEET), memoryview(SHEET),
+                     memoryview(bytearray(SHEET)), memoryview(doubled)[::2], memoryview(SHEET[::-1])[::-1]):
             self.assertEqual(makhroeng.report(same), right)
 
     def test_not_bytes(self) -> None:
-        others: list[Any] = [SHEET.decode(), "", None, list(SHEET), Path("sheet.txt"), 65536, memoryview(b"12345678").cast("d"), True]
+        others: list[Any] = [SHEET.decode(), "", None, list(SHEET), Path("sheet.txt"), 65536, True]
+        others += [memoryview(SHEET[:len(SHEET) // 8 * 8]).cast(items) for items in "dfiIhHqQ"]
         for other in others:
             with self.assertRaisesRegex(TypeError, r"^report\(\) takes"):
                 makhroeng.report(other)
+
+    def test_what_is_lent(self) -> None:
+        """Bytes of the package's own: whoever gave them may write to theirs while the library reads."""
+        for given in (bytearray(SHEET), memoryview(bytearray(SHEET))):
+            def meanwhile(*lent: Any) -> int:
+                given[:] = b"x" * len(given)
+                return library.makhroeng_report(*lent)
+
+            library = makhroeng._calls.LIBRARY
+            with unittest.mock.patch.object(makhroeng._calls, "LIBRARY", types.SimpleNamespace(makhroeng_report=meanwhile)):
+                self.assertEqual(makhroeng.report(given), RIGHT)
+            self.assertEqual(bytes(given), b"x" * len(SHEET))
+
+    def test_no_report(self) -> None:
+        """RULES 12: 0 is no length but a refusal by 15."""
+        with unittest.mock.patch.object(makhroeng._calls, "LIBRARY", types.SimpleNamespace(makhroeng_report=lambda *_: 0)):
+            with self.assertRaises(makhroeng.Refused) as caught:
+                makhroeng.report(SHEET)
+        self.assertEqual(caught.exception.number, 15)
 
     def again(self, text: bytes) -> bytes:
         return subprocess.run([AGAIN, "--report"], input=text, capture_output=True, check=True).stdout

@@ -18,6 +18,17 @@ many = makhroeng.states([253.15, 300], 2.5e6)
 assert_type(many.rho, NDArray[numpy.float64])
 assert_type(many.refused, NDArray[numpy.uint32])
 makhroeng.states(numpy.linspace(250.0, 300.0, 6), numpy.array([1, 2, 3]))
+makhroeng.states(numpy.array([[1.0]], dtype=numpy.float32), 2.5e6)
+# numpy's own numbers, one by one and in sequences
+makhroeng.state(T=numpy.float64(300), p=numpy.mean(numpy.array([5e6, 6e6])))
+makhroeng.state(T=numpy.float32(300), rho=numpy.int64(100))
+makhroeng.saturation(numpy.mean(numpy.array([290.0, 300.0])))
+makhroeng.saturation(numpy.uint16(290))
+makhroeng.states(numpy.int64(300), [numpy.float64(5e6), numpy.int64(6000000), 7e6])
+floats = [numpy.float32(300), numpy.float32(310)]
+wholes = (numpy.int64(300), numpy.int64(310))
+makhroeng.states(floats, wholes)
+makhroeng.states(list(numpy.linspace(250.0, 300.0, 6)), numpy.float64(2.5e6))
 try:
     makhroeng.saturation(400.0)
 except makhroeng.Refused as refused:
@@ -30,5 +41,12 @@ makhroeng.state(T=253.15, p=2.5e6, rho=1034.0)  # type: ignore[call-overload]
 makhroeng.state(253.15, 2.5e6)  # type: ignore[call-overload]
 makhroeng.state(T="253.15", p=2.5e6)  # type: ignore[call-overload]
 makhroeng.states([253.15, None], 2.5e6)  # type: ignore[list-item]
+makhroeng.state(T=b"253.15", p=2.5e6)  # type: ignore[call-overload]
+makhroeng.saturation(b"253.15")  # type: ignore[arg-type]
+makhroeng.states("253.15", 2.5e6)  # type: ignore[arg-type]
+makhroeng.states(253.15, None)  # type: ignore[arg-type]
+makhroeng.states(numpy.zeros(2, dtype=numpy.bool_), 2.5e6)  # type: ignore[arg-type]
+# states(b"253.15", 2.5e6) can't be told apart by types, since bytes are a sequence of ints: it is a TypeError when it runs
 makhroeng.report("N 1\n")  # type: ignore[arg-type]
+refused.number = 3  # type: ignore[misc]
 found.rho = 1.0  # type: ignore[misc]

@@ -13,7 +13,7 @@ const SOURCES = fileURLToPath(new URL('../src', import.meta.url));
 
 // A recording with one in a hundred of the calls for words, which are most of a small one
 const WORDS = 7;
-function thinned(recording) {
+export function thinned(recording) {
     const kept = [...callsOf(recording)].filter(({ number }, i) => number !== WORDS || i % 100 === 0);
     const end = Buffer.alloc(16);
     end.writeUInt32LE(16, 4);
@@ -122,6 +122,21 @@ const EDITS = [
     ['sheets', 'sheet.mjs', 'other.number === record.number) + 1', 'other.number === record.number) + 2'],
     ['sheets', 'sheet.mjs', 'found.at - from + 1', 'found.at - from'],
     ['sheets', 'sheet.mjs', "'No number has a 0 in front.'", "'No number has a zero in front.'"],
+    ['sheets', 'sheet.mjs', 'more >= 0n ? ', 'more > 0n ? '],
+    ['sheets', 'sheet.mjs', "(total >= need ? 'COVERED' : 'SHORT')", "(total > need ? 'COVERED' : 'SHORT')"],
+    ['sheets', 'sheet.mjs', 'return mark(row, field, slip.message);', "return mark(row, 'number', slip.message);"],
+    ['sheets', 'sheet.mjs', 'return mark(row, field, slip.message);', 'return mark(row - 1, field, slip.message);'],
+    ['sheets', 'sheet.mjs', 'return mark(row, field, slip.message);', "return mark(row, field, '');"],
+    ['sheets', 'sheet.mjs', "mark(row, 'kind', 'Say what was read", "mark(row, 'reading', 'Say what was read"],
+    ['sheets', 'sheet.mjs', 'if (words) return mark(row, field, words);', "if (words) return mark(row, 'need', words);"],
+    ['sheets', 'sheet.mjs', 'first = { sign, place };', 'first = { sign: sign === "," ? "." : ",", place };'],
+    ['sheets', 'sheet.mjs', 'if (mayBeThousands(typed)) notes.push(', 'if (false) notes.push('],
+    ['sheets', 'sheet.mjs', 'words: readAs(typed), thousands: true', 'words: readAs(typed), thousands: false'],
+    ['sheets', 'sheet.mjs', "text.replace(/[.,]/, '')}.`", "text.replace(/[,]/, '')}.`"],
+    ['sheets', 'sheet.mjs', "notes.push({ row, field: 'celsius',", "notes.push({ row, field: 'reading',"],
+    ['sheets', 'decimals.mjs', '[1-9][0-9]{0,2}[.,][0-9]{3}', '[0-9][0-9]{0,2}[.,][0-9]{3}'],
+    ['sheets', 'decimals.mjs', '[1-9][0-9]{0,2}[.,][0-9]{3}', '[1-9][0-9]{0,2}[,][0-9]{3}'],
+    ['typed', 'decimals.mjs', "if (places === 0 && separator(typed) !== '') throw", 'if (false) throw'],
 ];
 // each form of a slip taken out
 const slipRows = () => fs.readFileSync(path.join(SOURCES, 'decimals.mjs'), 'utf8').split('\n').filter(line => /^ {4}\[\/.*\/u?, '/.test(line));

@@ -1,6 +1,6 @@
 // node web/comparing/sheets.mjs LIBRARY.wasm FOLDER: what web/src/sheet.mjs says of each sheet of sheets.py, beside what the program wrote, byte by byte:
 // its report, every line with its numbers as they are shown, its refusals, its warnings and its ending (RULES 7, 14). And the text that it makes of each
-// form, beside the one that was worked elsewhere. Ends with `N compared, 0 differ`.
+// form, the fields that it marks and those that it notes, beside what was worked elsewhere (RULES 15.1). Ends with `N compared, 0 differ`.
 import fs from 'node:fs';
 import { pathToFileURL } from 'node:url';
 import { openLibrary } from '../src/library.mjs';
@@ -21,6 +21,14 @@ const SEEN = {
     'lines above 750 kg/m3': /is more than a cylinder is filled with/g, 'places in a text': /^Line \d+, column /gm,
 };
 const seenIn = (texts, form) => texts.reduce((n, text) => n + [...text.matchAll(form)].length, 0);
+
+// What a form becomes, in the order of sheets.py. Each mark has words.
+function madeOf(sheet, form) {
+    const { text, marks, notes } = sheet.sheetOf(form);
+    const order = (a, b) => a[0] - b[0] || (a[1] < b[1] ? -1 : a[1] > b[1] ? 1 : a[2] < b[2] ? -1 : 1);
+    return { text, marks: marks.map(({ row, field, words }) => words ? [row, field] : [row, field, 'without words']).sort(order),
+        notes: notes.map(({ row, field, words, thousands = false }) => [row, field, words, thousands]).sort(order) };
+}
 
 const orFault = ask => {
     try {
@@ -44,10 +52,14 @@ export function compare(sheet, lib, { sheets, forms }, say = () => {}) {
         const name = `sheets, ${kind}`;
         if (!note(name, got === wrote) && counts[name].differ === 1) say(`differs, ${kind}:\n${wrote}-- and web/src/sheet.mjs:\n${got}`);
     }
-    for (const { form, text } of forms) {
-        const got = orFault(() => sheet.sheetOf(form).text);
-        const kind = text === null ? 'forms that have no sheet' : 'forms that have one';
-        if (!note(kind, got === text) && counts[kind].differ === 1) say(`differs: ${JSON.stringify(form)}\n${text}-- and web/src/sheet.mjs:\n${got}`);
+    for (const { form, ...want } of forms) {
+        const got = orFault(() => madeOf(sheet, form)), kinds = { text: want.text === null ? 'forms that have no sheet' : 'forms that have one',
+            marks: want.marks.length ? 'forms with fields marked' : 'forms with none marked', notes: want.notes.length ? 'forms with fields noted'
+                : 'forms with none noted' };
+        for (const [part, kind] of Object.entries(kinds)) {
+            const [is, should] = [JSON.stringify(got[part]), JSON.stringify(want[part])];
+            if (!note(kind, is === should) && counts[kind].differ === 1) say(`differs: ${JSON.stringify(form)}\n${should}\n-- and web/src/sheet.mjs:\n${is}`);
+        }
     }
     return counts;
 }

@@ -2,16 +2,18 @@
 typed, and the text that each should give. For sheets.mjs:
 
     FOLDER/sheets.json  a line for each sheet: {"case": .., "text": its bytes in base64, "wrote": what target/bin/scorer --explain wrote, its report too}
-    FOLDER/forms.json   a line for each form: {"form": {"need": .., "rows": [..]}, "text": the sheet's text, or null where it has none}
+    FOLDER/forms.json   a line for each form: {"form": {"need": .., "rows": [..]}, "text": the sheet's text, or null where it has none, "marks": the fields
+                        that are marked, each [row, field], "notes": those that are noted, each [row, field, words, whether thousands may be meant]}
 
 A form's text is worked here from README's table by typed.py. It has none where a field is a slip, where a reading doesn't say what was read, or where a
-decimal comma stands in one field and a point in another."""
+decimal comma stands in one field and a point in another (RULES 15.1)."""
 import argparse
 import base64
 import json
 import math
 import os
 import random
+import re
 import subprocess
 import sys
 import tempfile
@@ -104,6 +106,19 @@ class Sheets:
             text += f'C {number} {self.r.randint(3071282, 3200000)} {letter} {value} {volume}\n'
         return text.encode()
 
+    def to_a_milligram(self):
+        """A need that is what is held, or a milligram beside it"""
+        _, _, lines = (self.answered() if self.r.random() < 0.7 else self.weighed_alone()).partition(b'\n')
+        report = explained([b'N 1\n' + lines])[0]
+        total = int(re.search(r'^TOTAL ([0-9]+) ', report, re.M)[1])
+        if total + 1 > typed.MOST:
+            return self.to_a_milligram()
+        return f'N {max(1, total + self.r.choice([-1, 0, 0, 1]))}\n'.encode() + lines
+
+    def weighed_alone(self):
+        numbers = self.r.sample(range(1000), self.r.randint(1, 32))
+        return ('N 1\n' + ''.join(f'C {number} - W {self.r.randint(1, 50000)} 67500\n' for number in numbers)).encode()
+
     def gauges(self):
         return self.text(['of_a_gauge'], 0.05).encode()
 
@@ -147,7 +162,7 @@ class Sheets:
 
 
 CASES = ['answered', 'answered', 'answered', 'good', 'gauges', 'gauges', 'weighings', 'readings', 'readings', 'need_is_none', 'counted', 'damaged', 'damaged',
-         'in_another_form']
+         'in_another_form', 'to_a_milligram', 'to_a_milligram']
 
 
 def explained(texts):
@@ -177,7 +192,7 @@ class Forms:
 
     def typed(self, scale, slip):
         places, more, _ = typed.SCALES[scale]
-        case = self.r.choice(['plain', 'plain', 'any_of_sheet', 'blank', 'about', 'zeros'])
+        case = self.r.choice(['plain', 'plain', 'any_of_sheet', 'blank', 'about', *(['zeros', 'thousands'] if places else [])])
         if slip:
             case = self.r.choice(typed.SLIPS + ['few_signs', 'at_an_end', 'a_decimal_more', 'below'])
         text = getattr(self.typist, case)(places, more)
@@ -195,27 +210,60 @@ class Forms:
         return {'need': self.typed('need', slips and self.r.random() < 0.1), 'rows': rows}
 
 
-def text_of(form):
-    """The sheet's text of a form, or None"""
-    marks = set()
+FIELDS = ['number', 'celsius', 'reading', 'litres']
+LETTERS = {'bar': 'P', 'gauge': 'P', 'density': 'D', 'weighed': 'W', '': 'P'}
+NOT_USED = 'Not used: a weighed cylinder needs no temperature.'
 
-    def field(scale, text):
-        found = set(text) & set('.,')
-        if len(found) == 1:
-            marks.update(found)
-        number = typed.on_sheet(text, *typed.SCALES[scale][:2])
-        return '-' if number is None else number
+
+def is_blank(text):
     try:
-        lines = [f'N {field("need", form["need"])}']
-        for row in form['rows']:
-            if row['kind'] == '' and typed.value(row['reading']) is not None:
-                return None
-            letter = {'bar': 'P', 'gauge': 'P', 'density': 'D', 'weighed': 'W', '': 'P'}[row['kind']]
-            reading = field(row['kind'], row['reading']) if row['kind'] else '-'
-            lines.append(f'C {field("number", row["number"])} {field("celsius", row["celsius"])} {letter} {reading} {field("litres", row["litres"])}')
+        return typed.value(text) is None
     except typed.Slip:
+        return False
+
+
+def note_of_thousands(text):
+    """RULES 15.1: one to three digits, the first no 0, a separator, and three digits more"""
+    text = text.strip(typed.ABOUT)
+    below = text[0] in typed.MINUS
+    front, _, behind = text[below:].replace(',', '.').partition('.')
+    if not (1 <= len(front) <= 3 and front[0] != '0' and len(behind) == 3):
         return None
-    return ''.join(line + '\n' for line in lines) if len(marks) < 2 else None
+    return 'Read as {}. If thousands are meant, write {}.'.format(typed.decimal(typed.value(text), '.'), '-' * below + front + behind)
+
+
+class Read:
+    """A form as RULES 15.1 has it: its text, or None; the fields that are marked, and those that are noted"""
+
+    def __init__(self, form):
+        self.mark, self.marks, self.notes = None, [], []
+        lines = [f'N {self.field(-1, "need", "need", form["need"])}']
+        for row, fields in enumerate(form['rows']):
+            kind = fields['kind']
+            parts = {name: self.field(row, name, kind if name == 'reading' else name, fields[name]) for name in FIELDS if name != 'reading' or kind}
+            if not kind and not is_blank(fields['reading']):
+                self.marks.append([row, 'kind'])
+            if kind == 'weighed' and not is_blank(fields['celsius']):
+                self.notes.append([row, 'celsius', NOT_USED, False])
+            lines.append('C {number} {celsius} {letter} {reading} {litres}'.format(**{'reading': '-', **parts}, letter=LETTERS[kind]))
+        self.text = None if self.marks else ''.join(line + '\n' for line in lines)
+
+    def field(self, row, name, scale, text):
+        found = set(text) & set('.,')
+        try:
+            number = typed.on_sheet(text, *typed.SCALES[scale][:2])
+            if number is None:
+                return '-'
+            if found and self.mark and found != self.mark:
+                raise typed.Slip
+        except typed.Slip:
+            self.marks.append([row, name])
+            return None
+        self.mark = found or self.mark
+        words = note_of_thousands(text) if found else None
+        if words:
+            self.notes.append([row, name, words, True])
+        return number
 
 
 def main():
@@ -236,7 +284,8 @@ def main():
     with open(f'{asked.folder}/forms.json', 'w', encoding='ascii') as file:
         for _ in range(asked.forms):
             form = forms.form()
-            file.write(json.dumps({'form': form, 'text': text_of(form)}) + '\n')
+            read = Read(form)
+            file.write(json.dumps({'form': form, 'text': read.text, 'marks': sorted(read.marks), 'notes': sorted(read.notes)}) + '\n')
 
 
 if __name__ == '__main__':

@@ -1,5 +1,6 @@
 // node web/comparing/typed.mjs, with the lines of typed.py on standard input: what web/src/decimals.mjs makes of each number that was typed, and what
-// web/src/sheet.mjs hands to a door of the sheet's number, against exact fractions. Ends with how many of each case were numbers, blanks and slips, and `N compared, 0 differ`.
+// web/src/sheet.mjs hands to a door of the sheet's number, against exact fractions. Ends with how many of each case were numbers, blanks and slips, and
+// `N compared, 0 differ`.
 import { createInterface } from 'node:readline';
 import { pathToFileURL } from 'node:url';
 import * as decimals from '../src/decimals.mjs';

@@ -2,8 +2,9 @@
 
 Written from README's table ("A sheet"), RULES 6.2 and 6.4 and these rules of a field, and from nothing else: a number is digits 0 to 9, with at most one
 decimal point or comma that has a digit on either side, and a minus in front (-, U+2212 or U+2013) where it is below 0; spaces, tabs and no-break spaces
-about it are dropped; nothing at all, or a minus alone, is a blank. The sheet has it where it is a whole number there of at most ten digits. All
-else is a slip. A door has the double nearest to the exact number. A line of JSON for each, for typed.mjs:
+about it are dropped; nothing at all, or a minus alone, is a blank. The sheet has it where it is a whole number there of at most ten digits, and a
+cylinder's number, which is written as it is, where it has no separator. All else is a slip. A door has the double nearest to the exact number.
+A line of JSON for each, for typed.mjs:
 
     {"case": .., "typed": .., "places": .., "more": .., "over": .., "whole": a text, null for a blank or "slip", "kind": of that slip, where it has
      one alone, "double": 16 hexadecimal digits, null or "slip", "separator": .., "scale": its name}"""
@@ -49,6 +50,8 @@ def on_sheet(typed, places, more):
     if exact is None:
         return None
     number = exact * 10 ** places + more
+    if places == 0 and set(typed) & set('.,'):  # a cylinder's number has no separator
+        raise Slip
     if number.denominator != 1 or not 0 <= number <= MOST:
         raise Slip
     return str(number.numerator)
@@ -162,6 +165,10 @@ class Typist:
     def long_decimals(self, places, more):
         return self.front(5) + self.mark() + self.digits(15, 60)
 
+    def thousands(self, places, more):
+        front = self.r.choice(['', '', '', *MINUS] if more else ['']) + str(self.r.randrange(10 ** self.r.randint(1, 4)))
+        return self.r.choice(['', '', ' ']) + front + self.mark() + self.digits(2, 4)[:self.r.choice([3, 3, 3, 4])] + self.r.choice(['', '', '\u00a0'])
+
     # one slip each, by its kind
     def exponent(self, places, more):
         return self.plain(places, 0) + self.r.choice('eE') + self.r.choice(['', '-', '+']) + self.digits(1, 3)
@@ -208,7 +215,7 @@ class Typist:
 
 
 NUMBERS = ['plain', 'zeros', 'any_of_sheet', 'at_an_end', 'past_an_end', 'far_over', 'of_400_digits', 'a_decimal_more', 'below', 'about', 'blank', 'minus_zero',
-           'halfway', 'long_decimals', 'any_signs', 'few_signs']
+           'halfway', 'long_decimals', 'thousands', 'any_signs', 'few_signs']
 SLIPS = ['exponent', 'plus', 'sign', 'space', 'alphabet', 'minus', 'mixed', 'separators', 'bare']
 OFTEN = {'plain': 6, 'any_of_sheet': 6, 'at_an_end': 2, 'halfway': 3, 'any_signs': 3, 'few_signs': 4}
 

@@ -1,9 +1,11 @@
-// web/check: the page in every browser that is here. node web/drive/check.mjs [--faults] [--only NAME] [--page FILE] [--shots], in the repository's root
+// web/check: the page in every browser that is here. node web/drive/check.mjs [--faults] [--only NAME] [--path NAME] [--page FILE] [--shots], in the
+// repository's root
 import fs from 'node:fs';
 import os from 'node:os';
 import path from 'node:path';
 import { browsers, personAt } from './driver.mjs';
 import { FAULTS, plant } from './faults.mjs';
+import { listenTo, quiet } from './heard.mjs';
 import { PATHS } from './paths.mjs';
 import { showShots, takeShots } from './shots.mjs';
 import { withoutBrowser } from './nobrowser.mjs';
@@ -33,6 +35,7 @@ async function withBrowser(found, page, use) {
     try {
         await browser.size(1200, 900);
         await browser.scheme('light');
+        listenTo(browser);
         const person = Object.assign(personAt(browser, `file://${path.resolve(page)}`), { folder, shots: SHOTS });
         return await use(person, browser);
     } finally {
@@ -41,11 +44,15 @@ async function withBrowser(found, page, use) {
     }
 }
 
-async function walk(person, check) {
-    for (const [name, go] of PATHS) {
-        check.path = name;
+async function take([name, go], person, check) {
+    check.path = name;
+    await go(person, check);
+    await quiet(person.browser, check);
+}
+async function walk(person, check, paths) {
+    for (const path of paths) {
         try {
-            await go(person, check);
+            await take(path, person, check);
         } catch (fault) {
             check.ok(`it came to an end: ${fault.message}`, false);
         }
@@ -59,7 +66,7 @@ async function checkAll(here, page, only) {
         total.passed += check.passed;
         total.failed += check.failed;
     };
-    if (!only) {
+    if (!only && paths === PATHS) {
         const check = counter('Node');
         check.path = 'without a browser';
         await withoutBrowser(fs.readFileSync(page, 'utf8'), check);
@@ -70,9 +77,9 @@ async function checkAll(here, page, only) {
         let version = found.name;
         await withBrowser(found, page, async (person, browser) => {
             version = browser.version;
-            await walk(person, check);
+            await walk(person, check, paths);
             check.path = 'pictures taken';
-            await takeShots(person);
+            if (paths === PATHS) await takeShots(person);
         });
         add(`${found.name} (${version}), ${Math.round((Date.now() - began) / 1000)} s`, check);
     }
@@ -82,26 +89,25 @@ async function checkAll(here, page, only) {
     return total.failed;
 }
 
+// What the first check says that fails, or null; the paths that should find it are taken first
+async function foundBy(person, check, first = []) {
+    for (const path of [...PATHS.filter(([name]) => first.includes(name)), ...PATHS.filter(([name]) => !first.includes(name))]) {
+        try {
+            await take(path, person, check);
+        } catch (said) {
+            return said.message;
+        }
+    }
+    return null;
+}
 // Each fault planted alone in the page: what finds it is said, and one that nothing finds is a failure
 async function checkFaults(here, page, only) {
     const html = fs.readFileSync(page, 'utf8'), folder = fs.mkdtempSync(path.join(os.tmpdir(), 'makhroeng-'));
     let found = 0, missed = 0;
-    for (const fault of FAULTS.filter(({ name }) => !only || name.includes(only))) {
+    for (const fault of FAULTS.filter(({ name, by }) => !only || name.includes(only) || by.includes(only))) {
         const file = path.join(folder, 'fault.html');
         fs.writeFileSync(file, plant(html, fault));
-        const check = counter(fault.name, true);
-        let by = null;
-        await withBrowser(here[0], file, async person => {
-            for (const [name, go] of PATHS) {
-                check.path = name;
-                try {
-                    await go(person, check);
-                } catch (said) {
-                    by = said.message;
-                    return;
-                }
-            }
-        });
+        const check = counter(fault.name, true), by = await withBrowser(here[0], file, person => foundBy(person, check, fault.by));
         if (by === null) missed++; else found++;
         console.log(by === null ? `NOT FOUND: ${fault.name}` : `found: ${fault.name}\n    by ${by.split('\n')[0]}`);
     }
@@ -113,6 +119,7 @@ async function checkFaults(here, page, only) {
 const words = process.argv.slice(2);
 const valueOf = name => words.includes(name) ? words[words.indexOf(name) + 1] : undefined;
 const only = valueOf('--only'), page = valueOf('--page') || 'web/index.html';
+const one = valueOf('--path'), paths = one === undefined ? PATHS : PATHS.filter(([name]) => one.split(',').includes(name));
 fs.mkdirSync(SHOTS, { recursive: true });
 const all = browsers();
 for (const { name, program, get } of all) if (!program) console.error(`web/check: ${name} is not here, and is passed over (Debian: ${get})`);

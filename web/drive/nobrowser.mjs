@@ -5,7 +5,7 @@ import { explanationOf, outcomeOf, sheetOf, whereOf } from '../src/sheet.mjs';
 import { frameOf, mapPicture, rangesOf, svgText } from '../src/picture.mjs';
 import { mustAnswerAsKnown } from '../src/known.mjs';
 import { isVouchedFor, questionOf } from '../src/states.mjs';
-import { VERSION } from './expected.mjs';
+import { VERSION, libraryOf } from './expected.mjs';
 
 const DESK = 'crates/run_desk';
 // [title, text's bytes, what the program must print of it]: its report, the explanation under it, and its warnings, each after the file's name
@@ -32,7 +32,7 @@ function printed(library, bytes) {
 const formOf = (need, ...rows) => ({ need, rows: rows.map(([number, celsius, reading, kind, litres]) => ({ number, celsius, reading, kind, litres })) });
 
 export async function withoutBrowser(page, check) {
-    const library = await openLibrary(Buffer.from(/id="wasm">([^<]*)</.exec(page)[1], 'base64'));
+    const library = await openLibrary(Buffer.from(libraryOf(page), 'base64'));
     const known = texts();
     check.ok(`${known.length} texts of ${DESK}`, known.length >= 180);
     for (const [title, bytes, want] of known) check.is(`${DESK}, ${title}`, printed(library, bytes), want);
@@ -60,7 +60,7 @@ export async function withoutBrowser(page, check) {
     check.is('one that is mixed in itself decides nothing',
         sheetOf(formOf('1.200,5', ['1', '20,5', '57,3', 'bar', '67,5'])).marks.map(({ row, field }) => `${row} ${field}`), ['-1 need']);
     check.is('thousands are noted', sheetOf(formOf('1.200', line)).notes,
-        [{ row: -1, field: 'need', words: 'Read as 1.2. If thousands are meant, write 1200.' }]);
+        [{ row: -1, field: 'need', words: 'Read as 1.2. If thousands are meant, write 1200.', thousands: true }]);
     check.is('thousands, but not of 0', sheetOf(formOf('0.200', line)).notes, []);
     check.is('ranges of lines', rangesOf([1, 2, 3, 5, 7, 8]), '1–3, 5, 7, 8');
 

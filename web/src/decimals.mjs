@@ -17,6 +17,7 @@ export const SCALES = {
     litres: { unit: 'L', places: 3, more: 0n },
 };
 
+const LONGEST = 1000; // signs that are looked at: some of the forms below take the square of them
 const MOST = 9999999999n; // RULES 6.2: a number of the sheet has at most ten digits
 
 // What is wrong with what was typed, and what to do. `kind` is a word for each, for tests.
@@ -49,11 +50,22 @@ const SLIPS = [
 // [below 0, the digits before the separator, those behind it but for zeros at their end], or null for a blank
 function parts(typed) {
     if (typeof typed !== 'string') throw new TypeError('what is typed is a string');
+    if (typed.length > LONGEST) throw new Slip('long', 'There are more than 1,000 signs in the field', 'Type one number.');
     const text = typed.replace(ENDS, '').replace(/^[\u2212\u2013]/, '-');
     if (text === '' || text === '-') return null;
     for (const [form, kind, says, todo] of SLIPS) if (form.test(text)) throw new Slip(kind, says, todo);
     const [, minus, front, behind = ''] = /^(-?)([0-9]+)(?:[.,]([0-9]+))?$/.exec(text);
     return [minus === '-', front, behind.replace(/0+$/, '')];
+}
+
+// Nothing, or a minus alone
+export function isBlank(typed) {
+    try {
+        return parts(typed) === null;
+    } catch (fault) {
+        if (fault instanceof Slip) return false;
+        throw fault;
+    }
 }
 
 // Digits that stand for a whole number of 10^-places, as BigInt
@@ -66,10 +78,10 @@ function scaled([below, front, behind], places) {
 export function whole(typed, places, more) {
     const read = parts(typed);
     if (read === null) return null;
+    // 1.200 may be meant for twelve hundred, and no zero behind makes it a cylinder's number
+    if (places === 0 && separator(typed) !== '') throw new Slip('decimals', 'The number is not whole', 'Type a whole number.');
     if (read[2].length > places) {
-        throw places === 0
-            ? new Slip('decimals', 'The number is not whole', 'Type a whole number.')
-            : new Slip('decimals', `There are more than ${places} decimals, and the sheet has no place for them`, `Round it to ${places} decimals.`);
+        throw new Slip('decimals', `There are more than ${places} decimals, and the sheet has no place for them`, `Round it to ${places} decimals.`);
     }
     const n = scaled(read, places) + more;
     if (n < 0n) throw new Slip('below', 'The number is too low: on the sheet it would be below 0', 'Check it and its unit. What was not read stays empty.');

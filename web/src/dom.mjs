@@ -53,3 +53,7 @@ export function speak(words) {
         if (byId('spoken').textContent !== words) byId('spoken').textContent = words;
     }, 900);
 }
+export function hush() {
+    clearTimeout(speaking);
+    byId('spoken').textContent = '';
+}

@@ -1,6 +1,23 @@
 // What the library is known to answer, worked elsewhere: the reports are those of RULES 7.4, README and examples/stored, the figures crosscheck/doors.py's and
 // crosscheck/saturation.py's, each as the shortest decimal that reads back to the same double. A page gives no verdict where one of them differs.
 
+// A bank of 32, the most that a sheet has: what stands behind each number, 1 to 32, and its milligrams (target/bin/scorer's, and crosscheck/sheets.py's)
+const BANK = [
+    ['3115998 D 637917 40000', 25516680], ['- W 16584 50000', 16584000], ['2512751 P 1255226 80000', 2409603], ['3086276 P 11723951 40000', 30268277],
+    ['3146596 D 614958 6800', 4181714], ['- W 31721 6800', 31721000], ['2815208 P 500782 50000', 485704], ['3093137 P 13401171 6800', 5326258],
+    ['3187262 D 653206 40000', 26128240], ['- W 14216 50000', 14216000], ['2542729 P 850424 80000', 1532855], ['3069216 P 13407915 40000', 32066309],
+    ['3101823 D 715043 40000', 28601720], ['- W 29271 40000', 29271000], ['2520062 P 1082539 40000', 1013142], ['3119450 P 10369593 50000', 33646046],
+    ['3141179 D 729077 80000', 58326160], ['- W 36038 67500', 36038000], ['2798069 P 1103947 50000', 1124423], ['3081597 P 9278015 6800', 4621671],
+    ['3136077 D 660108 6800', 4488734], ['- W 22592 50000', 22592000], ['2627933 P 1195151 40000', 1067026], ['3135844 P 12579854 80000', 58313496],
+    ['3184976 D 602389 40000', 24095560], ['- W 30199 67500', 30199000], ['2868208 P 595320 67500', 768016], ['3094679 P 11180160 40000', 29384183],
+    ['3139169 D 638155 40000', 25526200], ['- W 4665 80000', 4665000], ['2809038 P 538131 67500', 708049], ['3061766 P 13230924 80000', 64363931],
+];
+const ALL = 649249997; // their sum
+function ofBank(need, ending, last = 'M') {
+    const number = i => last === 'R' && i === 31 ? 1 : i + 1;
+    return [`N ${need}\n` + BANK.map(([line], i) => `C ${number(i)} ${line}\n`).join(''),
+        BANK.map(([, mg], i) => `L ${i + 1} ${last === 'R' && i === 31 ? 'R 30' : `M ${mg}`}\n`).join('') + `${ending}\n`];
+}
 const REPORTS = [
     ['N 45000000\nC 7 - P 5000000 40000\nC 8 2000000 P 5000000 40000\n', 'L 1 R 1\nL 2 R 4\nSENT BACK 13\n'],
     ['N 28\nC 1 3000000 D 290 100\n', 'L 1 M 28\nTOTAL 28 COVERED\n'],
@@ -15,6 +32,7 @@ const REPORTS = [
     ['N 75000000\nC 1 3131500 P 10000000 40000', 'SENT BACK 14\n'],
     ['N -\nC - - P - -\n', 'SENT BACK 12\n'],
     ['N 1\n', 'SENT BACK 10\n'],
+    ofBank(ALL, `TOTAL ${ALL} COVERED`), ofBank(ALL + 1, `TOTAL ${ALL} SHORT`), ofBank(ALL, 'SENT BACK 13', 'R'),
 ];
 const STATES = [
     ['P', 313.15, 1e7, 'supercritical', [313.15, 9999999.999998312, 628.6115619691137, -209645.71499766415, -193737.63979670298, 1029.1449182858912,
@@ -47,7 +65,7 @@ const SOLID = { says: 'Solid: dry ice and no agent that flows', todo: 'Check the
 
 const sameBits = (figures, known) => Object.values(figures).length === known.length && Object.values(figures).every((x, i) => Object.is(x, known[i]));
 
-// Throws where the library answers otherwise than it is known to, or is of another version than the page was built for
+// Throws where the library answers otherwise than it is known to, or is of another version than the page was built for; else what was tried, counted
 export function mustAnswerAsKnown(library, version) {
     const must = (holds, what) => {
         if (!holds) throw new Error(`the library does not answer as it is known to: ${what}`);
@@ -72,4 +90,6 @@ export function mustAnswerAsKnown(library, version) {
     must(says === SOLID.says && todo === SOLID.todo, 'the words of 19');
     for (const t of [216.59199999999998, 304.1282]) must(library.saturation(t).refused === 4, `saturation at ${t}`);
     must(library.saturation(304.12819999999994).figures, 'saturation below 304.1282');
+    const figures = [...STATES.map(state => state[4]), ...SATURATIONS.map(saturation => saturation[1])];
+    return { reports: REPORTS.length, figures: figures.flat().length, boundaries: BOUNDARIES.length + 3 };
 }

@@ -1,10 +1,11 @@
 // The page: the bank's view, and what starts it all.
 import { openLibrary } from './library.mjs';
-import { KINDS, densityShown, explanationOf, held, kelvinOf, marginOf, needed, outcomeOf, sheetOf, spokenOf, warned } from './sheet.mjs';
+import { KINDS, densityShown, explanationOf, held, kelvinOf, leastOf, marginOf, needed, outcomeOf, sheetOf, spokenOf, warned, warningsOf } from './sheet.mjs';
+import { isBlank } from './decimals.mjs';
 import { bankWords, cylinderPicture, frameOf, mapPicture, mapWords, offMap, rangesOf } from './picture.mjs';
 import { mustAnswerAsKnown } from './known.mjs';
 import { openStates } from './states.mjs';
-import { byId, element, grow, mark, options, sentence, speak, turnSign } from './dom.mjs';
+import { byId, element, grow, hush, mark, options, sentence, speak, turnSign } from './dom.mjs';
 
 const FIELDS = ['number', 'celsius', 'reading', 'kind', 'litres'];
 const LABELS = { number: 'number', celsius: '°C', reading: 'reading', kind: 'of what', litres: 'litres' };
@@ -12,11 +13,25 @@ const KEPT = 'makhroeng.form';
 const narrow = matchMedia('(max-width: 44.99rem)');
 const bytesOf = text => new TextEncoder().encode(text);
 
+// The library in base64 (web/build): inside the script, so that the policy's digest is over it
+const WASM = '@WASM@';
+
 let library, frame;
+let shut = false; // a fault was seen: nothing is shown any more
 let rows = [];
 let made = 0; // rows that there ever were: each has ids of its own
 let shown = { sheet: null, report: null, 'file-report': null };
 let dots = [];
+
+// What a function does, or the page is shut: no fault leaves an old verdict standing
+const guarded = work => (...given) => {
+    if (shut) return;
+    try {
+        work(...given);
+    } catch (fault) {
+        unusable(fault);
+    }
+};
 
 // ---- rows
 
@@ -85,13 +100,29 @@ function giveRoles() {
     }
 }
 
+let taken = null; // the line that was taken out last, and its place: it can be put back
+function offerBack(last) {
+    taken = last;
+    byId('put-back').hidden = last === null;
+    if (last) byId('put-back').textContent = `Put line ${last.place + 1} back`;
+}
 function takeOut(row) {
     const i = rows.indexOf(row);
     rows.splice(i, 1);
     row.body.remove();
     nameRows();
+    offerBack({ row, place: i });
     const next = rows[Math.min(i, rows.length - 1)];
     (next ? next.fields.number : byId('add')).focus();
+    score();
+}
+function putBack() {
+    const { row, place } = taken, next = rows[place];
+    offerBack(null);
+    rows.splice(place, 0, row);
+    if (next) next.body.before(row.body); else byId('cylinders').append(row.body);
+    nameRows();
+    row.fields.number.focus();
     score();
 }
 
@@ -101,13 +132,14 @@ function copyLitres(row) {
     score();
 }
 
-// Enter goes on to the next field, and from the last one to a new line
+// Enter goes on to the next field, and from the last one to a new line, unless the last line is blank as it is
 function onEnter(event) {
     if (event.key !== 'Enter' || event.target.tagName !== 'INPUT' || event.target.type === 'checkbox') return;
     event.preventDefault();
     const fields = [byId('need'), ...rows.flatMap(row => FIELDS.map(name => row.fields[name]))];
     const next = fields[fields.indexOf(event.target) + 1];
     if (next) return next.focus();
+    if (rows.length && FIELDS.every(name => isBlank(rows[rows.length - 1].fields[name].value))) return;
     addRow().fields.number.focus();
     score();
 }
@@ -129,32 +161,62 @@ function fillForm(form) {
 }
 const EMPTY = { need: '', rows: [{ number: '', celsius: '', reading: '', kind: '', litres: '' }] };
 
-function keptForm() {
+const isForm = form => form !== null && typeof form === 'object' && typeof form.need === 'string' && Array.isArray(form.rows)
+    && form.rows.every(row => row !== null && typeof row === 'object' && FIELDS.every(name => typeof row[name] === 'string')
+        && (row.kind === '' || Object.keys(KINDS).includes(row.kind)));
+const KEEPING = {
+    kept: 'Kept in this browser on this device, and nowhere else, until this is unticked.',
+    not: 'Not kept: what is typed is gone when the page is closed.',
+    failed: 'Not kept: this browser keeps nothing for this page, or has no room. What was kept before is erased.',
+    damaged: 'What was kept here was damaged or of another form: it is erased, and nothing was filled in.',
+    elsewhere: 'Not kept any more: it was erased in another tab or window. What is typed is gone when the page is closed.',
+};
+let wrote = false; // what is kept is from here, and can only be missing because it was erased elsewhere
+function sayKeeping(what) {
+    byId('keep').checked = what === 'kept';
+    byId('keep-says').textContent = KEEPING[what];
+    wrote = false;
+}
+function erase() {
     try {
-        const form = JSON.parse(localStorage.getItem(KEPT));
-        const isForm = form && typeof form.need === 'string' && Array.isArray(form.rows)
-            && form.rows.every(row => FIELDS.every(name => typeof row[name] === 'string'));
-        return isForm ? form : null;
-    } catch {
+        localStorage.removeItem(KEPT);
+    } catch { /* where nothing can be kept there is nothing to erase */ }
+}
+// The form that is kept, or null; and says which
+function keptForm() {
+    let text = null, form = null;
+    try {
+        text = localStorage.getItem(KEPT);
+        form = JSON.parse(text);
+    } catch { /* not to be read: damaged, or nothing at all */ }
+    if (text === null) return null;
+    if (!isForm(form)) {
+        erase();
+        sayKeeping('damaged');
         return null;
     }
+    sayKeeping('kept');
+    wrote = true;
+    return form;
 }
+// after each key; what was said stays
 function keep() {
     try {
+        if (wrote && localStorage.getItem(KEPT) === null) sayKeeping('elsewhere');
         if (byId('keep').checked) localStorage.setItem(KEPT, JSON.stringify(typedForm()));
-        byId('keep-says').textContent = byId('keep').checked
-            ? 'Kept in this browser on this device, and nowhere else, until this is unticked.'
-            : 'Not kept: what is typed is gone when the page is closed.';
+        wrote = byId('keep').checked;
     } catch {
-        byId('keep').checked = false;
-        byId('keep-says').textContent = 'This browser keeps nothing for this page.';
+        erase(); // an older form would come back as if it were this one
+        sayKeeping('failed');
     }
 }
 function onKeep() {
-    try {
-        if (!byId('keep').checked) localStorage.removeItem(KEPT);
-    } catch { /* where nothing can be kept there is nothing to erase */ }
+    if (!byId('keep').checked) erase();
+    sayKeeping(byId('keep').checked ? 'kept' : 'not');
     keep();
+}
+function onStorage(event) {
+    if (byId('keep').checked && (event.key === KEPT || event.key === null) && event.newValue === null) sayKeeping('elsewhere');
 }
 
 // ---- what is said
@@ -173,32 +235,45 @@ const ON_THE_FORM = {
     23: 'On this form it is typed in kg.',
 };
 
+const placeOf = ({ row, field }) => row < 0 ? 'need' : `line ${row + 1}, ${LABELS[field]}`;
+
 // what is counted beside a verdict, and on which lines: pairs of words
-function doubtsOf(outcome) {
+function doubtsOf(outcome, notes) {
+    const thousands = notes.filter(note => note.thousands);
     const gauges = warned(outcome, 'gauge'), above = warned(outcome, 'above'), said = [];
     if (gauges.length) said.push([`${several(gauges.length, 'gauge', 'gauges')} can’t tell`, ` (${linesOf(gauges)})`]);
     if (above.length) said.push([`${several(above.length, 'line is', 'lines are')} above 750 kg/m³`, ` (${linesOf(above)})`]);
+    if (thousands.length) said.push([`${several(thousands.length, 'number', 'numbers')} may be meant for thousands`,
+        ` (${thousands.map(placeOf).join('; ')})`]);
     return said;
 }
 const counted = (front, doubts) => doubts.map(([count, which], i) => [(i ? ', and ' : `${front} `) + count, which]);
 const plain = but => but.map(words => words.join('')).join('');
 
-// What the verdict's place says: { is, word, but, words, sums }
-function verdictOf(outcome) {
-    const doubts = doubtsOf(outcome);
+// What the verdict's place says: { is, word, but, words, sums, least }. The notes are those of a form; a file has none.
+function verdictOf(outcome, notes = []) {
+    const doubts = doubtsOf(outcome, notes);
     if (outcome.held !== null) {
         const is = outcome.verdict === 'SHORT' ? 'short' : doubts.length ? 'doubt' : 'covered';
         const [margin, unit, ...rest] = marginOf(outcome).split(' ');
         const sums = { held: `${held(outcome.held)} kg`, needed: `${needed(outcome.need)} kg`, margin: `${margin} ${unit}`, marginIs: rest.join(' ') };
-        return { is, word: outcome.verdict, but: counted('but', doubts), words: '', sums };
+        const least = leastOf(outcome);
+        return { is, word: outcome.verdict, but: counted('but', doubts), words: '', sums, least: least === null ? '' : `at least ${held(least)} kg` };
     }
     const { says, todo } = library.words(outcome.refusal);
     const refused = outcome.lines.filter(line => line.refusal !== null);
     const words = [refused.length ? `Refused: ${linesOf(refused)}.` : '', `${says}. ${todo}`, ON_THE_FORM[outcome.refusal] || ''].filter(Boolean).join(' ');
-    return { is: 'back', word: `SENT BACK ${outcome.refusal}`, but: counted('and', doubts), words, sums: null };
+    return { is: 'back', word: `SENT BACK ${outcome.refusal}`, but: counted('and', doubts), words, sums: null, least: '' };
 }
+const LEAST_IF = ', if it is vapour alone where a gauge can’t tell';
+const sumWords = ({ sums, least }) => sums && `Held ${sums.held}, needed ${sums.needed}, ${sums.margin} ${sums.marginIs}.`
+    + (least ? ` ${sentence(least)}${LEAST_IF}.` : '');
+const wholeVerdict = said => [`${said.word}.`, said.but.length ? `${plain(said.but)}.` : '', sumWords(said), said.words].filter(Boolean).join(' ');
+// what a report alone must not lose: '' where there is no doubt
+const doubtWords = ({ word, but, least }) => but.length ? `${word}, ${plain(but)}${least ? `; ${least}${LEAST_IF}` : ''}.` : '';
 
-function paintVerdict({ is, word, but, words, sums }) {
+function paintVerdict(said) {
+    const { is, word, but, words, sums, least } = said;
     byId('verdict').dataset.is = is;
     byId('sign').textContent = SIGN[is];
     byId('word').textContent = word;
@@ -213,8 +288,14 @@ function paintVerdict({ is, word, but, words, sums }) {
         byId('margin').textContent = sums.margin;
         byId('margin-is').textContent = sums.marginIs;
     }
-    speak([`${word}.`, but.length ? `${plain(but)}.` : '', sums && `Held ${sums.held}, needed ${sums.needed}, ${sums.margin} ${sums.marginIs}.`,
-        words].filter(Boolean).join(' '));
+    byId('least').hidden = least === '';
+    byId('least').replaceChildren(...least ? [least, element('span', { class: 'which' }, LEAST_IF)] : []);
+    speak(wholeVerdict(said));
+}
+// what stands with a report, on the page and where it is printed alone
+function paintBeside(name, said, warnings) {
+    byId(`${name}-doubt`).textContent = said ? doubtWords(said) : '';
+    byId(`${name}-warnings`).replaceChildren(...warnings.map(words => element('p', {}, words)));
 }
 
 function paintPapers(texts) {
@@ -243,9 +324,9 @@ function refusalWords(row, line) {
     return element('p', { class: 'refusal', id: `${row.id}-refused` }, element('b', {}, `Refused by ${line.refusal}. ${says}.`),
         ` ${[todo, ...more].join(' ')}`);
 }
-function warningWords(warning) {
+function warningWords(warning, id) {
     const [lead, ...rest] = warning.words.split('. ');
-    return element('p', { class: 'warning' }, element('b', {}, `⚠ ${sentence(lead)}.`), ` ${rest.join('. ')}`,
+    return element('p', { class: 'warning', id }, element('b', {}, `⚠ ${sentence(lead)}.`), ` ${rest.join('. ')}`,
         warning.kind === 'gauge' ? ' On this form: choose “kg weighed”, and type the kg of agent.' : '');
 }
 
@@ -254,7 +335,7 @@ function paintRow(row, i, { marks, notes }, line) {
     const said = [], ids = Object.fromEntries(FIELDS.map(name => [name, []])), why = {};
     const say = (one, kind) => {
         const id = `${row.id}-${one.field}-${kind}`;
-        said.push(element('p', { class: kind, id }, element('b', {}, `${LABELS[one.field]}: `), sentence(one.words)));
+        said.push(element('p', { class: one.thousands ? `${kind} warning` : kind, id }, element('b', {}, `${LABELS[one.field]}: `), sentence(one.words)));
         ids[one.field].push(id);
     };
     for (const one of marks.filter(each => each.row === i)) {
@@ -269,7 +350,10 @@ function paintRow(row, i, { marks, notes }, line) {
             why[name] = line.refusal === 1 ? 'blank' : 'refused';
         }
     }
-    if (line) said.push(...line.warnings.map(warningWords));
+    for (const warning of line ? line.warnings : []) {
+        ids.reading.push(`${row.id}-${warning.kind}`);
+        said.push(warningWords(warning, `${row.id}-${warning.kind}`));
+    }
     for (const name of FIELDS) mark(row.fields[name], why[name] || null, ids[name]);
     row.told.replaceChildren(...said);
     row.below.hidden = said.length === 0;
@@ -285,8 +369,9 @@ function paintNeed({ marks, notes }, refusal) {
     const found = marks.filter(one => one.row < 0), said = found.concat(notes.filter(one => one.row < 0));
     byId('need-says').textContent = said.map(one => sentence(one.words)).join(' ');
     byId('need-says').classList.toggle('fault', found.length > 0);
+    byId('need-says').classList.toggle('warning', found.length === 0 && said.length > 0);
     const ids = refusal === 12 ? ['need-says', 'words'] : ['need-says'];
-    mark(byId('need'), found.length ? 'slip' : refusal === 12 ? byId('need').value.trim() === '' ? 'blank' : 'refused' : null, ids);
+    mark(byId('need'), found.length ? 'slip' : refusal === 12 ? isBlank(byId('need').value) ? 'blank' : 'refused' : null, ids);
 }
 function paintList(refusal) {
     const is = refusal === 10 || refusal === 11;
@@ -321,10 +406,10 @@ function paintMap() {
     byId('map').replaceChildren(grow(mapPicture(frame, dots, width)));
     byId('map').setAttribute('aria-label', mapWords(frame, dots));
 }
-// Without a sheet each cylinder is not known, by the number as it was typed
+// Without a sheet each cylinder is not known, by the number as it was typed, as far as a number goes
 const unknownLines = () => rows.map((row, i) => ({
     place: i + 1, milligrams: null, refusal: null, state: null, warnings: [],
-    record: { number: row.fields.number.value.trim() || null, temperature: null, letter: '', value: null, volume: null },
+    record: { number: row.fields.number.value.trim().slice(0, 10) || null, temperature: null, letter: '', value: null, volume: null },
 }));
 function paintPictures(lines) {
     const cylinders = lines.map(cylinderOf);
@@ -339,56 +424,72 @@ function paintPictures(lines) {
 
 // ---- the form to its answer, after each key
 
-function score() {
-    const sheet = sheetOf(typedForm());
-    let outcome = null;
-    try {
-        if (sheet.text !== null) outcome = outcomeOf(library, bytesOf(sheet.text));
-    } catch (fault) {
-        return unusable(fault);
-    }
+const score = guarded(() => {
+    const sheet = sheetOf(typedForm()), bytes = sheet.text === null ? null : bytesOf(sheet.text);
+    const outcome = bytes && outcomeOf(library, bytes), said = outcome ? verdictOf(outcome, sheet.notes) : noSheet(sheet.marks);
     const lines = outcome ? outcome.lines : [];
     rows.forEach((row, i) => paintRow(row, i, sheet, lines[i]));
     paintNeed(sheet, outcome && outcome.refusal);
     paintList(outcome && outcome.refusal);
     paintPapers({ sheet: sheet.text, report: outcome && outcome.report });
-    byId('explanation').textContent = outcome ? explanationOf(library, outcome, bytesOf(sheet.text)) : '';
+    const thousands = sheet.notes.filter(note => note.thousands).map(note => `${sentence(placeOf(note))}: ${note.words}`);
+    paintBeside('report', outcome && said, outcome ? [...warningsOf(outcome), ...thousands] : []);
+    byId('explanation').textContent = outcome ? explanationOf(library, outcome, bytes) : '';
     paintPictures(lines.length ? lines : unknownLines());
-    paintVerdict(outcome ? verdictOf(outcome) : noSheet(sheet.marks));
+    paintVerdict(said);
     keep();
-}
+});
 function noSheet(marks) {
-    const places = [...new Set(marks.map(({ row, field }) => row < 0 ? 'the need' : `line ${row + 1}, ${LABELS[field]}`))];
-    return { is: 'none', word: 'NO SHEET YET', but: [], sums: null,
+    const places = [...new Set(marks.map(one => one.row < 0 ? 'the need' : placeOf(one)))];
+    return { is: 'none', word: 'NO SHEET YET', but: [], sums: null, least: '',
         words: `${several(places.length, 'field', 'fields')} can’t be written on a sheet. Mend what is marked: ${places.join('; ')}.` };
 }
 
 // ---- a sheet's file, its bytes as they are
 
 const MOST = 65536;
-async function openFile(event) {
-    const [file] = event.target.files;
-    if (!file) return;
-    byId('file-says').hidden = false;
-    byId('file-name').textContent = file.name;
+let openings = 0; // only the last one's answer is shown
+async function readFile(file) {
     try {
         const bytes = new Uint8Array(await file.slice(0, MOST + 1).arrayBuffer());
-        const outcome = outcomeOf(library, bytes), { is, word, but, sums } = verdictOf(outcome);
-        byId('file-name').textContent = `${file.name}, ${several(file.size, 'byte', 'bytes')}`;
-        byId('file-verdict').dataset.is = is;
-        byId('file-word').textContent = `${SIGN[is]} ${word}`;
-        byId('file-words').textContent = [but.length ? `${sentence(plain(but))}.` : '',
-            sums && `Held ${sums.held}, needed ${sums.needed}: ${sums.margin} ${sums.marginIs}.`].filter(Boolean).join(' ');
-        paintPapers({ 'file-report': outcome.report });
-        byId('file-explanation').textContent = explanationOf(library, outcome, bytes);
+        return { bytes };
     } catch (fault) {
-        byId('file-verdict').dataset.is = 'none';
-        byId('file-word').textContent = 'NOT READ';
-        byId('file-words').textContent = `The file can’t be read: ${fault.message}.`;
-        paintPapers({ 'file-report': null });
-        byId('file-explanation').textContent = '';
+        return { fault };
     }
+}
+// Nothing of a file stands under another's name: all is painted anew each time, also where there is nothing yet
+function paintFile(name, said, { report = null, warnings = [], explanation = '' } = {}) {
+    byId('file-says').hidden = false;
+    byId('file-name').textContent = name;
+    byId('file-verdict').dataset.is = said.is;
+    byId('file-word').textContent = `${SIGN[said.is] || ''} ${said.word}`.trim();
+    byId('file-but').textContent = plain(said.but);
+    byId('file-but').hidden = said.but.length === 0;
+    byId('file-words').textContent = [sumWords(said), said.words].filter(Boolean).join(' ');
+    paintPapers({ 'file-report': report });
+    byId('file-report-name').textContent = name;
+    paintBeside('file-report', report === null ? null : said, warnings);
+    byId('file-explanation').textContent = explanation;
+}
+const noFile = (is, word, words) => ({ is, word, words, but: [], sums: null, least: '' });
+const scoreFile = guarded((name, bytes) => {
+    const outcome = outcomeOf(library, bytes), said = verdictOf(outcome);
+    paintFile(name, said, { report: outcome.report, warnings: warningsOf(outcome), explanation: explanationOf(library, outcome, bytes) });
+    speak(`${name}: ${wholeVerdict(said)}`);
+});
+async function openFile(event) {
+    const [file] = event.target.files;
+    if (!file || shut) return;
+    const opening = ++openings;
+    hush();
+    paintFile(file.name, noFile('wait', 'READING', ''));
     event.target.value = ''; // so that the same file, mended, can be chosen again
+    const { bytes, fault } = await readFile(file);
+    if (opening !== openings || shut) return;
+    if (bytes) return scoreFile(`${file.name}, ${several(file.size, 'byte', 'bytes')}`, bytes);
+    const said = noFile('none', 'NOT READ', `The file can’t be read: ${fault.message}.`);
+    paintFile(file.name, said);
+    speak(`${file.name}: ${wholeVerdict(said)}`);
 }
 
 // ---- copy, save, print
@@ -408,11 +509,16 @@ function save(name) {
     setTimeout(() => URL.revokeObjectURL(file), 60000);
     return 'Saved.';
 }
+// until `afterprint`: on a phone print() comes back before the paper is made
 function printOnly(name) {
     document.body.dataset.print = name;
     print();
-    delete document.body.dataset.print;
     return '';
+}
+const printedAll = () => delete document.body.dataset.print;
+function printAll() {
+    printedAll();
+    print();
 }
 const DO = { copy, save, print: printOnly };
 async function onPaper(event) {
@@ -441,18 +547,22 @@ function onTabKey(event) {
     byId(`tab-${other}`).focus();
 }
 
-let asked = 0;
+let asked = 0, askedAt = 0;
+const AGAIN = 700; // ms: a second press that comes sooner is a part of the first
 // once to be asked, once to do it
 function onClear() {
-    clearTimeout(asked);
     const sure = byId('clear').dataset.sure;
+    if (sure && performance.now() - askedAt < AGAIN) return;
+    clearTimeout(asked);
     delete byId('clear').dataset.sure;
     byId('clear').textContent = 'Clear the form';
     if (sure) {
         fillForm(EMPTY);
+        offerBack(null);
         score();
         return byId('need').focus();
     }
+    askedAt = performance.now();
     byId('clear').dataset.sure = 'yes';
     byId('clear').textContent = 'Press again to clear';
     asked = setTimeout(() => {
@@ -462,15 +572,18 @@ function onClear() {
 }
 
 function listen() {
-    byId('form').addEventListener('input', event => event.target.id === 'keep' ? onKeep() : score());
+    for (const typed of ['input', 'change']) byId('form').addEventListener(typed, event => event.target.id === 'keep' || score());
+    byId('keep').addEventListener('change', onKeep);
     byId('form').addEventListener('keydown', onEnter);
     byId('form').addEventListener('submit', event => event.preventDefault());
     byId('add').addEventListener('click', () => {
         addRow().fields.number.focus();
         score();
     });
+    byId('put-back').addEventListener('click', putBack);
     byId('clear').addEventListener('click', onClear);
-    byId('print-all').addEventListener('click', () => print());
+    byId('print-all').addEventListener('click', printAll);
+    addEventListener('afterprint', printedAll);
     byId('file').addEventListener('change', openFile);
     byId('bank').addEventListener('click', onPaper);
     for (const view of VIEWS) {
@@ -478,34 +591,56 @@ function listen() {
         byId(`tab-${view}`).addEventListener('keydown', onTabKey);
     }
     narrow.addEventListener('change', giveRoles);
-    addEventListener('resize', paintMap);
+    addEventListener('resize', guarded(paintMap));
+    addEventListener('storage', onStorage);
 }
 
 // ---- the start
 
+// where something is said of a sheet, a file or a state
+const SAID = ['sign', 'word', 'but', 'words', 'held', 'needed', 'margin', 'margin-is', 'least', 'fill', 'map', 'off-map', 'sheet', 'report', 'report-doubt',
+    'report-warnings', 'explanation', 'file-name', 'file-word', 'file-but', 'file-words', 'file-report', 'file-report-name', 'file-report-doubt',
+    'file-report-warnings', 'file-explanation', 'phase', 'state-words', 'figures', 'saturated'];
 // No verdict at all, and no form that could be taken for one
 function unusable(fault) {
+    if (shut) return;
+    shut = true;
     document.body.classList.add('unusable');
     for (const node of document.querySelectorAll('.needs-library')) node.hidden = true;
     byId('unusable').hidden = false;
-    byId('unusable-words').textContent = `${sentence(String(fault.message))}. Use another browser, or the program: ./score sheet.txt.`;
-    byId('tried').textContent = 'they were not repeated';
+    byId('unusable').setAttribute('role', 'alert');
+    const words = sentence(String(fault && fault.message || fault)).replace(/\.$/, '');
+    byId('unusable-words').textContent = typeof WebAssembly === 'object'
+        ? `${words}. Open a fresh copy of the page, or use the program: ./score sheet.txt.`
+        : `${words}. Use another browser, with WebAssembly, or the program: ./score sheet.txt.`;
+    if (!library) byId('tried').textContent = 'it did not';
+    hush();
+    for (const node of SAID.map(byId)) if (node) node.replaceChildren();
+    for (const row of rows) for (const node of [row.told, row.holds]) node.replaceChildren();
+    for (const verdict of document.querySelectorAll('.verdict')) verdict.dataset.is = 'wait';
 }
 const fromBase64 = text => Uint8Array.from(atob(text), letter => letter.charCodeAt(0));
 
 async function start() {
-    const opened = await openLibrary(fromBase64(byId('wasm').textContent.trim()));
-    mustAnswerAsKnown(opened, document.querySelector('meta[name=version]').content);
+    addEventListener('error', event => unusable(event.error || event));
+    addEventListener('unhandledrejection', event => unusable(event.reason));
+    const opened = await openLibrary(fromBase64(WASM));
+    const tried = mustAnswerAsKnown(opened, document.querySelector('meta[name=version]').content);
     library = opened;
     frame = frameOf(library);
-    const form = keptForm();
-    byId('keep').checked = form !== null;
+    fillForm(keptForm() || EMPTY);
+    listen();
+    const repaint = openStates(library, guarded);
+    score();
+    if (shut) return;
+    addEventListener('pageshow', () => {
+        score();
+        repaint();
+    });
     document.body.classList.remove('unusable');
     byId('unusable').hidden = true;
-    byId('tried').textContent = 'all the same';
-    fillForm(form || EMPTY);
-    listen();
-    openStates(library);
-    score();
+    paintMap(); // which has its width only now
+    byId('tried').textContent = `the ${tried.reports} reports and ${tried.figures} figures that were tried on loading came out as known, `
+        + `and so did ${tried.boundaries} answers on either side of a boundary`;
 }
 start().catch(unusable);

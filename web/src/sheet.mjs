@@ -1,6 +1,6 @@
 // What was typed to the sheet's text (RULES 6), and a text with its report to what is said of it (RULES 14). Pure functions: no page, no library
 // but the one that is handed in, so that web/check runs the same ones in Node.
-import { SCALES, mayBeThousands, separator, whole } from './decimals.mjs';
+import { SCALES, Slip, isBlank, mayBeThousands, separator, whole } from './decimals.mjs';
 
 // ---- from the form to the text
 
@@ -14,19 +14,18 @@ export const KINDS = {
 const NAMES = { need: 'the need', number: 'number', celsius: '°C', reading: 'reading', kind: 'what was read', litres: 'litres' };
 const SIGNS = { ',': 'a comma', '.': 'a point' };
 
-// as decimals.mjs has it: nothing, or a minus alone
-const isBlank = typed => /^\s*[-\u2212\u2013]?\s*$/.test(typed);
 const writtenAs = n => n === null ? '-' : n.toString();
 const placeOf = (row, field) => row < 0 ? NAMES[field] : `line ${row + 1}, ${NAMES[field]}`;
 
-// 1,200 may be meant for twelve hundred: how it is read is said, and nothing is held up by it
+// 1,200 may be meant for twelve hundred: how it is read is said, and it is counted beside the verdict
 export function readAs(typed) {
     const text = typed.trim().replace(/^[\u2212\u2013]/, '-');
     return `Read as ${text.replace(',', '.').replace(/\.?0+$/, '')}. If thousands are meant, write ${text.replace(/[.,]/, '')}.`;
 }
 
 // form: { need, rows: [{ number, celsius, reading, kind, litres }] }, all as they were typed. The text is null where a field is marked: what can't be
-// written exactly is on no sheet. A mark or a note is { row, field, words }, and the need's row is -1.
+// written exactly is on no sheet. A mark or a note is { row, field, words }, and the need's row is -1; a note of a number that may be meant for thousands
+// has `thousands` too.
 export function sheetOf(form) {
     const marks = [], notes = [];
     let first = null;
@@ -46,9 +45,10 @@ export function sheetOf(form) {
         try {
             const n = whole(typed, places, more), words = mixed(typed, placeOf(row, field));
             if (words) return mark(row, field, words);
-            if (mayBeThousands(typed)) notes.push({ row, field, words: readAs(typed) });
+            if (mayBeThousands(typed)) notes.push({ row, field, words: readAs(typed), thousands: true });
             return n;
         } catch (slip) {
+            if (!(slip instanceof Slip)) throw slip;
             return mark(row, field, slip.message);
         }
     };
@@ -165,28 +165,68 @@ function lineOf(library, record, place, answer, records) {
         if (!state.figures) throw new Error(`line ${place} is answered in the report, and refused by ${state.refused} as a state`);
         line.state = { phase: state.phase, density: state.figures.density, pressure: state.figures.pressure };
     }
+    if (line.milligrams !== null) mustBeHeld(line);
     if (line.refusal === 30) line.first = records.findIndex(other => other.number === record.number) + 1;
     if (answer) line.warnings = [unsure(library, record), tooFull(line)].filter(warning => warning !== null);
     return line;
+}
+
+// What a report must be in itself, whatever the library is: what isn't is shown to nobody.
+function must(holds, what) {
+    if (!holds) throw new Error(`the report contradicts itself: ${what}`);
+}
+// RULES 6.5 and 6.7. A blank is never read as a number.
+function mustBeHeld({ place, record, state, milligrams }) {
+    const { number, temperature, letter, value, volume } = record;
+    must(![number, value, volume].includes(null) && (letter === 'W' || temperature !== null), `line ${place} has a blank and a mass`);
+    must(milligrams === (state ? atOrBelow(state.density * Number(volume)) : 1000n * value), `the mass of line ${place}`);
+}
+// RULES 7.1 and 7.2
+const REPORT = /^(L [1-9][0-9]? (M (0|[1-9][0-9]*)|R [1-9][0-9]?)\n)*(TOTAL (0|[1-9][0-9]*) (COVERED|SHORT)|SENT BACK 1[0-4])\n$/;
+function mustEnd({ held: total, refusal, need, verdict, lines }, answers) {
+    if (total === null && refusal !== 13) return must(answers.length === 0, `it has lines and ends in ${refusal}`);
+    must(answers.length === lines.length && answers.every((answer, i) => answer.startsWith(`L ${i + 1} `)), 'its lines are not those of the sheet');
+    const refused = lines.filter(line => line.refusal !== null).length;
+    if (refusal === 13) return must(refused > 0, 'it is sent back by 13, and no line is refused');
+    must(refused === 0 && lines.length > 0, 'it has a total, and a line is refused');
+    must(total === lines.reduce((sum, line) => sum + line.milligrams, 0n), 'its total is not the sum of its lines');
+    must(need !== null && verdict === (total >= need ? 'COVERED' : 'SHORT'), 'its verdict is not that of its total and the need');
 }
 
 // All that is said of a text, from its bytes alone: the report as it is, the ending, and each line with what came of it. A sheet that is sent back with 12 has
 // lines without an answer; one with 10, 11 or 14 has none.
 export function outcomeOf(library, bytes) {
     const report = new TextDecoder().decode(library.report(bytes));
+    must(REPORT.test(report), 'it is in no form of a report');
     const answers = report.split('\n').slice(0, -1), ending = answers.pop().split(' ');
     const outcome = { report, verdict: ending[2], refusal: null, held: null, need: null, lines: [] };
     if (ending[0] === 'TOTAL') outcome.held = BigInt(ending[1]);
     else Object.assign(outcome, { verdict: 'SENT BACK', refusal: Number(ending[2]) });
-    if (outcome.refusal === 14) return outcome;
+    if (outcome.refusal === 14) {
+        must(answers.length === 0, 'it has lines and ends in 14');
+        return outcome;
+    }
     const [first, ...lines] = new TextDecoder().decode(bytes).split('\n').slice(0, -1);
     outcome.need = field(first.slice(2));
-    if (lines.length > MOST) return outcome;
-    const records = lines.map(recordOf);
+    const records = lines.length > MOST ? [] : lines.map(recordOf);
     outcome.lines = records.map((record, i) => lineOf(library, record, i + 1, answers[i], records));
+    mustEnd(outcome, answers);
+    must(outcome.held === null || whereOf(bytes) === null, 'it has a total, and the text is not in the form');
     return outcome;
 }
 export const warned = (outcome, kind) => outcome.lines.filter(line => line.warnings.some(warning => warning.kind === kind));
+
+// What is held at least, in mg, where a gauge can't tell: its line counts as vapour alone. null where every gauge can, or where there is no total.
+export function leastOf(outcome) {
+    const doubtful = warned(outcome, 'gauge');
+    if (outcome.held === null || doubtful.length === 0) return null;
+    return doubtful.reduce((least, line) => {
+        const vapour = line.warnings.find(warning => warning.kind === 'gauge').least;
+        return vapour !== null && vapour < line.milligrams ? least - line.milligrams + vapour : least;
+    }, outcome.held);
+}
+// each warning as the program writes it
+export const warningsOf = outcome => outcome.lines.flatMap(line => line.warnings.map(({ words }) => namedBy(line, words)));
 
 // The margin from the milligrams, and not from what is shown (RULES 14.3)
 export function marginOf(outcome) {
@@ -204,10 +244,11 @@ function came(library, line) {
     if (line.record.letter === 'W') return `${held(line.milligrams)} kg, weighed`;
     return `${held(line.milligrams)} kg, ${densityShown(line.state.density)} kg/m3, ${line.state.phase}`;
 }
+const namedBy = ({ place, record }, words) => `L ${place}, cylinder ${writtenAs(record.number)}: ${words}`;
 function toldOf(library, line) {
-    const { number, temperature, letter, value, volume } = line.record, [places, unit] = SHOWN[letter];
+    const { temperature, letter, value, volume } = line.record, [places, unit] = SHOWN[letter];
     const told = [`${celsiusOf(temperature)} C, ${ofSheet(value, places)} ${unit}, ${ofSheet(volume, 3)} L: ${came(library, line)}`];
-    return told.concat(line.warnings.map(warning => warning.words)).map(words => `L ${line.place}, cylinder ${writtenAs(number)}: ${words}`);
+    return told.concat(line.warnings.map(warning => warning.words)).map(words => namedBy(line, words));
 }
 export function explanationOf(library, outcome, bytes) {
     const lines = outcome.lines.filter(line => line.refusal !== null || line.milligrams !== null).flatMap(line => toldOf(library, line));

@@ -1,5 +1,5 @@
 // The second view: a temperature with a pressure or a density to the state's figures.
-import { double, mayBeThousands, separator } from './decimals.mjs';
+import { Slip, double, isBlank, mayBeThousands, separator } from './decimals.mjs';
 import { readAs } from './sheet.mjs';
 import { byId, element, mark, options, speak, turnSign } from './dom.mjs';
 
@@ -21,7 +21,7 @@ const FIGURES = [
 ];
 const SATURATED = [['pressure', 'vapour pressure', 'Pa'], ['vapour', 'saturated vapour', 'kg/m³'], ['liquid', 'saturated liquid', 'kg/m³']];
 
-// README, "For the trace heating": from 21 to 41 °C the correlation's authors don't vouch for it, which is within 10 K of 304.1282 K
+// README, "For the trace heating": from 21 to 41 °C, both ends inside, the correlation's authors don't vouch for it, nor within 10 K of 304.1282 K
 export const isVouchedFor = t => t < 294.1282 || t > 314.15;
 
 // form: { temperature, temperatureUnit, other, otherUnit }, as typed and chosen. { door, t, x, marks, notes }: t and x are null for a blank, and for
@@ -30,7 +30,7 @@ export function questionOf(form) {
     const marks = [], notes = [];
     const read = (field, typed, scale, choose) => {
         if (!scale) {
-            if (!/^\s*[-\u2212\u2013]?\s*$/.test(typed)) marks.push({ field, unit: true, words: choose });
+            if (!isBlank(typed)) marks.push({ field, unit: true, words: choose });
             return null;
         }
         try {
@@ -38,6 +38,7 @@ export function questionOf(form) {
             if (mayBeThousands(typed)) notes.push({ field, words: readAs(typed) });
             return x;
         } catch (slip) {
+            if (!(slip instanceof Slip)) throw slip;
             marks.push({ field, words: slip.message });
             return null;
         }
@@ -84,7 +85,9 @@ function answer(library, question) {
         return { is: 'wait', word: 'NO STATE YET', words: `Blank: ${blank}.` };
     }
     const state = library.state(question.door, question.t, question.x);
-    const asked = `At ${question.t} K and ${question.x} ${question.door === 'P' ? 'Pa' : 'kg/m³'}.`;
+    const many = question.notes.length;
+    const asked = `At ${question.t} K and ${question.x} ${question.door === 'P' ? 'Pa' : 'kg/m³'}.`
+        + (many ? ` But ${many === 1 ? '1 number' : `${many} numbers`} may be meant for thousands.` : '');
     if (state.figures) return { is: 'state', word: state.phase, words: asked, figures: state.figures };
     const { says, todo } = library.words(state.refused);
     return { is: 'back', word: `refused by ${state.refused}`, words: `${says}. ${todo} ${asked}`, refused: state.refused };
@@ -103,21 +106,26 @@ function paint(library) {
     byId('state-words').textContent = said.words;
     byId('figures').replaceChildren(...rows(FIGURES, said.figures));
     byId('caveat').replaceChildren(...caveat(said.figures ? question.t : null));
-    const saturation = question.t === null ? null : library.saturation(question.t);
+    const saturation = question.t === null || question.marks.length ? null : library.saturation(question.t);
     byId('saturated').replaceChildren(...rows(SATURATED, saturation && saturation.figures));
-    byId('saturation-says').textContent = saturation === null ? 'No temperature yet.' : saturation.figures ? ''
+    byId('saturation-says').textContent = question.marks.length ? 'Mend what is marked.' : saturation === null ? 'No temperature yet.' : saturation.figures ? ''
         : `None: ${library.words(saturation.refused).says}.`;
 }
 
-export function openStates(library) {
+// `guarded` makes of a function one whose fault shuts the page; what is handed back paints the view anew
+export function openStates(library, guarded) {
     const says = scales => Object.fromEntries(Object.entries(scales).map(([key, { says: words }]) => [key, words]));
     options(byId('temperature-unit'), says(TEMPERATURES));
     options(byId('other-unit'), says(OTHERS));
     byId('turn').addEventListener('click', () => turnSign(byId('temperature')));
-    byId('asked').addEventListener('input', () => {
+    const repaint = guarded(() => paint(library));
+    const answered = guarded(() => {
         paint(library);
         speak(`${byId('phase').textContent}. ${byId('state-words').textContent}`);
     });
+    byId('asked').addEventListener('input', answered);
+    byId('asked').addEventListener('change', answered);
     byId('asked').addEventListener('submit', event => event.preventDefault());
-    paint(library);
+    repaint();
+    return repaint;
 }

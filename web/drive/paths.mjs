@@ -21,17 +21,25 @@ const spoken = ({ run }, form) => until(() => run((source) => new RegExp(source)
 const STORED = async () => [localStorage.length, sessionStorage.length, document.cookie.length,
     globalThis.indexedDB && indexedDB.databases ? (await indexedDB.databases()).length : 0].join(' ');
 
-// A server on this machine that counts: nothing that the page asks of it may come to it, and the browser has to say that the policy stopped it
-async function inForce({ run, browser }, check) {
-    let count = 0;
-    const server = http.createServer((asked, answer) => {
-        count++;
+// A server on this machine that counts what comes to it
+async function withServer(use) {
+    const asked = [];
+    const server = http.createServer(({ url }, answer) => {
+        asked.push(url);
         answer.end();
     });
     await new Promise(done => server.listen(0, '127.0.0.1', done));
-    const url = `http://127.0.0.1:${server.address().port}/`;
-    await fetch(url);
-    check.is('the server counts', count, 1);
+    try {
+        await use(`http://127.0.0.1:${server.address().port}`, asked);
+    } finally {
+        server.closeAllConnections();
+        await new Promise(done => server.close(done));
+    }
+}
+// nothing that the page asks of it may come to it, and the browser has to say that the policy stopped it
+const inForce = ({ run, browser }, check) => withServer(async (url, asked) => {
+    await fetch(`${url}/here`);
+    check.is('the server counts', asked, ['/here']);
     const stopped = await run(async url => {
         const seen = [];
         document.addEventListener('securitypolicyviolation', event => seen.push(event.effectiveDirective));
@@ -43,13 +51,11 @@ async function inForce({ run, browser }, check) {
         });
         await new Promise(done => setTimeout(done, 100));
         return seen.sort();
-    }, url);
+    }, `${url}/page`);
+    check.is('the policy is in force: nothing came to the server', asked, ['/here']);
     check.is('the policy is in force: it stops a fetch and a picture', stopped, ['connect-src', 'img-src']);
-    check.is('the policy is in force: nothing came to the server', count, 1);
-    server.closeAllConnections();
-    await new Promise(done => server.close(done));
     await browser.heard(); // which this had to raise
-}
+});
 
 async function start(person, check) {
     await person.fresh();

@@ -4,7 +4,8 @@ export function listenTo(browser) {
     const { go } = browser, opened = new Set();
     let asked = [], complaints = [], counted = [0, 0];
     const gather = async () => {
-        const now = [(await browser.asked()).filter(Boolean), await browser.complaints()];
+        if (opened.size === 0) return; // what it says while it starts is not the page's
+        const now = [await browser.asked(), await browser.complaints()];
         asked.push(...now[0].slice(counted[0]));
         complaints.push(...now[1].slice(counted[1]));
         counted = now.map(list => list.length);

@@ -883,6 +883,12 @@ async function narrow(person, check) {
     check.is('1200 px: no sideways scrolling', await wide(), [true, true]);
 }
 
+// the browser may take the other scheme a while after it was told
+async function inScheme({ run, browser }, name) {
+    await browser.scheme(name);
+    await until(() => run(name => matchMedia(`(prefers-color-scheme: ${name})`).matches, name), `the page to be ${name}`);
+}
+
 async function named(person, check) {
     await person.fresh();
     const { run } = person;
@@ -914,11 +920,11 @@ async function named(person, check) {
         await run(() => [...document.querySelectorAll('[aria-live]')].map(node => node.id + ' ' + node.getAttribute('aria-live'))), ['spoken polite']);
     check.is('its language', await run(() => document.documentElement.lang), 'en');
     for (const scheme of ['light', 'dark']) {
-        await person.browser.scheme(scheme);
+        await inScheme(person, scheme);
         for (const { pair, ratio, least } of await contrastsOf(run)) check.ok(`${scheme}: ${pair} ${ratio.toFixed(2)}, at least ${least}`, ratio >= least);
     }
     const [dark] = await run(() => [getComputedStyle(document.body).backgroundColor]);
-    await person.browser.scheme('light');
+    await inScheme(person, 'light');
     check.ok('dark and light are two', dark !== await run(() => getComputedStyle(document.body).backgroundColor));
 }
 

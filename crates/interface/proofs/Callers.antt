@@ -19,7 +19,9 @@ use Rattle.door_conductivity.specs.declared.Conductivity.the-variants.{Is}
 use Rattle.interface_figures.specs.Figures.{asked, CarriedIn, CountedIn}
 use Rattle.interface_figures.proofs.Callers.{unasked, ten-ask, tenth}
 use Rattle.interface_figures.proofs.Unique.{one-handed}
-use Rattle.interface_states.proofs.Callers.{ten, worked, place, unworked}
+use Rattle.interface_states.proofs.Places.{ten}
+use Rattle.interface_states.proofs.Callers.{worked, place, unworked}
+use Rattle.interface_states.proofs.Unique.{AnswersAndFigures}
 use Rattle.interface.proofs.makhroeng_state_from_pressure.Reads as state-from-pressure
 use Rattle.interface.proofs.makhroeng_state_from_density.Reads as state-from-density
 use Rattle.interface.proofs.makhroeng_states_from_pressure.Reads as states-from-pressure
@@ -54,9 +56,6 @@ pub state-from-density-tenth : (κs : Lfts 1) → Figures (state-from-density.Po
 state-from-density-tenth κs a r x p h s k e w = asked-tenth _ _ _ r h p s k e w
 
 -- ---- of many states
-
-abbrev AnswersAndFigures : Type 0 → Type 0 → Type 0 → Type 0
-AnswersAndFigures S T U = S × (T × (RefT (List ℕ) × (RefT (List Float) × U)))
 
 -- whatever meets its promise, and whatever meets that of one state
 abbrev AfterMany : {A S T U : Type 0} → (A → ℕ → AnswersAndFigures S T U → Type 0) → (A → ℕ → List ℕ → List Float → Type 0) → Type 0

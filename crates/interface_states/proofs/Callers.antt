@@ -7,7 +7,7 @@ use Prim.Native.Nat.{ℕ, zero, suc, _+_, _*_, _<_}
 use native.Mathlib.Omega.{arith}
 use borrow.Author.Tests.{le-ltb, le-leb}
 use lib.ListN.{length, getD, take, drop, length-drop}
-use lib.Seq.{length-take-le, take-at, drop-at, drop-drop}
+use lib.Seq.{take-at, drop-at, drop-drop}
 use lib.Ieee.{Float}
 use Rattle.equation.specs.Equation.{of1996}
 use Rattle.door_limits.specs.Limits.{document01}
@@ -15,9 +15,9 @@ use Rattle.door_pressure.specs.PressureDoor.{pressureDoor}
 use Rattle.door_conductivity.specs.Conducted.{withConductivity}
 use Rattle.door_conductivity.specs.declared.Conducted.{Conducted}
 use Rattle.interface_figures.specs.Figures.{laidOver, conductedNumber, carried, carriedOf, asked, CarriedIn}
-use Rattle.interface_states.specs.States.{fits, given, numbers, tens, StatesIn}
+use Rattle.interface_states.specs.States.{given, numbers, tens, StatesIn}
 use Rattle.interface_states.proofs.Fitting.{so-fits, fitting, no-fit}
-use Rattle.interface_states.proofs.Places.{at}
+use Rattle.interface_states.proofs.Places.{at, ten, ten-length}
 
 -- what is handed over is as long as what was lent
 laid-length : (xs l : List Float) → length (laidOver xs l) ≡ length l
@@ -40,13 +40,6 @@ number-at [] ps i d e h = absurd (omega (arith, h))
 number-at (t ∷ ts) [] i d e h = absurd (omega (arith, e))
 number-at (t ∷ ts) (p ∷ ps) zero d e h = refl
 number-at (t ∷ ts) (p ∷ ps) (suc i) d e h = number-at ts ps i d (omega (arith, e)) (omega (arith, h))
-
--- the ten figures of place i
-abbrev pub ten : ℕ → List Float → List Float
-ten i figures = take 10 (drop (10 * i) figures)
-
-ten-length : (n i : ℕ) (figures : List Float) → length figures ≡ 10 * n → i < n → length (ten i figures) ≡ 10
-ten-length n i figures f h = length-take-le 10 (drop (10 * i) figures) (rw (length-drop (10 * i) figures) (omega (arith, f, h)))
 
 -- the next place's are the first behind ten
 ten-behind : (i : ℕ) (figures : List Float) → ten (suc i) figures ≡ ten i (drop 10 figures)

@@ -14,9 +14,11 @@ pub one-worked : {ts ps : List Float} {answers new out : List ℕ} {figures give
 one-worked p q = (by-equation (p .number) (q .number), (by-equation (p .answered) (q .answered), by-equation (p .figured) (q .figured)))
 
 -- of a function that writes into its third and fourth arguments
-abbrev pub OneWorked : {A S T U : Type 0} → (A → ℕ → S × (T × (RefT (List ℕ) × (RefT (List Float) × U))) → Type 0) → Type 0
-OneWorked {A} {S} {T} {U} Post =
-    (a : A) (r s : ℕ) (x y : S × (T × (RefT (List ℕ) × (RefT (List Float) × U)))) → Post a r x → Post a s y
+abbrev pub AnswersAndFigures : Type 0 → Type 0 → Type 0 → Type 0
+AnswersAndFigures S T U = S × (T × (RefT (List ℕ) × (RefT (List Float) × U)))
+
+abbrev pub OneWorked : {A S T U : Type 0} → (A → ℕ → AnswersAndFigures S T U → Type 0) → Type 0
+OneWorked {A} {S} {T} {U} Post = (a : A) (r s : ℕ) (x y : AnswersAndFigures S T U) → Post a r x → Post a s y
     → (r ≡ s) × ((now (x .1 .1 .0) ≡ now (y .1 .1 .0)) × (now (x .1 .1 .1 .0) ≡ now (y .1 .1 .1 .0)))
 
 pub put-states-once : (κs : Lfts 4) → OneWorked (put-states.Post κs)

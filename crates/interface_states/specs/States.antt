@@ -17,6 +17,10 @@ use Rattle.interface_figures.specs.Figures.{conductedNumber, carriedOf}
 abbrev pub fits : ℕ → ℕ → ℕ → ℕ → Bool
 fits temperatures pressures answers figures = eqb pressures temperatures && (eqb answers temperatures && eqb figures (10 * temperatures))
 
+-- and those that are lent?
+abbrev pub allFit : List Float → List Float → List ℕ → List Float → Bool
+allFit ts ps answers figures = fits (length ts) (length ps) (length answers) (length figures)
+
 -- what the door gives each place, with the conductivity
 unfoldable pub given : List Float → List Float → List Conducted
 given [] ps = []
@@ -35,6 +39,6 @@ tens (a ∷ rest) figures = carriedOf a (take 10 figures) ++ tens rest (drop 10 
 
 -- 260 and every place as it is given, or 15 and all stays
 pub record StatesIn (ts ps : List Float) (answers answers' : List ℕ) (figures figures' : List Float) (r : ℕ) : Type 0 where
-  pub number : r ≡ cond (fits (length ts) (length ps) (length answers) (length figures)) 260 15
-  pub answered : answers' ≡ cond (fits (length ts) (length ps) (length answers) (length figures)) (numbers (given ts ps)) answers
-  pub figured : figures' ≡ cond (fits (length ts) (length ps) (length answers) (length figures)) (tens (given ts ps) figures) figures
+  pub number : r ≡ cond (allFit ts ps answers figures) 260 15
+  pub answered : answers' ≡ cond (allFit ts ps answers figures) (numbers (given ts ps)) answers
+  pub figured : figures' ≡ cond (allFit ts ps answers figures) (tens (given ts ps) figures) figures

@@ -1,11 +1,13 @@
 // RULES 13: what the program is asked for, word by word.
+#![tactic(auto)]
+
 ghost use Rattle.std.specs.Prelude.{◌≡◌};
 ghost use Rattle.desk_arguments.specs.Arguments.{same_bytes, dashed, other_of, is_help, flag_of, word_of, none, first_of, one_more, wishing, naming, flagged, taken};
 
 use check::same;
 
 // A word, by itself.
-#[derive(Drop)]
+#[derive(Clone, Copy)]
 pub enum Word {
     Explain,
     Help,
@@ -17,7 +19,7 @@ pub enum Word {
 }
 
 // What is to be done, with the place of a word that is no flag.
-#[derive(Drop)]
+#[derive(Clone, Copy)]
 pub enum Wish {
     Score,
     Help,
@@ -25,7 +27,7 @@ pub enum Wish {
     NoFlag(usize),
 }
 
-#[derive(Drop)]
+#[derive(Clone, Copy)]
 pub enum Named {
     Nothing,
     One,
@@ -33,7 +35,7 @@ pub enum Named {
 }
 
 // By the words so far. ended: `--` was among them.
-#[derive(Drop)]
+#[derive(Clone, Copy)]
 pub struct Asked {
     pub wish: Wish,
     pub named: Named,

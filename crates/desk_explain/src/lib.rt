@@ -1,5 +1,7 @@
 // RULES 14.3: the explanation of a sheet, and its warnings by themselves. What a sheet comes to is worked again from its
 // text, by the functions that the report is made with.
+#![tactic(auto)]
+
 ghost use Rattle.std.specs.Prelude.{◌≡◌, ◌≤◌, ◌<◌, length};
 ghost use Rattle.desk_explain.specs.Explain.{mark_at, first_of};
 
@@ -19,7 +21,7 @@ use sheet_text::{Field, FieldAt, read_field_after};
 use sheet_weigh::weigh_sheet;
 
 // How many gauges can't tell, and how many lines hold more than a cylinder is filled with.
-#[derive(Drop)]
+#[derive(Clone, Copy)]
 struct Warned {
     gauges: usize,
     heavy: usize,

@@ -3,7 +3,7 @@
 ghost use Rattle.std.specs.Prelude.{◌≡◌, ◌≤◌};
 ghost use Rattle.desk_form.specs.Stop.{stop_of, StepsOn};
 
-#[derive(Drop)]
+#[derive(Clone, Copy)]
 pub enum Expected {
     Need,
     Cylinder,
@@ -16,7 +16,7 @@ pub enum Expected {
 }
 
 // What stands before the place: a 0 in front of a number, its tenth digit, `-` in its place, or anything else.
-#[derive(Drop)]
+#[derive(Clone, Copy)]
 pub enum Behind {
     Zero,
     TenDigits,
@@ -24,7 +24,7 @@ pub enum Behind {
     Other,
 }
 
-#[derive(Drop)]
+#[derive(Clone, Copy)]
 pub struct Stop {
     pub at: usize,
     pub expected: Expected,
@@ -32,7 +32,7 @@ pub struct Stop {
 }
 
 // On to a place, or stopped.
-#[derive(Drop)]
+#[derive(Clone, Copy)]
 pub enum Step {
     To(usize),
     Stopped(Stop),

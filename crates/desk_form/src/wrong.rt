@@ -5,7 +5,7 @@ use sheet_line::line::{LineAt, read_line};
 use sheet_text::{FieldAt, read_field_after};
 
 // The line's place among the lines, the first having 1, and where it begins in the text.
-#[derive(Drop)]
+#[derive(Clone, Copy)]
 pub enum Wrong {
     Nowhere,
     Line(usize, usize),

@@ -1,4 +1,6 @@
 // RULES 14.3 and 14.4: a cylinder's line and its warnings.
+#![tactic(auto)]
+
 use desk_look::gauge::{Doubt, Gauge};
 use desk_look::held::{Held, Look, Weight, is_heavy};
 use desk_paper::paper::{Paper, say, say_figure, say_mass, say_number, say_refused, say_shown};

@@ -10,14 +10,14 @@ use sheet_text::Field;
 use sheet_weigh::is_volume;
 
 // The vapour pressure in Pa, and the milligrams of the cylinder full of vapour and full of liquid at it.
-#[derive(Drop)]
+#[derive(Clone, Copy)]
 pub struct Doubt {
     pub pressure: f64,
     pub vapour: Below,
     pub liquid: Below,
 }
 
-#[derive(Drop)]
+#[derive(Clone, Copy)]
 pub enum Gauge {
     Tells,
     Doubts(Doubt),

@@ -18,7 +18,7 @@ use sheet_text::Field;
 use sheet_weigh::is_volume;
 
 // With the density in kg/m³.
-#[derive(Drop)]
+#[derive(Clone, Copy)]
 pub struct Held {
     pub mg: Milligrams,
     pub rho: f64,
@@ -26,13 +26,13 @@ pub struct Held {
 }
 
 // On a scale, and whether it is more than its cylinder is filled with.
-#[derive(Drop)]
+#[derive(Clone, Copy)]
 pub struct Weight {
     pub mg: Milligrams,
     pub overfull: bool,
 }
 
-#[derive(Drop)]
+#[derive(Clone, Copy)]
 pub enum Look {
     Mass(Held),
     Weighed(Weight),
@@ -40,7 +40,7 @@ pub enum Look {
 }
 
 // In mg.
-#[derive(Drop)]
+#[derive(Clone, Copy)]
 pub enum Margin {
     Spare(u64),
     Missing(u64),

@@ -3,7 +3,7 @@ use desk_units::{Figure, Shown, kilograms_down, put_shown};
 use desk_words::put_words;
 use num_whole::Below;
 
-#[derive(Drop)]
+#[derive(Clone, Copy)]
 pub struct Paper {
     pub fd: i32,
     pub ok: bool,

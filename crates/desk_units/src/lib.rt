@@ -1,4 +1,6 @@
 // RULES 14.2: the numbers of a sheet and of an answer as they are shown to a person, all by whole numbers.
+#![tactic(auto)]
+
 ghost use Rattle.std.specs.Prelude.{◌≡◌, false, ◌≤◌, length};
 ghost use Rattle.sheet_write.specs.Writing.{Wrote, Fitted};
 ghost use Rattle.desk_units.specs.Units.{rounded_up, nearest, shortest, celsius, bar, thousandth, kilograms_down, kilograms_up, density, pressure};
@@ -8,7 +10,7 @@ use num_whole::{Below, whole_below};
 use sheet_write::{number_len, put, put_number};
 
 // digits, with so many of them behind the point; `-` in front where it is below 0.
-#[derive(Drop)]
+#[derive(Clone, Copy)]
 pub struct Shown {
     pub below: bool,
     pub digits: u64,
@@ -16,7 +18,7 @@ pub struct Shown {
 }
 
 // A number that could be had, or none.
-#[derive(Drop)]
+#[derive(Clone, Copy)]
 pub enum Figure {
     Is(Shown),
     None,

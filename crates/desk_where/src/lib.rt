@@ -1,4 +1,6 @@
 // RULES 14.5: where a text stops being in the form, what is expected there, what there is, and a hint.
+#![tactic(auto)]
+
 ghost use Rattle.std.specs.Prelude.{◌≤◌};
 
 use desk_form::stop::{Behind, Expected, Stop, stop_in};
@@ -33,7 +35,7 @@ fn has_mark(s: &[u8]) -> bool {
 }
 
 // What stands at a place.
-#[derive(Drop)]
+#[derive(Clone, Copy)]
 enum Found {
     End,
     Mark,

@@ -1,4 +1,6 @@
 // RULES 14.1: the words of each refusal, what it says and then what to do, in one place; and the version.
+#![tactic(auto)]
+
 ghost use Rattle.std.specs.Prelude.{◌≡◌, ◌≤◌, length, drop};
 ghost use Rattle.sheet_write.specs.Writing.{Fitted};
 ghost use Rattle.desk_words.specs.Words.{version, words, behind_lines, up_to_line, UpTo};

@@ -1,10 +1,12 @@
 // RULES 3.5: what a door answers, a state or the number of its refusal and nothing else.
+#![tactic(auto)]
+
 ghost use Rattle.std.specs.Prelude.{◌≡◌};
 ghost use Rattle.door_answers.specs.Answer.{answer_with, refusal_number};
 
 use eos_state::{State, Stated};
 
-#[derive(Drop)]
+#[derive(Clone, Copy)]
 pub enum Answer {
     State(State),
     Refused(u8),

@@ -1,5 +1,7 @@
 // RULES 3.1 and 3.3: the checks on what is asked of a door, in two pieces: 3, 4 and 5, and 6; and RULES 5.4, the check
 // of the melting line on a pressure, asked or worked.
+#![tactic(auto)]
+
 ghost use Rattle.std.specs.Prelude.{◌≡◌, ◌&&◌};
 ghost use Rattle.std.specs.Float.Ieee.Scale.{finite};
 ghost use Rattle.door_checks.specs.Check.{boxed, number_of, ranged, solid};
@@ -7,7 +9,7 @@ ghost use Rattle.door_checks.specs.Check.{boxed, number_of, ranged, solid};
 use door_limits::{Range, is_outside};
 use num_working::{Worked, is_finite};
 
-#[derive(Drop)]
+#[derive(Clone, Copy)]
 pub enum Check {
     Passed,
     No(u8),

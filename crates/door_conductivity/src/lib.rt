@@ -1,5 +1,7 @@
 // RULES 5.5: what a door answers that may be asked for the thermal conductivity of its state too. All its steps have
 // been taken: this is the last.
+#![tactic(auto)]
+
 ghost use Rattle.std.specs.Prelude.{◌≡◌};
 ghost use Rattle.equation.specs.Equation.{of1996};
 ghost use Rattle.door_conductivity.specs.Conducted.{conducting, with_conductivity};
@@ -10,20 +12,20 @@ use equation::conductivity_at;
 use num_working::Worked;
 
 // In W/(m K).
-#[derive(Drop)]
+#[derive(Clone, Copy)]
 pub enum Conductivity {
     NotAsked,
     Is(f64),
 }
 
 // A state, and what it carries on request.
-#[derive(Drop)]
+#[derive(Clone, Copy)]
 pub struct Carried {
     pub state: State,
     pub conductivity: Conductivity,
 }
 
-#[derive(Drop)]
+#[derive(Clone, Copy)]
 pub enum Conducted {
     State(Carried),
     Refused(u8),

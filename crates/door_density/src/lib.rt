@@ -1,5 +1,7 @@
 // RULES 5.2: the density door, the state at a temperature and a density. Each step of the definition has a function of
 // the same shape.
+#![tactic(auto)]
+
 ghost use Rattle.std.specs.Prelude.{◌≡◌};
 ghost use Rattle.equation.specs.Equation.{of1996};
 ghost use Rattle.door_density.specs.DensityDoor.{in_phase, beneath, entered, unboxed, density_door};

@@ -1,14 +1,16 @@
 // RULES 2.2, 2.3 and 5.1: what may be asked of a door, the critical box, and the ends of a search.
+#![tactic(auto)]
+
 ghost use Rattle.std.specs.Prelude.{◌≡◌};
 ghost use Rattle.door_limits.specs.Limits.{outside, document01, search_ends};
 
-#[derive(Drop)]
+#[derive(Clone, Copy)]
 pub struct Range {
     pub from: f64,
     pub to: f64,
 }
 
-#[derive(Drop)]
+#[derive(Clone, Copy)]
 pub struct Region {
     pub temperature: Range,
     pub pressure: Range,
@@ -17,7 +19,7 @@ pub struct Region {
 
 // A client's: what may be asked, and the critical box, its temperatures with its pressures for the pressure door and
 // with its densities for the density door.
-#[derive(Drop)]
+#[derive(Clone, Copy)]
 pub struct Limits {
     pub asked: Region,
     pub critical: Region,
@@ -25,7 +27,7 @@ pub struct Limits {
 
 // Those of every search: its densities, of vapour up to so many times the saturated vapour's, of liquid from so many
 // times the saturated liquid's.
-#[derive(Drop)]
+#[derive(Clone, Copy)]
 pub struct Ends {
     pub from: f64,
     pub to: f64,

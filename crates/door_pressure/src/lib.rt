@@ -1,5 +1,7 @@
 // RULES 5.1: the pressure door, the state at a temperature and a pressure. Each step of the definition has a function
 // of the same shape.
+#![tactic(auto)]
+
 mod search;
 
 ghost use Rattle.std.specs.Prelude.{◌≡◌};

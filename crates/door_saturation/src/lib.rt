@@ -1,5 +1,7 @@
 // RULES 5.6: the vapour pressure and the two saturated densities at a temperature, by themselves. A working that fails
 // is refusal 7 (RULES 4.2).
+#![tactic(auto)]
+
 ghost use Rattle.std.specs.Prelude.{◌≡◌};
 ghost use Rattle.equation.specs.Equation.{of1996};
 ghost use Rattle.door_saturation.specs.Saturation.{worked_at, saturated};
@@ -9,14 +11,14 @@ use equation::{critical_temperature, liquid_density, vapour_density, vapour_pres
 use num_working::{Worked, is_finite};
 
 // The vapour pressure in Pa, the saturated densities in kg/m³.
-#[derive(Drop)]
+#[derive(Clone, Copy)]
 pub struct Saturation {
     pub pressure: f64,
     pub vapour: f64,
     pub liquid: f64,
 }
 
-#[derive(Drop)]
+#[derive(Clone, Copy)]
 pub enum Saturated {
     Is(Saturation),
     Refused(u8),

@@ -1,12 +1,14 @@
 // The five derivatives that Table 3 needs, each with its factor: δφ_δ, δ²φ_δδ, τφ_τ, τ²φ_ττ, δτφ_δτ. A number for each;
 // the brackets of a row by its numbers (004, Table 32), whatever table they stand in; and how a row's figures, its term
 // times its brackets, are added up: all five, or the first, which a pressure needs.
+#![tactic(auto)]
+
 ghost use Rattle.std.specs.Prelude.{◌≡◌};
 ghost use Rattle.num_formulas.specs.Formula.{num, value};
 ghost use Rattle.eos_brackets.specs.Derivative.{of, five, times, grown};
 ghost use Rattle.eos_brackets.specs.Bracket.{polynomial, first, exponential, gaussian};
 
-#[derive(Drop)]
+#[derive(Clone, Copy)]
 pub struct Five {
     pub d: f64,
     pub dd: f64,

@@ -1,5 +1,7 @@
 // The thermal conductivity at a temperature and a density (002; docs/ARRANGEMENT.md, section 13): that of the dilute
 // gas, the residual, and the empirical critical enhancement. A working that fails is refusal 7 (RULES 4.2).
+#![tactic(auto)]
+
 ghost use Rattle.std.specs.Prelude.{◌≡◌};
 ghost use Rattle.num_formulas.specs.Formula.{num, value};
 ghost use Rattle.eos_conductivity.specs.Conductivity.{reduced, dilute, residual, exponent, enhancement, background, conductivity_at, dilute_at, background_at};

@@ -1,6 +1,8 @@
 // The constants of the equation of 1996 (RULES 2.1), each the f64 nearest to what is printed (RULES 4.1); the reduced
 // variables δ and τ (RULES 4.9; 004, section 2.1); and the exponents of its roots that 004 prints in another way than
 // as the fraction that is worked (RULES 4.7).
+#![tactic(auto)]
+
 ghost use Rattle.std.specs.Prelude.{◌≡◌};
 ghost use Rattle.eos_constants.specs.Constant.{span_wagner};
 ghost use Rattle.eos_constants.specs.Exponent.{worked_as};
@@ -10,7 +12,7 @@ ghost use Rattle.num_formulas.specs.Formula.{value};
 use num_roots::root::Exponent;
 use num_working::over;
 
-#[derive(Drop)]
+#[derive(Clone, Copy)]
 pub struct Constants {
     // the critical temperature, K
     pub temperature: f64,
@@ -48,7 +50,7 @@ pub fn tau_at(t: f64) -> f64
 }
 
 // 0.34 and 10/6 of the saturated densities, and b = 0.875 and 0.925 of the non-analytic terms.
-#[derive(Drop)]
+#[derive(Clone, Copy)]
 pub enum Printed {
     Of0_34,
     Of10_6,

@@ -1,5 +1,7 @@
 // The saturated densities at a temperature (004, eqs. (3.14) and (3.15); RULES 4.3 and 4.7 for the powers). A working
 // that fails is refusal 7 (RULES 4.2).
+#![tactic(auto)]
+
 ghost use Rattle.std.specs.Prelude.{◌≡◌};
 ghost use Rattle.num_working.specs.Working.{plain};
 ghost use Rattle.num_roots.specs.Root as Root;

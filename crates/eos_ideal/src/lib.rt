@@ -1,5 +1,7 @@
 // τφ°_τ and τ²φ°_ττ, the ideal part of what Table 3 needs (004, section 6.1, Tables 27 and 28). A working that fails is
 // refusal 7 (RULES 4.2); each of the two is worked on its own, so that one can fail and the other not.
+#![tactic(auto)]
+
 ghost use Rattle.std.specs.Prelude.{◌≡◌};
 ghost use Rattle.num_formulas.specs.Formula.{num, ◌⊕◌, ◌⊖◌};
 ghost use Rattle.eos_ideal.specs.Ideal.{table27, head_τ, head_ττ, row_τ, row_ττ, phi_τ, phi_ττ, sums, ideal_part};
@@ -8,14 +10,14 @@ use num_exponential::exponential::{answer_alone, exponential};
 use num_working::{Worked, checked, over, plain};
 
 // A row of Table 27.
-#[derive(Drop)]
+#[derive(Clone, Copy)]
 struct Row {
     a: f64,
     theta: f64,
 }
 
 // Table 27 but for a₁, which is for the entropy only.
-#[derive(Drop)]
+#[derive(Clone, Copy)]
 struct Table {
     a2: f64,
     a3: f64,
@@ -27,13 +29,13 @@ struct Table {
 }
 
 // φ°_τ and φ°_ττ as far as they are summed, in plain f64.
-#[derive(Drop)]
+#[derive(Clone, Copy)]
 struct Sums {
     first: f64,
     second: f64,
 }
 
-#[derive(Drop)]
+#[derive(Clone, Copy)]
 pub struct Ideal {
     // τφ°_τ
     pub first: Worked,

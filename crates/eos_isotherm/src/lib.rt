@@ -1,4 +1,6 @@
 // What hangs on the temperature alone, in plain f64, worked once for a search (RULES 5.1) and handed on by value.
+#![tactic(auto)]
+
 ghost use Rattle.std.specs.Prelude.{◌≡◌, ◌<◌, get_or};
 ghost use Rattle.num_working.specs.Working.{plain};
 ghost use Rattle.num_roots.specs.Root.{root};
@@ -13,7 +15,7 @@ use eos_rows::{Gaussian, NonAnalytic, gaussian_row, non_analytic_row};
 use num_roots::root::{Exponent, root};
 use num_working::plain;
 
-#[derive(Drop)]
+#[derive(Clone, Copy)]
 pub struct Isotherm {
     pub tau: f64,
     // τᵗ of rows 1 to 39

@@ -1,5 +1,7 @@
 // The melting pressure at a temperature (004, eq. (3.10); docs/ARRANGEMENT.md, section 11): where the fluid ends and
 // dry ice begins. A working that fails is refusal 7 (RULES 4.2).
+#![tactic(auto)]
+
 ghost use Rattle.std.specs.Prelude.{◌≡◌};
 ghost use Rattle.num_formulas.specs.Formula.{value};
 ghost use Rattle.eos_melting.specs.Melting.{past_triple, melting_pressure};

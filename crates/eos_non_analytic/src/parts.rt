@@ -12,7 +12,7 @@ use num_roots::side::{three_roots, two_roots};
 use num_working::over;
 
 // What the three rows share: e = δ − 1, X = e·e, r = root 5/3 of X, v = root 2/3 of X.
-#[derive(Drop)]
+#[derive(Clone, Copy)]
 pub struct Near {
     pub e: f64,
     pub x: f64,
@@ -21,7 +21,7 @@ pub struct Near {
 }
 
 // θ, Δ and Xᵃ⁻¹ of a row, which rows 40 and 41 share.
-#[derive(Drop)]
+#[derive(Clone, Copy)]
 struct Shared {
     theta: f64,
     delta: f64,
@@ -29,7 +29,7 @@ struct Shared {
 }
 
 // θ, Δ, P₀ = Δᵇ, P₁ = P₀/Δ and Xᵃ⁻¹ of a row.
-#[derive(Drop)]
+#[derive(Clone, Copy)]
 pub struct Edge {
     pub theta: f64,
     pub delta: f64,
@@ -39,7 +39,7 @@ pub struct Edge {
 }
 
 // All of it.
-#[derive(Drop)]
+#[derive(Clone, Copy)]
 pub struct Critical {
     pub near: Near,
     pub first: Edge,

@@ -1,5 +1,7 @@
 // The whole powers that Table 31 needs, each worked once and handed on together (RULES 4.3; docs/ARRANGEMENT.md,
 // section 2), as arrays whose sizes are the table's.
+#![tactic(auto)]
+
 ghost use Rattle.std.specs.Prelude.{◌≡◌};
 ghost use Rattle.num_powers.specs.Power.{powers};
 

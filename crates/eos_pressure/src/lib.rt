@@ -1,5 +1,7 @@
 // The pressure on an isotherm at a density. What hangs on the temperature alone is worked once, as an isotherm, and
 // handed on by value, so that no probe of a search works it again; the temperature itself stands beside it.
+#![tactic(auto)]
+
 ghost use Rattle.std.specs.Prelude.{◌≡◌};
 ghost use Rattle.num_formulas.specs.Formula.{value};
 ghost use Rattle.eos_pressure.specs.Pressure.{pressure_formula, pressure_on};

@@ -23,21 +23,21 @@ use eos_rows::{gaussian_row, non_analytic_row};
 use eos_terms::term::{Point, at_density};
 use num_working::{Worked, checked, is_finite};
 
-#[derive(Drop)]
+#[derive(Clone, Copy)]
 pub enum Sums {
     Summed(Five),
     Broken,
 }
 
 // The sums that are asked for, in plain f64; and where all five are, how many terms fell away.
-#[derive(Drop)]
+#[derive(Clone, Copy)]
 struct Added {
     five: Five,
     fallen: u32,
 }
 
 // The five sums, and how many terms fell away.
-#[derive(Drop)]
+#[derive(Clone, Copy)]
 pub struct Residual {
     pub sums: Sums,
     pub fallen: u32,

@@ -1,6 +1,8 @@
 // Table 31 of 004, read as docs/READING.md says: rows 1 to 34 by column, and rows 35 to 42, which have more numbers and
 // are few, by row, each equal to the definition's (specs/Row.antt) by computation. Such a row is had by its place among
 // those of its kind, counted from 0; past the end stands the last. `new` makes a row of what one line of the table prints.
+#![tactic(auto)]
+
 pub mod columns;
 
 ghost use Rattle.std.specs.Prelude.{◌≡◌, get_or};
@@ -9,7 +11,7 @@ ghost use Rattle.eos_rows.specs.Row.{gaussians, row39, non_analytics, row42};
 use eos_constants::Printed;
 
 // Rows 35 to 39.
-#[derive(Drop)]
+#[derive(Clone, Copy)]
 pub struct Gaussian {
     pub n: f64,
     pub d: u8,
@@ -21,7 +23,7 @@ pub struct Gaussian {
 }
 
 // Rows 40 to 42. β is 0.3 in each. `half` is true where a is 3.5 and not 3; `root` is how a power b is worked.
-#[derive(Drop)]
+#[derive(Clone, Copy)]
 pub struct NonAnalytic {
     pub n: f64,
     pub a: f64,

@@ -1,5 +1,7 @@
 // The vapour pressure at a temperature (004, eq. (3.13); RULES 4.3 and 4.7 for the powers), and θ, which the saturated
 // densities stand on too. A working that fails is refusal 7 (RULES 4.2).
+#![tactic(auto)]
+
 ghost use Rattle.std.specs.Prelude.{◌≡◌};
 ghost use Rattle.num_formulas.specs.Formula.{num, value, work};
 ghost use Rattle.eos_saturation.specs.Saturation.{theta, pressure_sum, vapour_pressure};

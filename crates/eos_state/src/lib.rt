@@ -1,5 +1,7 @@
 // RULES 4.9: the state on an isotherm at a density (004, Table 3; docs/ARRANGEMENT.md, sections 9 and 12), eight numbers,
 // a phase and how many terms fell away, or a failure.
+#![tactic(auto)]
+
 ghost use Rattle.std.specs.Prelude.{◌≡◌, ◌&&◌};
 ghost use Rattle.std.specs.Float.Ieee.Scale.{finite};
 ghost use Rattle.num_working.specs.Working.{checked};
@@ -15,7 +17,7 @@ use eos_residual::sum::{Sums, residual_part};
 use num_roots::root::{Exponent, root};
 use num_working::{Worked, checked, is_finite, over, plain};
 
-#[derive(Drop)]
+#[derive(Clone, Copy)]
 pub enum Phase {
     Vapour,
     Liquid,
@@ -23,7 +25,7 @@ pub enum Phase {
 }
 
 // T, p, ρ, u, h, cᵥ, cₚ and the sound speed, in the units of RULES 4.9, the phase, and how many terms fell away.
-#[derive(Drop)]
+#[derive(Clone, Copy)]
 pub struct State {
     pub t: f64,
     pub p: f64,
@@ -37,7 +39,7 @@ pub struct State {
     pub fallen: u32,
 }
 
-#[derive(Drop)]
+#[derive(Clone, Copy)]
 pub enum Stated {
     Known(State),
     Unknown,

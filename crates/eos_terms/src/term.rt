@@ -13,7 +13,7 @@ use eos_rows::{Gaussian, NonAnalytic, gaussian_row, non_analytic_row};
 use num_exponential::decay::{Twelve, twelve_decays};
 
 // The powers of δ, e^(−δᶜ) for c from 1 to 6, the exponentials of rows 35 to 39, and Ψ of rows 40 and 41 and of row 42.
-#[derive(Drop)]
+#[derive(Clone, Copy)]
 pub struct Point {
     pub delta: f64,
     pub powers: [f64; 11],
@@ -23,7 +23,7 @@ pub struct Point {
 }
 
 // The same, and how many terms fell away, where that is told.
-#[derive(Drop)]
+#[derive(Clone, Copy)]
 pub struct Told {
     pub point: Point,
     pub fallen: u32,

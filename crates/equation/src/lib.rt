@@ -1,4 +1,6 @@
 // What a door (RULES 5) needs of an equation of state, of that of 1996: the one room of it that the doors know.
+#![tactic(auto)]
+
 ghost use Rattle.std.specs.Prelude.{◌≡◌};
 ghost use Rattle.equation.specs.Equation.{of1996, curve, pressure_on, state_on};
 
@@ -9,7 +11,7 @@ use num_working::Worked;
 
 // The temperature, and what hangs on it alone, worked once and handed on by value. The temperature stands beside the
 // isotherm: read out of it apart from the rest, it would have the whole copied at each probe of a search.
-#[derive(Drop)]
+#[derive(Clone, Copy)]
 pub struct Curve {
     pub t: f64,
     pub isotherm: Isotherm,

@@ -1,6 +1,8 @@
 // RULES 12: for programs in other languages, the two doors, by a state's eight numbers or by all that it carries, many
 // states at once, saturation, the report, the words of a refusal and the version (include/makhroeng.h). Nothing is kept between calls, so
 // any number of threads may call at once. A slice is a pointer and a length.
+#![tactic(auto)]
+
 ghost use Rattle.std.specs.Prelude.{◌≡◌};
 ghost use Rattle.door_limits.specs.Limits.{document01};
 ghost use Rattle.equation.specs.Equation.{of1996};

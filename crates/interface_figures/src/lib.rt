@@ -1,4 +1,6 @@
 // RULES 12: what the functions for C hand over in the figures that a caller lends, and the number that they return.
+#![tactic(auto)]
+
 ghost use Rattle.std.specs.Prelude.{◌≡◌, ◌≤◌, length, set};
 ghost use Rattle.equation.specs.Equation.{of1996};
 ghost use Rattle.door_conductivity.specs.Conducted.{with_conductivity};

@@ -1,4 +1,6 @@
 // RULES 12: many states at once, for the function that is lent slices of them.
+#![tactic(auto)]
+
 ghost use Rattle.std.specs.Prelude.{◌*◌, ◌≡◌, eqb};
 ghost use Rattle.equation.specs.Equation.{of1996};
 ghost use Rattle.door_limits.specs.Limits.{document01};

@@ -12,7 +12,7 @@ use crate::lockstep::{chains, ten_squarings};
 use num_working::{is_finite, plain};
 
 // By fields: of an array each place would have to be proved to lie in it.
-#[derive(Drop)]
+#[derive(Clone, Copy)]
 pub struct Twelve {
     pub a: f64,
     pub b: f64,

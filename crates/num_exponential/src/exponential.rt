@@ -9,14 +9,14 @@ ghost use Rattle.num_exponential.specs.Decay.{in_series};
 use num_working::{Worked, checked, is_finite};
 
 // An answer, and whether its argument was below −36.
-#[derive(Drop)]
+#[derive(Clone, Copy)]
 pub struct Said {
     pub value: f64,
     pub fallen: bool,
 }
 
 // Where it is refused, there is no answer to say it with.
-#[derive(Drop)]
+#[derive(Clone, Copy)]
 pub enum Raised {
     Answered(Said),
     Refused,

@@ -1,4 +1,6 @@
 // RULES 4.3: whole powers, by n − 1 products from the left.
+#![tactic(auto)]
+
 ghost use Rattle.std.specs.Prelude.{◌≡◌};
 ghost use Rattle.num_powers.specs.Power.{power};
 

@@ -14,7 +14,7 @@ use num_powers::whole_power;
 use num_working::{Worked, checked, is_finite};
 
 // m/k; `root` refuses one that is not below 2.
-#[derive(Drop)]
+#[derive(Clone, Copy)]
 pub struct Exponent {
     pub m: usize,
     pub k: usize,
@@ -171,7 +171,7 @@ fn crossing(t: f64, k: usize, guess: u64) -> Crossing
 }
 
 // Whole powers of a float and its two neighbours.
-#[derive(Drop)]
+#[derive(Clone, Copy)]
 pub(crate) struct Three {
     below: f64,
     here: f64,

@@ -11,14 +11,14 @@ use num_powers::whole_power;
 use num_working::plain;
 
 // Of one number.
-#[derive(Drop)]
+#[derive(Clone, Copy)]
 pub struct TwoRoots {
     pub first: f64,
     pub second: f64,
 }
 
 // Two of one number, and the first of another.
-#[derive(Drop)]
+#[derive(Clone, Copy)]
 pub struct ThreeRoots {
     pub first: f64,
     pub second: f64,

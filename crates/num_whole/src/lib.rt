@@ -1,8 +1,10 @@
 // RULES 6.5: the whole number at or below a float.
+#![tactic(auto)]
+
 ghost use Rattle.std.specs.Prelude.{◌≡◌};
 ghost use Rattle.num_whole.specs.Whole.{whole_below};
 
-#[derive(Drop)]
+#[derive(Clone, Copy)]
 pub enum Below {
     At(u64),
     Out,

@@ -1,9 +1,11 @@
 // RULES 4.2: a number that was worked is finite, or the working has failed.
+#![tactic(auto)]
+
 ghost use Rattle.std.specs.Prelude.{◌≡◌};
 ghost use Rattle.std.specs.Float.Ieee.Scale.{finite};
 ghost use Rattle.num_working.specs.Working.{checked, over, plain};
 
-#[derive(Drop)]
+#[derive(Clone, Copy)]
 pub enum Worked {
     Number(f64),
     Failed,

@@ -2,6 +2,8 @@
 // that is for the empirical enhancement, by the density door; the one without an enhancement; and of its table of
 // recommended values those where it has none. A line a point, then points that must not be found right, and last a
 // state whose conductivity fails, which no door gives.
+#![tactic(auto)]
+
 use door_answers::Answer;
 use door_conductivity::{Carried, Conducted, Conductivity, with_conductivity};
 use door_density::from_density;

@@ -1,5 +1,7 @@
 // What is said to a person (RULES 14): the help; sheets, good and damaged, each with its report, its explanation and its
 // warnings by themselves; and the words of each refusal. What it prints is worked elsewhere too (crosscheck/desk.py).
+#![tactic(auto)]
+
 use desk_explain::{explain, warn};
 use desk_paper::help::say_help;
 use desk_paper::paper::paper_on;

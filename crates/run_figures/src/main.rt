@@ -1,6 +1,8 @@
 // The saturation figures and the melting pressure at temperatures, I₁ and I₂ of the ideal part at values of τ,
 // pressures and states with the count of the terms that fell away, thermal conductivities, and saturation by itself; their
 // bits and counts were worked elsewhere (crosscheck/equation.py, crosscheck/saturation.py). One figure a line.
+#![tactic(auto)]
+
 use door_limits::document_01;
 use door_saturation::{Saturated, saturated_at};
 use eos_brackets::Five;
@@ -100,7 +102,7 @@ fn saturation_at(t: f64) {
 }
 
 // What is worked at each number of a list.
-#[derive(Drop)]
+#[derive(Clone, Copy)]
 enum Of {
     Saturation,
     Melting,

@@ -1,6 +1,8 @@
 // 004's tables of states against the library: the isobars (RULES 8.3), their rows on the melting line (RULES 8.4), and
 // saturation. The tables, data/isobars.csv and data/saturation.csv, are as read from the scan (docs/READING.md). A line
 // for each failure, the counts, and last how many failures there are.
+#![tactic(auto)]
+
 mod isobar;
 mod melting;
 mod saturated;
@@ -13,7 +15,7 @@ use run_print::table::line_after;
 use run_print::tally::{FAILURES, Tally, none};
 
 // What a table's rows are compared with.
-#[derive(Drop)]
+#[derive(Clone, Copy)]
 enum With {
     Door,
     MeltingLine,

@@ -5,7 +5,7 @@ ghost use Rattle.std.specs.Prelude.{◌≤◌, length};
 use crate::place::place_of;
 use num_powers::whole_power;
 
-#[derive(Drop)]
+#[derive(Clone, Copy)]
 pub struct Decimal {
     pub negative: bool,
     pub digits: u64,
@@ -13,7 +13,7 @@ pub struct Decimal {
 }
 
 // A cell's number, or none: `bad_cells` names it, or it holds no number.
-#[derive(Drop)]
+#[derive(Clone, Copy)]
 pub enum Cell {
     Readable(Decimal),
     Damaged,

@@ -1,6 +1,8 @@
 // The readings of RULES 8.1 and 8.2 but those of a sheet, and more: powers, exponentials and roots, and states by the
 // two doors, whose bits were worked elsewhere (crosscheck/numerics.py and doors.py). One a line, numbers as the sixteen
 // hexadecimal digits of their bits.
+#![tactic(auto)]
+
 mod doors;
 
 use eos_constants::{Printed, worked_as};

@@ -1,6 +1,8 @@
 // Sheets, each by a title and its report: the first example of RULES 7.4, the sheets of RULES 8.2, the refusals that
 // a sheet or a line of one can give, and their order; damaged texts; outputs of several lengths. What it prints is worked
 // elsewhere too (crosscheck/sheets.py).
+#![tactic(auto)]
+
 use door_limits::document_01;
 use libc::STDOUT_FILENO;
 use run_print::bits::say;

@@ -34,7 +34,7 @@ pub fn find(text: &[u8], from: usize, mark: u8) -> usize
 }
 
 // A title and a text in a list: where the title ends, and where the text starts and the next title.
-#[derive(Drop)]
+#[derive(Clone, Copy)]
 pub struct Places {
     pub end: usize,
     pub start: usize,

@@ -1,5 +1,7 @@
 // RULES 13: `scorer FILE..`, the report of each sheet on standard output, exactly its bytes, and what has to be said of it
 // on standard error; `--explain` says it under the report. A program has no exit status to choose.
+#![tactic(auto)]
+
 ghost use Rattle.scorer.specs.Scorer.{ReadInto, Reports, Scores};
 
 use desk_arguments::{Asked, Named, Wish, Word, nothing_asked, take_word, word_of};
@@ -13,14 +15,14 @@ use sheet_report::Written;
 use sheet_score::score;
 
 // How many bytes were read.
-#[derive(Drop)]
+#[derive(Clone, Copy)]
 enum Read {
     Bytes(usize),
     Failed,
 }
 
 // How many bytes were read, and how many their report has.
-#[derive(Drop)]
+#[derive(Clone, Copy)]
 enum Scored {
     Report(usize, usize),
     Unread,

@@ -5,7 +5,7 @@ ghost use Rattle.sheet_line.specs.Cylinder.{kind, reading, cylinder, KindIs, Cyl
 
 use sheet_text::{Field, FieldAt, Place, read_field_after, read_field_to, skip};
 
-#[derive(Drop)]
+#[derive(Clone, Copy)]
 pub enum Kind {
     Pressure,
     Density,
@@ -13,13 +13,13 @@ pub enum Kind {
 }
 
 // A kind and the place after it.
-#[derive(Drop)]
+#[derive(Clone, Copy)]
 pub enum KindAt {
     Bad,
     Found(Kind, usize),
 }
 
-#[derive(Drop)]
+#[derive(Clone, Copy)]
 pub struct Cylinder {
     pub number: Field,
     pub temperature: Field,
@@ -29,7 +29,7 @@ pub struct Cylinder {
 }
 
 // A cylinder and the place after its line.
-#[derive(Drop)]
+#[derive(Clone, Copy)]
 pub enum CylinderAt {
     Bad,
     Found(Cylinder, usize),

@@ -11,14 +11,14 @@ use crate::record::{Record, Recorded, record_of};
 use sheet_mass::Grams;
 use sheet_text::Field;
 
-#[derive(Drop)]
+#[derive(Clone, Copy)]
 pub enum Temperature {
     Blank,
     Kelvin(f64),
 }
 
 // With its kind.
-#[derive(Drop)]
+#[derive(Clone, Copy)]
 pub enum Reading {
     Blank,
     Pressure(f64),
@@ -26,7 +26,7 @@ pub enum Reading {
     Weighed(Grams),
 }
 
-#[derive(Drop)]
+#[derive(Clone, Copy)]
 pub struct Line {
     pub number: Field,
     pub temperature: Temperature,
@@ -35,7 +35,7 @@ pub struct Line {
 }
 
 // A line and the place after it.
-#[derive(Drop)]
+#[derive(Clone, Copy)]
 pub enum LineAt {
     Bad,
     Found(Line, usize),

@@ -7,7 +7,7 @@ use sheet_mass::Grams;
 use sheet_text::Field;
 
 // In Pa, g/m³ or g. A blank has no kind.
-#[derive(Drop)]
+#[derive(Clone, Copy)]
 pub enum Recorded {
     Blank,
     Pressure(u64),
@@ -16,7 +16,7 @@ pub enum Recorded {
 }
 
 // The temperature in 0.1 mK, the volume in mL.
-#[derive(Drop)]
+#[derive(Clone, Copy)]
 pub struct Record {
     pub number: Field,
     pub temperature: Field,

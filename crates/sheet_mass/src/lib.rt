@@ -1,17 +1,19 @@
 // RULES 6.7 and 11: the grams of a scale and the milligrams of a total, and the one way from the first to the second.
+#![tactic(auto)]
+
 ghost use Rattle.std.specs.Prelude.{◌≡◌, ◌≤◌};
 ghost use Rattle.sheet_mass.specs.Mass.{is_mass, milligrams_of, from_scale};
 
 // Of the agent, as a scale shows them.
-#[derive(Drop)]
+#[derive(Clone, Copy)]
 pub struct Grams(pub u64);
 
 // Of a line, and of a total.
-#[derive(Drop)]
+#[derive(Clone, Copy)]
 pub struct Milligrams(pub u64);
 
 // A weighed mass in milligrams, or that it is out of its range.
-#[derive(Drop)]
+#[derive(Clone, Copy)]
 pub enum Scaled {
     At(Milligrams),
     Out,

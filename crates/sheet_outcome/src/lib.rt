@@ -1,5 +1,7 @@
 // RULES 3.4 and 7.2: what came of a line and of a sheet, whether the sheet is sent back before its lines are worked,
 // and its ending after.
+#![tactic(auto)]
+
 ghost use Rattle.std.specs.Prelude.{◌≡◌};
 ghost use Rattle.sheet_outcome.specs.Outcome.{is_need, needed, admitted, ending};
 
@@ -7,27 +9,27 @@ use sheet_mass::Milligrams;
 use sheet_text::Field;
 
 // A cylinder line's milligrams, or the number of its refusal.
-#[derive(Drop)]
+#[derive(Clone, Copy)]
 pub enum Weighed {
     Mass(Milligrams),
     Refused(u8),
 }
 
 // An array holds structs: what came of a line, in one.
-#[derive(Drop)]
+#[derive(Clone, Copy)]
 pub struct Mark {
     pub weighed: Weighed,
 }
 
 // The first `count` marks are the sheet's lines.
-#[derive(Drop)]
+#[derive(Clone, Copy)]
 pub struct Marks {
     pub marks: [Mark; 32],
     pub count: usize,
 }
 
 // The total's milligrams and what they come to, or the number that the sheet is sent back with.
-#[derive(Drop)]
+#[derive(Clone, Copy)]
 pub enum Ending {
     Covered(Milligrams),
     Short(Milligrams),
@@ -35,21 +37,21 @@ pub enum Ending {
 }
 
 // What came of a sheet. One that is sent back before its lines are worked has no marks.
-#[derive(Drop)]
+#[derive(Clone, Copy)]
 pub struct Outcome {
     pub marks: Marks,
     pub ending: Ending,
 }
 
 // A sheet whose lines are to be worked, with its need in mg, or one that is sent back before.
-#[derive(Drop)]
+#[derive(Clone, Copy)]
 pub enum Admitted {
     Need(u64),
     SentBack(u8),
 }
 
 // The milligrams of all lines, or that some line was refused.
-#[derive(Drop)]
+#[derive(Clone, Copy)]
 pub enum Summed {
     Sum(Milligrams),
     Refused,

@@ -1,5 +1,7 @@
 // RULES 6.1 and 6.3: reading a sheet, `N` and the agent needed, and then a line for each cylinder up to the end of the
 // text.
+#![tactic(auto)]
+
 ghost use Rattle.std.specs.Prelude.{◌≡◌, ◌≤◌, length, drop};
 ghost use Rattle.std.proofs.Math.Option.{none};
 ghost use Rattle.sheet_line.specs.Line.{blank_line};
@@ -10,7 +12,7 @@ use sheet_line::line::{Line, LineAt, Reading, Temperature, read_line};
 use sheet_text::{Field, FieldAt, read_field_after};
 
 // The first 32 lines, and how many there are.
-#[derive(Drop)]
+#[derive(Clone, Copy)]
 pub struct Sheet {
     pub need: Field,
     pub lines: [Line; 32],
@@ -18,7 +20,7 @@ pub struct Sheet {
 }
 
 // ok: the text is in the form. Where it is not, the sheet is blank.
-#[derive(Drop)]
+#[derive(Clone, Copy)]
 pub struct SheetRead {
     pub ok: bool,
     pub sheet: Sheet,

@@ -1,5 +1,7 @@
 // RULES 7: the report. Its length is worked first, so that with refusal 15 every byte of the output stays as it was.
 // Each `put_` writes to the front of out and answers how many bytes it wrote.
+#![tactic(auto)]
+
 ghost use Rattle.std.specs.Prelude.{◌≡◌, ◌++◌, ◌+◌, ◌≤◌, length};
 ghost use Rattle.sheet_text.specs.Decimal.{decimal};
 ghost use Rattle.sheet_outcome.specs.Outcome.{marks_of};
@@ -10,7 +12,7 @@ use sheet_outcome::{Ending, Marks, Outcome, Weighed};
 use sheet_write::{number_len, put, put_number};
 
 // How many bytes were written, or the number of the refusal.
-#[derive(Drop)]
+#[derive(Clone, Copy)]
 pub enum Written {
     Bytes(usize),
     Refused(u8),

@@ -1,5 +1,7 @@
 // RULES 3.4: a sheet is read once, worked line by line, and reported; sent back by 14, 10, 11, 12 or 13, in this order,
 // and last by 15, for the report's length alone.
+#![tactic(auto)]
+
 ghost use Rattle.sheet_report.specs.Report.{ReportIs};
 ghost use Rattle.sheet_read.specs.Form.{in_form};
 ghost use Rattle.sheet_score.specs.Score.{report};

@@ -1,5 +1,7 @@
 // RULES 3.2, 6.6 and 6.7: the first checks of a line, before it is worked: 1, where a field that it requires is blank, and
 // 30, where a line before it has its cylinder number. And the first line that has a number (RULES 14.3).
+#![tactic(auto)]
+
 ghost use Rattle.std.specs.Prelude.{◌≡◌, [], ◌∷◌};
 ghost use Rattle.sheet_standing.specs.Standing.{no_temperature, lacking, is_on, numbers, standing, first_with};
 

@@ -1,25 +1,27 @@
 // RULES 6.2: a field of a line, blank or a whole number. Each reader answers what stands at a place of the text and the
 // place after it.
+#![tactic(auto)]
+
 ghost use Rattle.std.specs.Prelude.{◌≡◌, true, ◌-◌, ◌≤◌, drop};
 ghost use Rattle.sheet_text.specs.Parse.{byte};
 ghost use Rattle.sheet_text.specs.Field.{digit, field, field_to, field_after};
 ghost use Rattle.sheet_text.specs.Place.{FieldIs, PlaceIs};
 
-#[derive(Drop)]
+#[derive(Clone, Copy)]
 pub enum Field {
     Blank,
     Number(u64),
 }
 
 // A field and the place after it.
-#[derive(Drop)]
+#[derive(Clone, Copy)]
 pub enum FieldAt {
     Bad,
     Found(Field, usize),
 }
 
 // The place after a byte.
-#[derive(Drop)]
+#[derive(Clone, Copy)]
 pub enum Place {
     Bad,
     At(usize),

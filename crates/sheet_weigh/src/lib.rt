@@ -1,5 +1,7 @@
 // RULES 3.2, 3.4, 6.5, 6.6 and 6.7: what comes of a line, refused by 1, 30, 2, 23, its door or 7, in this order, or its
 // milligrams; and of a sheet, sent back by 14, 10, 11, 12 or 13, in this order, or the total.
+#![tactic(auto)]
+
 ghost use Rattle.std.specs.Prelude.{◌≡◌, [], ◌≤◌, take};
 ghost use Rattle.sheet_mass.specs.Mass.{from_scale};
 ghost use Rattle.sheet_outcome.specs.Outcome.{marks_of, total};

@@ -1,5 +1,7 @@
 // RULES 7.3: each function writes to the front of out and answers how many bytes it wrote; the bytes after them stay.
 // The bytes of `put` and `put_number` fit: a caller knows their number first.
+#![tactic(auto)]
+
 ghost use Rattle.std.specs.Prelude.{◌≡◌, ◌+◌, ◌/◌, ◌%◌, ◌<◌, ◌≤◌, length, set};
 ghost use Rattle.sheet_text.specs.Decimal.{decimal};
 ghost use Rattle.sheet_write.specs.Pairs.{pairs};

@@ -1,0 +1,11 @@
+-- Each turn comes further in the text, and no more are counted than bytes passed. Assumes nothing.
+use Prim.Native.Nat.{◌-◌, ◌≤◌}
+use lib.ListN.{length}
+use borrow.Author.Rules.{rules}
+use Rattle.desk_explain.proofs.count_warned.Given as goal
+
+abbrev pub invariant-loop-at : goal.invariant-loop-at
+invariant-loop-at l = (l.gauges ≤ l.at) × (l.heavy ≤ l.at) × (l.i ≤ l.at) × (l.at ≤ length l.s)
+
+abbrev pub decreases-loop-at : goal.decreases-loop-at
+decreases-loop-at l = length l.s - l.at

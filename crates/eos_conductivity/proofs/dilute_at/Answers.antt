@@ -1,0 +1,12 @@
+-- One test at the end stands for all. Assumes nothing.
+use mathlib.Core.Path.{◌∙◌}
+use Rattle.num_formulas.specs.Formula.{value}
+use Rattle.num_formulas.proofs.Formulas.{once}
+use Rattle.eos_conductivity.specs.Conductivity.{reduced, dilute, dilute_at}
+use borrow.Author.Rules.{rules}
+use Rattle.eos_conductivity.proofs.dilute_at.Goals as goal
+
+pub returns : goal.returns
+unfolding dilute_at dilute value
+returns c =
+    (rw (c.dilute.ensures, c.reduced_at.ensures) c c.checked.ensures) ∙ once (dilute (reduced c.args.t))

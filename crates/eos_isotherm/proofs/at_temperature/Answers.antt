@@ -1,0 +1,20 @@
+-- Each part is the definition's. Assumes nothing.
+use mathlib.Core.Path.{refl}
+use borrow.Author.Rules.{rules}
+use Rattle.num_formulas.specs.Formula.{value}
+use Rattle.eos_rows.specs.Row.{non_analytics}
+use Rattle.eos_isotherm.specs.Isotherm.{quarter_of, isotherm}
+use Rattle.eos_isotherm.proofs.at_temperature.Goals as goal
+
+pub returns : goal.returns
+unfolding isotherm quarter_of non_analytics value
+returns c =
+    rw (
+      c.psi_of-psi.ensures,
+      c.non_analytic_row.ensures,
+      c.four_bells-bell.ensures,
+      c.tau_powers-powers.ensures,
+      c.half_of-2.ensures,
+      c.half_of_lem.ensures,
+      c.tau_at-tau.ensures,
+    ) refl

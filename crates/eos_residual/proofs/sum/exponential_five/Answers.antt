@@ -1,0 +1,48 @@
+-- Each turn adds the next row's figures; what is left to add gives the sums. Assumes nothing.
+use mathlib.Core.Path.{◌≡◌, refl}
+use mathlib.Core.Bool.{true}
+use Prim.Native.Nat.{◌+◌, ◌-◌, ◌≤◌}
+use native.Mathlib.Omega.{arith}
+use borrow.Author.Rules.{rules}
+use lib.ListN.{get_or}
+use lib.Ieee.{Float}
+use Rattle.num_powers.specs.Power.{powers}
+use Rattle.num_working.specs.Number.{whole}
+use Rattle.num_working.specs.Working.{checked}
+use Rattle.eos_brackets.specs.Derivative.{of}
+use Rattle.eos_isotherm.specs.declared.Isotherm.{Isotherm}
+use Rattle.eos_terms.specs.Term.{decays}
+use Rattle.eos_terms.proofs.Points.{its_powers, its_decays}
+use Rattle.eos_residual.specs.Sum.{onto, exponential_figures}
+use Rattle.eos_residual.proofs.Sums.{Dues, dues_more, dues_none}
+use Rattle.eos_residual.proofs.Figures.{Placed, placed_by, exponential_length, exponential_placed}
+use Rattle.eos_residual.proofs.sum.exponential_five.Goals as goal
+use Rattle.eos_residual.proofs.sum.exponential_five.Goals.{In-loop-i}
+
+-- the row that a turn comes to
+low : (c : In-loop-i)
+    →    Placed (get_or c.delta_powers-ds.result (7 + c.loop-i.i) 0) (get_or c.decay_powers-cs.result c.loop-i.i 0)
+low c =
+    placed_by c.delta_powers-ds.ensures c.decay_powers-cs.ensures c.loop-i.i (omega arith)
+
+pub loop-i-init : goal.loop-i-init
+loop-i-init c = (omega arith, λ iso delta y x e k t. refl)
+
+pub loop-i-preserved : goal.loop-i-preserved
+unfolding whole
+loop-i-preserved c =
+ (
+      omega arith,
+      λ iso delta y x e.
+          dues_more true _ _ _ _ _ _ _ c.grow-s.ensures
+          (exponential_placed iso delta y x _ c.coefficients-ns.ensures c.delta_powers-ds.ensures c.tau_quarters-qs.ensures c.decay_powers-cs.ensures e
+          (omega arith) c.in_quarters-t.ensures c.exponential_brackets-brackets.ensures)
+          (c.loop-i.invariant.1 iso delta y x e),
+    )
+
+pub returns : goal.returns
+returns c =
+    let a = c.args in
+    dues_none true _ _ c.loop-i.i _
+    (c.loop-i.invariant.1 a.iso a.p.delta refl (its_powers a.iso a.p c.requires) (its_decays a.iso a.p c.requires))
+    (exponential_length a.iso a.p.delta) (omega arith)

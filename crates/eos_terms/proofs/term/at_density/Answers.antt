@@ -1,0 +1,18 @@
+-- The point by the twelve exponentials of its arguments, and the rows by what they say, where it is told. Assumes nothing.
+use mathlib.Core.Path.{◌≡◌, ap, ◌∙◌}
+use mathlib.Core.Bool.{cond}
+use borrow.Author.Rules.{rules}
+use Rattle.eos_terms.specs.Term.{point}
+use Rattle.eos_terms.specs.Fallen.{fallen_terms, fallen_rows, at_density}
+use Rattle.eos_terms.proofs.Counts.{counted}
+use Rattle.eos_terms.proofs.Points.{point_is}
+use Rattle.eos_terms.proofs.term.at_density.Goals as goal
+
+pub returns : goal.returns
+unfolding at_density
+returns c =
+    let a = c.args in
+    let placed : c.point_by.result ≡ point a.iso a.delta =
+    c.point_by.ensures ∙ rw (c.twelve_decays.ensures, c.exponents-x.ensures, c.powers_to_10-powers.ensures) (point_is a.iso a.delta) in
+    let count : fallen_rows c.exponents-x.result ≡ fallen_terms a.iso a.delta = ap fallen_rows c.exponents-x.ensures ∙ counted a.iso a.delta in
+    λ i. record { point = placed i; fallen = (c.rows_told-fallen.ensures ∙ (λ j. cond a.told (count j) 0)) i }

@@ -1,0 +1,20 @@
+-- Each turn of the loop is a turn of the definition. Assumes nothing.
+use mathlib.Core.Path.{◌≡◌, refl, sym, ◌∙◌}
+use native.Mathlib.Omega.{arith}
+use Rattle.num_working.specs.Working.{checked}
+use Rattle.num_exponential.specs.Exponential.{squared}
+use Rattle.num_exponential.proofs.Exponentials.{squared_turn, squared_end}
+use Rattle.num_exponential.proofs.exponential.squared.Goals as goal
+
+pub loop-n-init : goal.loop-n-init
+loop-n-init c = refl
+
+pub loop-n-preserved : goal.loop-n-preserved
+loop-n-preserved c =
+    let l = c.loop-n in
+    l.invariant ∙ squared_turn l.n l.s (omega arith)
+
+pub returns : goal.returns
+returns c =
+    let l = c.loop-n in
+    sym (l.invariant ∙ squared_end l.n _ (omega arith))

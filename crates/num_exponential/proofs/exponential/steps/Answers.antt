@@ -1,0 +1,44 @@
+-- Each return is the arm of the definition that the tests before it lead to. Assumes nothing.
+use mathlib.Core.Path.{◌≡◌, sym, ap, ◌∙◌}
+use borrow.Author.Rules.{rules}
+use lib.Ieee.{of_bits, of_int}
+use Rattle.num_working.specs.declared.Worked.{Worked}
+use Rattle.num_working.specs.Number.{whole}
+use Rattle.num_working.specs.Working.{checked, ◌/ᵂ◌}
+use Rattle.num_exponential.specs.Exponential.{steps}
+use Rattle.num_exponential.proofs.exponential.steps.Goals as goal
+use Rattle.num_exponential.proofs.exponential.steps.Goals.{After-falling-2}
+
+-- past the tests: 1 divided by the exponential of −x
+rising : (c : After-falling-2) → steps c.args.x ≡ checked (whole 1) /ᵂ c.falling-2.result
+unfolding steps of_bits of_int whole
+rising c =
+    let f = sym c.is_finite.ensures ∙ c.if-is_finite.true in
+    simp (steps, f, c.if-x.false, c.if-x-2.false, c.if-x-3.false, c.falling-2.ensures)
+
+pub returns-else-is_finite : goal.returns-else-is_finite
+unfolding steps
+returns-else-is_finite c = simp (steps, sym c.is_finite.ensures ∙ c.if-is_finite.false)
+
+pub returns-then-x : goal.returns-then-x
+unfolding steps of_bits of_int whole
+returns-then-x c = simp (steps, sym c.is_finite.ensures ∙ c.if-is_finite.true, c.if-x.true)
+
+pub returns-then-x-2 : goal.returns-then-x-2
+unfolding steps of_bits of_int whole
+returns-then-x-2 c = simp (steps, sym c.is_finite.ensures ∙ c.if-is_finite.true, c.if-x.false, c.if-x-2.true)
+
+pub returns-then-x-3 : goal.returns-then-x-3
+unfolding steps of_bits of_int whole
+returns-then-x-3 c =
+    let f = sym c.is_finite.ensures ∙ c.if-is_finite.true in
+    c.falling.ensures ∙ simp (steps, f, c.if-x.false, c.if-x-2.false, c.if-x-3.true)
+
+pub returns-in_default : goal.returns-in_default
+unfolding ◌/ᵂ◌ of_int whole
+returns-in_default c = sym (rising (goal.at.returns-in_default c).After-falling-2 ∙ ap (λ (w : Worked). checked (whole 1) /ᵂ w) c.in_default.is)
+
+pub returns : goal.returns
+unfolding ◌/ᵂ◌ of_bits of_int whole
+returns c =
+    c.checked.ensures ∙ sym (rising (goal.at.returns c).After-falling-2 ∙ ap (λ (w : Worked). checked (whole 1) /ᵂ w) c.in-Number.is)

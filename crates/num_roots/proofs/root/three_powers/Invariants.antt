@@ -1,0 +1,19 @@
+-- Each of the three is the i-th whole power of its float, and the loop ends at k. Assumes nothing.
+use mathlib.Core.Path.{◌≡◌, refl, ap, ◌∙◌}
+use Prim.Native.Nat.{ℕ, ◌≤◌, ◌+◌, ◌-◌}
+use native.Mathlib.Omega.{arith}
+use lib.Ieee.{Float, binary64, mul}
+use Rattle.num_powers.specs.Power.{power}
+use Rattle.num_powers.proofs.Powers.{power_next}
+use Rattle.num_roots.proofs.root.three_powers.Given as goal
+
+pub record Raised (x y z : Float) (i : ℕ) (below here above : Float) : Type 0 where
+  pub first : below ≡ power x i
+  pub second : here ≡ power y i
+  pub third : above ≡ power z i
+
+abbrev pub invariant-loop-i : goal.invariant-loop-i
+invariant-loop-i l = (1 ≤ l.i) × (l.i ≤ l.k) × Raised l.x l.y l.z l.i l.below l.here l.above
+
+abbrev pub decreases-loop-i : goal.decreases-loop-i
+decreases-loop-i l = l.k - l.i

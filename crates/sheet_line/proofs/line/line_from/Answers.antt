@@ -1,0 +1,6 @@
+-- Each part is what its function says. Assumes nothing.
+use borrow.Author.Rules.{rules}
+use Rattle.sheet_line.proofs.line.line_from.Goals as goal
+
+pub returns : goal.returns
+returns c = rw (c.temperature_of-kelvin.ensures, c.reading_of-reading.ensures)

@@ -1,0 +1,17 @@
+-- The field is blank, or its number is held by a float and divided once. Assumes nothing.
+use mathlib.Core.Path.{subst}
+use Rattle.num_working.specs.Number.{whole}
+use Rattle.sheet_text.specs.Field.{Small}
+use Rattle.sheet_line.proofs.Lines.{in_float_lem, ten_thousand}
+use borrow.Author.Rules.{rules}
+use Rattle.sheet_line.proofs.line.temperature_of.Goals as goal
+
+pub int_to_float-result : goal.int_to_float-result
+int_to_float-result c = in_float_lem _ (subst Small c.in-Number.is c.requires)
+
+pub returns-in-Blank : goal.returns-in-Blank
+returns-in-Blank c = rw c.in-Blank.is
+
+pub returns-in-Number : goal.returns-in-Number
+unfolding whole
+returns-in-Number c = rw (c.in-Number.is, ten_thousand)

@@ -1,0 +1,14 @@
+-- At each turn the last two digits of those that are left are written before the others, until one or two are left. Assumes nothing.
+use mathlib.Core.Path.{◌≡◌, refl}
+use native.Mathlib.Omega.{arith}
+use lib.ListN.{length, length-set}
+use borrow.Author.Rules.{rules}
+use Rattle.sheet_text.proofs.Decimals.{length_small, length_pair, length_pairs}
+use Rattle.sheet_write.proofs.Backward.{Behind, none_yet, at_most, two_more, first, first_two}
+use Rattle.sheet_write.proofs.put_pairs.Given as goal
+
+abbrev pub invariant-loop-left : goal.invariant-loop-left
+invariant-loop-left l = (length l.out ≡ length l.initial.out) × Behind l.initial.out l.n l.out l.at l.left
+
+abbrev pub decreases-loop-left : goal.decreases-loop-left
+decreases-loop-left l = l.left

@@ -22,7 +22,7 @@ pub returns-then-x : goal.returns-then-x
 returns-then-x c = past_the_top _ (ap (λ (w : Float). le w c.args.x) (sym top_bits) ∙ c.if-x.true)
 
 pub truncating_f64_to_u64-requires : goal.truncating_f64_to_u64-requires
-truncating_f64_to_u64-requires c = let k = truncated _ (low (goal.at.truncating_f64_to_u64-requires c).Else-x) (high (goal.at.truncating_f64_to_u64-requires c).Else-x) in (k.low, k.high)
+truncating_f64_to_u64-requires c = let k = truncated _ (low (goal.at.truncating_f64_to_u64-requires c).Else-x) (high (goal.at.truncating_f64_to_u64-requires c).Else-x) in record { lower_bound = k.low; upper_bound = k.high }
 
 pub returns : goal.returns
 unfolding whole_below

@@ -1,6 +1,5 @@
 -- In reach of whole numbers the kit's truncation is the cut. Assumes nothing.
 use Rattle.std.proofs.Common.{◌≡◌, ◌^◌, true, false, sym, ap, ◌∙◌}
-use borrow.Author.Tests.{not-true, not-false}
 use lib.Ieee.{Float, le}
 use Rattle.num_working.specs.Number.{whole}
 use Rattle.num_whole.specs.Whole.{whole_below}

@@ -1,6 +1,5 @@
 -- Searched for together where all three have to be, and else one by one. Assumes nothing.
 use mathlib.Core.Path.{sym, ◌∙◌}
-use borrow.Author.Rules.{rules}
 use Rattle.num_roots.proofs.side.three_roots.Goals as goal
 
 pub three_searched-requires : goal.three_searched-requires

@@ -1,5 +1,4 @@
 -- All are guessed before any is told; where a guess is none, each is the root. Assumes nothing.
-use borrow.Author.Rules.{rules}
 use Rattle.num_roots.proofs.Searchables.{unsigned, few}
 use Rattle.num_roots.proofs.side.three_searched.Goals as goal
 

@@ -1,5 +1,4 @@
 -- Both are guessed before either is told; where a guess is none, each is the root. Assumes nothing.
-use borrow.Author.Rules.{rules}
 use Rattle.num_roots.proofs.Searchables.{unsigned, few}
 use Rattle.num_roots.proofs.side.two_searched.Goals as goal
 

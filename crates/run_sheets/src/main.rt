@@ -4,8 +4,7 @@
 #![tactic(auto)]
 
 use door_limits::document_01;
-use libc::STDOUT_FILENO;
-use run_print::bits::say;
+use run_print::bits::{STDOUT, say};
 use run_texts::sheets::{each, reported};
 use run_texts::texts::{fill, load};
 use sheet_report::Written;
@@ -25,15 +24,15 @@ fn lent(out: &mut [u8]) {
         out,
     );
     say(b"= an output of dots: ");
-    io::print_decimal(STDOUT_FILENO, out.len() as u64);
+    io::print_decimal(STDOUT, out.len() as u64);
     match w {
         Written::Bytes(n) => {
             say(b", bytes written: ");
-            io::print_decimal(STDOUT_FILENO, n as u64);
+            io::print_decimal(STDOUT, n as u64);
         }
         Written::Refused(n) => {
             say(b", refused by ");
-            io::print_decimal(STDOUT_FILENO, n as u64);
+            io::print_decimal(STDOUT, n as u64);
         }
     }
     say(b"\n");

@@ -21,7 +21,7 @@ use Rattle.eos_residual.proofs.sum.exponential_five.Goals.{In-loop-i}
 
 -- the row that a turn comes to
 low : (c : In-loop-i)
-    →    Placed (get_or c.delta_powers-ds.result (7 + c.loop-i.i) 0) (get_or c.decay_powers-cs.result c.loop-i.i 0)
+    → Placed (get_or c.delta_powers-ds.result (7 + c.loop-i.i) 0) (get_or c.decay_powers-cs.result c.loop-i.i 0)
 low c =
     placed_by c.delta_powers-ds.ensures c.decay_powers-cs.ensures c.loop-i.i (omega arith)
 
@@ -30,15 +30,14 @@ loop-i-init c = (omega arith, λ iso delta y x e k t. refl)
 
 pub loop-i-preserved : goal.loop-i-preserved
 unfolding whole
-loop-i-preserved c =
- (
-      omega arith,
-      λ iso delta y x e.
-          dues_more true _ _ _ _ _ _ _ c.grow-s.ensures
-          (exponential_placed iso delta y x _ c.coefficients-ns.ensures c.delta_powers-ds.ensures c.tau_quarters-qs.ensures c.decay_powers-cs.ensures e
-          (omega arith) c.in_quarters-t.ensures c.exponential_brackets-brackets.ensures)
-          (c.loop-i.invariant.1 iso delta y x e),
-    )
+loop-i-preserved c = (
+  omega arith,
+  λ iso delta y x e.
+      dues_more true _ _ _ _ _ _ _ c.grow-s.ensures
+      (exponential_placed iso delta y x _ c.coefficients-ns.ensures c.delta_powers-ds.ensures c.tau_quarters-qs.ensures c.decay_powers-cs.ensures e
+      (omega arith) c.in_quarters-t.ensures c.exponential_brackets-brackets.ensures)
+      (c.loop-i.invariant.1 iso delta y x e),
+)
 
 pub returns : goal.returns
 returns c =

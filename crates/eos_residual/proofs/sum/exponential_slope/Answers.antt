@@ -23,7 +23,7 @@ use Rattle.eos_residual.proofs.sum.exponential_slope.Goals.{In-loop-i-2}
 
 -- the row that a turn comes to
 low : (c : In-loop-i-2)
-    →    Placed (get_or c.delta_powers-ds.result (7 + c.loop-i-2.i) 0) (get_or c.decay_powers-cs.result c.loop-i-2.i 0)
+    → Placed (get_or c.delta_powers-ds.result (7 + c.loop-i-2.i) 0) (get_or c.decay_powers-cs.result c.loop-i-2.i 0)
 low c =
     placed_by c.delta_powers-ds.ensures c.decay_powers-cs.ensures c.loop-i-2.i (omega arith)
 
@@ -40,16 +40,15 @@ loop-i-preserved c =
 
 pub loop-i-2-preserved : goal.loop-i-2-preserved
 unfolding exponential value whole
-loop-i-2-preserved c =
- (
-      omega arith,
-      c.loop-i-2.invariant.1,
-      λ iso delta y x e.
-          let h = exponential_placed iso delta y x c.loop-i-2.i c.coefficients-ns.ensures c.delta_powers-ds.ensures refl c.decay_powers-cs.ensures e
-          (omega arith) refl refl in
-          due_more (exponential_figures iso delta Delta) _ c.loop-i-2.i c.loop-i-2.s _ (h Delta).0 (rw c.first_bracket.ensures (h Delta).1)
-          (c.loop-i-2.invariant.2 iso delta y x e),
-    )
+loop-i-2-preserved c = (
+  omega arith,
+  c.loop-i-2.invariant.1,
+  λ iso delta y x e.
+      let h = exponential_placed iso delta y x c.loop-i-2.i c.coefficients-ns.ensures c.delta_powers-ds.ensures refl c.decay_powers-cs.ensures e
+      (omega arith) refl refl in
+      due_more (exponential_figures iso delta Delta) _ c.loop-i-2.i c.loop-i-2.s _ (h Delta).0 (rw c.first_bracket.ensures (h Delta).1)
+      (c.loop-i-2.invariant.2 iso delta y x e),
+)
 
 pub returns : goal.returns
 returns c =

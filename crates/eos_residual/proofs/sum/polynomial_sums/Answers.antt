@@ -17,7 +17,7 @@ use Rattle.eos_residual.proofs.sum.polynomial_sums.Goals.{In-loop-i}
 
 -- the power of δ that a turn comes to
 low : (c : In-loop-i)
-    →    get_or c.delta_powers-ds.result c.loop-i.i 0 < 11
+    → get_or c.delta_powers-ds.result c.loop-i.i 0 < 11
 low c =
     delta_by c.delta_powers-ds.ensures c.loop-i.i
 

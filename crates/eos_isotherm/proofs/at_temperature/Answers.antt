@@ -15,6 +15,6 @@ returns c =
       c.four_bells-bell.ensures,
       c.tau_powers-powers.ensures,
       c.half_of-2.ensures,
-      c.half_of_lem.ensures,
+      c.half_of.ensures,
       c.tau_at-tau.ensures,
     ) refl

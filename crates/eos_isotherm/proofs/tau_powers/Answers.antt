@@ -25,6 +25,9 @@ loop-i-init c =
     let a = c.args in
     (omega arith, record { long = sym (long a.tau a.quarter); same = refl })
 
+pub bounds-t-j : goal.bounds-t-j
+bounds-t-j c = let l = low c in omega arith
+
 pub loop-i-preserved : goal.loop-i-preserved
 loop-i-preserved c =
     let a = c.args in

@@ -6,7 +6,7 @@ use Rattle.eos_non_analytic.proofs.parts.raise.Goals as goal
 
 pub returns-then-half : goal.returns-then-half
 unfolding value
-returns-then-half c = rw (c.type_size.ensures, c.if-half.true) refl
+returns-then-half c = rw (c.size_of.ensures, c.if-half.true) refl
 
 pub returns-else-half : goal.returns-else-half
 unfolding value

@@ -8,7 +8,7 @@ pub returns : goal.returns
 unfolding fallen_rows
 returns c =
     rw (
-      c.rows_of_lem.ensures,
+      c.rows_of.ensures,
       c.rows_of-2.ensures,
       c.rows_of-3.ensures,
       c.rows_of-4.ensures,

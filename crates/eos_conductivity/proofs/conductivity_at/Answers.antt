@@ -6,7 +6,6 @@ use Rattle.num_formulas.specs.Formula.{value}
 use Rattle.num_formulas.proofs.Formulas.{once}
 use Rattle.eos_constants.specs.Reduced.{delta}
 use Rattle.eos_conductivity.specs.Conductivity.{reduced, dilute, residual, exponent, enhancement, conductivity, conductivity_at}
-use borrow.Author.Rules.{rules}
 use Rattle.eos_conductivity.proofs.conductivity_at.Goals as goal
 
 pub returns : goal.returns

@@ -3,7 +3,6 @@ use mathlib.Core.Path.{◌∙◌}
 use Rattle.num_formulas.specs.Formula.{value}
 use Rattle.num_formulas.proofs.Formulas.{once}
 use Rattle.eos_conductivity.specs.Conductivity.{reduced, dilute, dilute_at}
-use borrow.Author.Rules.{rules}
 use Rattle.eos_conductivity.proofs.dilute_at.Goals as goal
 
 pub returns : goal.returns

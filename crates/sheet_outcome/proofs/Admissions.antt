@@ -7,7 +7,6 @@ use lib.Dec.{ltb, eqb}
 use borrow.Author.Tests.{ltb-false}
 use Rattle.sheet_text.specs.declared.Field.{Field}
 use Rattle.sheet_outcome.specs.Outcome.{needed, admitted}
-use Rattle.sheet_outcome.specs.declared.Admitted.{Admitted}
 use Rattle.sheet_outcome.specs.declared.Admitted.TheVariants.{Need, SentBack}
 
 no_need : {A : Type 0} {number mg : ℕ} → SentBack number ≡ Need mg → A

@@ -76,6 +76,7 @@ fn need_of(need: Field) -> Admitted
 }
 
 // ok: the text is in the form.
+#[tactic(auto, unfolding(crate::specs::Outcome::admitted))]
 pub fn admit(ok: bool, count: usize, need: Field) -> Admitted
     ensures { result ≡ admitted ok count need }
 {

@@ -81,6 +81,7 @@ fn read_lines(s: &[u8], from: usize, need: Field) -> SheetRead
     }
 }
 
+#[tactic(auto, unfolding(crate::specs::Form::in_form, crate::specs::Form::bank))]
 pub fn read_sheet(s: &[u8]) -> SheetRead
     ensures { result ≡ sheet_read (in_form s.now) }
 {

@@ -1,5 +1,4 @@
 -- 13 where a line was refused; else the sum is held against the need. Assumes nothing.
-use borrow.Author.Rules.{rules}
 use borrow.Author.Tests.{le-leb, lt-leb}
 use Rattle.sheet_outcome.specs.Outcome.{ending}
 use Rattle.sheet_outcome.proofs.conclude.Goals as goal

@@ -1,6 +1,5 @@
 -- A number in range is the need; a blank and any other number are sent back by 12. Assumes nothing.
 use mathlib.Core.Path.{sym, ◌∙◌}
-use borrow.Author.Rules.{rules}
 use Rattle.sheet_outcome.proofs.need_of.Goals as goal
 
 pub returns-in_default : goal.returns-in_default

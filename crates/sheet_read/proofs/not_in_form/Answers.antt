@@ -1,7 +1,6 @@
 -- A blank line stands at each of the 32 places. Assumes nothing.
 use Rattle.sheet_read.specs.Padded.{padded}
 use Rattle.sheet_read.specs.Sheet.{sheet_of, sheet_read}
-use borrow.Author.Rules.{rules}
 use Rattle.sheet_read.proofs.not_in_form.Goals as goal
 
 pub returns : goal.returns

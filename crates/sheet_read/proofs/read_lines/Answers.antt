@@ -1,15 +1,11 @@
 -- The lines that were read are in the array as far as it goes, and what is left of the text has the rest. Assumes nothing.
-use mathlib.Core.Logic.{⊎_elim}
-use mathlib.Core.Path.{subst, ◌∙◌}
-use Prim.Native.Nat.{◌-◌}
+use mathlib.Core.Path.{◌∙◌}
 use native.Mathlib.Omega.{arith}
-use lib.ListN.{length}
-use Rattle.sheet_line.specs.Line.{LineIs}
 use Rattle.sheet_line.proofs.Lines.{of_cylinder}
 use Rattle.sheet_read.specs.Padded.{padded}
-use Rattle.sheet_read.proofs.Turns.{Turn, first, done, held_more, held_full, bad, more}
-use borrow.Author.Rules.{rules}
+use Rattle.sheet_read.proofs.Turns.{first, done, held_more, held_full, bad, more}
 use Rattle.sheet_read.proofs.read_lines.Goals as goal
+use Rattle.sheet_read.proofs.read_lines.Goals.{then-count-lt32, else-count-lt32}
 
 pub loop-at-init : goal.loop-at-init
 unfolding padded
@@ -30,10 +26,10 @@ loop-at-preserved c =
     let e = c.in-Found.ensures in
     let l = of_cylinder _ _ _ e.0 in
     more _ _ _ _ _ c.loop-at.invariant c.loop-at-test.true _ _ l.read e.1 e.2 _
-    (⊎_elim
-    (λ w. w.1 ∙ held_more _ _ _ _ _ c.loop-at.invariant _ _ l.is w.0.taken)
-    (λ w. w.1 ∙ held_full _ _ _ _ _ c.loop-at.invariant _ w.0.left)
-    c.if-count-lt32.branch)
+    (elim c.if-count-lt32.branch [
+      | then-count-lt32 w ↦ w.lines-is ∙ held_more _ _ _ _ _ c.loop-at.invariant _ _ l.is w.if-count-lt32.true
+      | else-count-lt32 w ↦ w.lines-is ∙ held_full _ _ _ _ _ c.loop-at.invariant _ w.if-count-lt32.false
+    ])
 
 pub returns : goal.returns
 returns c = done _ _ _ _ _ c.loop-at.invariant _ c.loop-at-test.false

@@ -11,6 +11,7 @@ use Rattle.sheet_text.specs.Field.{Small, field_text, field_to, field_after}
 use Rattle.sheet_text.proofs.Parses.{All, bind_all, pass_all, Says, then_says, byte_back, byte_says}
 use Rattle.sheet_text.proofs.Printed.{to_back, to_says, to_small, after_back, after_says, after_small}
 use Rattle.sheet_line.specs.Cylinder.{kind_letter, cylinder_text, AllSmall, kind, reading, cylinder}
+use Rattle.sheet_text.specs.declared.Field.{Field}
 use Rattle.sheet_line.specs.declared.cylinder.Kind.{Kind}
 use Rattle.sheet_line.specs.declared.cylinder.Kind.TheVariants.{Pressure, Density, Weighed}
 use Rattle.sheet_line.specs.declared.cylinder.Cylinder.{Cylinder}
@@ -65,12 +66,12 @@ kind_says (x ∷ rest) =
 pub cylinder_says : (u : List ℕ) → Says cylinder_text u (cylinder u)
 unfolding cylinder reading
 cylinder_says u =
-    then_says _ cylinder_text u u (field_after 67 32 u) _ (after_says 67 32 u)
-    (λ n u₁ e₁. then_says _ cylinder_text u₁ u (field_to 32 u₁) _ (to_says 32 u₁)
-    (λ t u₂ e₂. then_says _ cylinder_text u₂ u (kind u₂) _ (kind_says u₂)
-    (λ k u₃ e₃. then_says _ cylinder_text u₃ u (byte 32 u₃) _ (byte_says 32 u₃)
-    (λ _ u₄ e₄. then_says _ cylinder_text u₄ u (field_to 32 u₄) _ (to_says 32 u₄)
-    (λ v u₅ e₅. then_says _ cylinder_text u₅ u (field_to 10 u₅) _ (to_says 10 u₅)
+    then_says (λ (f : Field). 67 ∷ 32 ∷ field_text f ++ (32 ∷ [])) cylinder_text u u (field_after 67 32 u) _ (after_says 67 32 u)
+    (λ n u₁ e₁. then_says (λ (f : Field). field_text f ++ (32 ∷ [])) cylinder_text u₁ u (field_to 32 u₁) _ (to_says 32 u₁)
+    (λ t u₂ e₂. then_says (λ (k : Kind). kind_letter k ∷ []) cylinder_text u₂ u (kind u₂) _ (kind_says u₂)
+    (λ k u₃ e₃. then_says (λ (_ : Unit {0}). 32 ∷ []) cylinder_text u₃ u (byte 32 u₃) _ (byte_says 32 u₃)
+    (λ _ u₄ e₄. then_says (λ (f : Field). field_text f ++ (32 ∷ [])) cylinder_text u₄ u (field_to 32 u₄) _ (to_says 32 u₄)
+    (λ v u₅ e₅. then_says (λ (f : Field). field_text f ++ (10 ∷ [])) cylinder_text u₅ u (field_to 10 u₅) _ (to_says 10 u₅)
     (λ m u₆ e₆.
     rw (opened _ u₆)
     (e₁ ∙ ap (λ (l : List ℕ). 67 ∷ 32 ∷ l) (append_assoc (field_text n) (32 ∷ []) u₁) ∙ rw (e₂, e₃, e₄, e₅, e₆) (simp append_assoc))))))))

@@ -107,9 +107,10 @@ to_says sep u =
 pub after_says : (letter sep : ℕ) (u : List ℕ) → Says (λ (f : Field). letter ∷ 32 ∷ field_text f ++ (sep ∷ [])) u (field_after letter sep u)
 unfolding field_after
 after_says letter sep u =
-    then_says (λ (_ : Unit {0}). letter ∷ []) _ u u (byte letter u) _ (byte_says letter u)
-    (λ _ r e. then_says (λ (_ : Unit {0}). 32 ∷ []) _ r u (byte 32 r) _ (byte_says 32 r)
-    (λ _ r₁ e₁. longer_says _ _ r₁ u (field_to sep r₁) (to_says sep r₁) (λ f r₂ e₂. e ∙ rw (e₁, e₂))))
+    let pr = λ (f : Field). letter ∷ 32 ∷ field_text f ++ (sep ∷ []) in
+    then_says (λ (_ : Unit {0}). letter ∷ []) pr u u (byte letter u) _ (byte_says letter u)
+    (λ _ r e. then_says (λ (_ : Unit {0}). 32 ∷ []) pr r u (byte 32 r) _ (byte_says 32 r)
+    (λ _ r₁ e₁. longer_says (λ (f : Field). field_text f ++ (sep ∷ [])) pr r₁ u (field_to sep r₁) (to_says sep r₁) (λ f r₂ e₂. e ∙ rw (e₁, e₂))))
 
 -- ---- what is read has 10 digits at most
 

@@ -40,6 +40,7 @@ fn digit_of(b: u8) -> u64
     (b as u64) - 48
 }
 
+#[tactic(auto, using(crate::proofs::Fields::field_end, crate::proofs::Fields::field_blank, crate::proofs::Fields::field_bad, crate::proofs::Fields::field_digits, crate::proofs::Fields::after_end, crate::proofs::Fields::after_stop, crate::proofs::Fields::after_zero, crate::proofs::Fields::after_large, crate::proofs::Fields::after_more))]
 fn read_field(s: &[u8], at: usize) -> FieldAt
     ensures { FieldIs s.now at (field (drop at s.now)) result }
 {

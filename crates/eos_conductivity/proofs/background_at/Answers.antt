@@ -11,5 +11,5 @@ pub returns : goal.returns
 unfolding background_at dilute residual value
 returns c =
     let a = c.args in
-    (rw (c.background.ensures, c.delta_at.ensures, c.reduced_at.ensures) c c.checked.ensures)
+    (rw (c.background.ensures, c.delta_at.ensures, c.reduced_at.ensures) at c.checked.ensures)
     ∙ once (background (reduced a.t) (delta a.rho))

@@ -18,5 +18,5 @@ returns c =
       c.background.ensures,
       c.delta_at-delta.ensures,
       c.reduced_at-r.ensures,
-    ) c c.checked.ensures)
+    ) at c.checked.ensures)
     ∙ once (conductivity (reduced a.t) (delta a.rho))

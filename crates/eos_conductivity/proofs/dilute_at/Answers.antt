@@ -9,4 +9,4 @@ use Rattle.eos_conductivity.proofs.dilute_at.Goals as goal
 pub returns : goal.returns
 unfolding dilute_at dilute value
 returns c =
-    (rw (c.dilute.ensures, c.reduced_at.ensures) c c.checked.ensures) ∙ once (dilute (reduced c.args.t))
+    (rw (c.dilute.ensures, c.reduced_at.ensures) at c.checked.ensures) ∙ once (dilute (reduced c.args.t))

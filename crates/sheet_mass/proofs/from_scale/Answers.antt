@@ -1,6 +1,5 @@
 -- What is in its range is turned into milligrams, and nothing else is. Assumes nothing.
 use mathlib.Core.Path.{sym, ap, ◌∙◌}
-use borrow.Author.Rules.{rules}
 use Rattle.sheet_mass.specs.Mass.{from_scale}
 use Rattle.sheet_mass.specs.declared.Scaled.TheVariants.{At}
 use Rattle.sheet_mass.proofs.Masses.{mass_most}

@@ -1,6 +1,5 @@
 -- One product, which 64 bits hold. Assumes nothing.
 use mathlib.Core.Path.{refl}
-use borrow.Author.Rules.{rules}
 use Rattle.sheet_mass.specs.Mass.{milligrams_of}
 use Rattle.sheet_mass.proofs.milligrams_of.Goals as goal
 

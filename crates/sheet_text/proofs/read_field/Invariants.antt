@@ -1,11 +1,8 @@
 -- What stands at the place decides; then what was read so far goes on with the digits that are left. Assumes nothing.
-use borrow.Author.Tests.{not-true, not-false}
-use Rattle.sheet_text.proofs.Fields.{field_end, field_blank, field_bad, field_digits, after_end, after_stop, after_zero, after_large, after_more}
 use Prim.Native.Nat.{◌≤◌, ◌<◌, ◌-◌}
-use mathlib.Core.Path.{◌≡◌, sym, ◌∙◌}
+use mathlib.Core.Path.{◌≡◌}
 use lib.ListN.{length, drop}
 use Rattle.sheet_text.specs.Field.{field, digits_after}
-use borrow.Author.Rules.{rules}
 use Rattle.sheet_text.proofs.read_field.Given as goal
 
 abbrev pub invariant-loop-i : goal.invariant-loop-i

@@ -1,10 +1,7 @@
 -- The letter and the space are passed, and the field is read from the place after them. Assumes nothing.
-use mathlib.Core.Path.{subst}
 use Rattle.sheet_text.specs.Field.{field_after}
-use Rattle.sheet_text.specs.Place.{PlaceIs}
 use Rattle.sheet_text.proofs.Places.{field_from}
 use native.Mathlib.Nat.{lt_trans}
-use borrow.Author.Rules.{rules}
 use Rattle.sheet_text.proofs.read_field_after.Goals as goal
 
 pub returns-in_default : goal.returns-in_default

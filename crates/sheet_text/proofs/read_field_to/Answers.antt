@@ -1,9 +1,6 @@
 -- The field is read, and then the byte that ends it. Assumes nothing.
 use native.Mathlib.Omega.{arith}
-use Rattle.sheet_text.specs.Place.{FieldIs, PlaceIs}
-use mathlib.Core.Path.{subst}
 use Rattle.sheet_text.proofs.Fields.{to_none₁, to_none₂, to_some}
-use borrow.Author.Rules.{rules}
 use Rattle.sheet_text.proofs.read_field_to.Goals as goal
 
 pub returns-in_default : goal.returns-in_default

@@ -1,10 +1,7 @@
 -- The number and the temperature are read, and the rest from the place after them. Assumes nothing.
-use mathlib.Core.Path.{subst}
 use native.Mathlib.Nat.{lt_trans}
-use Rattle.sheet_text.specs.Place.{FieldIs}
 use Rattle.sheet_line.specs.Cylinder.{cylinder}
 use Rattle.sheet_line.proofs.Cylinders.{cylinder_from}
-use borrow.Author.Rules.{rules}
 use Rattle.sheet_line.proofs.cylinder.read_cylinder.Goals as goal
 
 pub returns-in_default : goal.returns-in_default

@@ -1,5 +1,4 @@
 -- Each part is what its function says. Assumes nothing.
-use borrow.Author.Rules.{rules}
 use Rattle.sheet_line.proofs.line.line_from.Goals as goal
 
 pub returns : goal.returns

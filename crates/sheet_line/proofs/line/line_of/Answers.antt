@@ -1,6 +1,5 @@
 -- The line of its record, whose numbers are those of the cylinder. Assumes nothing.
 use mathlib.Core.Path.{◌∙◌}
-use borrow.Author.Rules.{rules}
 use Rattle.sheet_line.proofs.Lines.{small_record}
 use Rattle.sheet_line.proofs.line.line_of.Goals as goal
 

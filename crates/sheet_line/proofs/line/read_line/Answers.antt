@@ -1,9 +1,6 @@
 -- The line is that of the cylinder that is read, whose numbers are of 10 digits at most. Assumes nothing.
-use mathlib.Core.Path.{subst}
-use Rattle.sheet_line.specs.Cylinder.{CylinderIs}
 use Rattle.sheet_line.specs.Line.{line}
 use Rattle.sheet_line.proofs.Printed.{cylinder_small}
-use borrow.Author.Rules.{rules}
 use Rattle.sheet_line.proofs.line.read_line.Goals as goal
 
 pub returns-in_default : goal.returns-in_default
@@ -17,4 +14,4 @@ pub returns : goal.returns
 unfolding line
 returns c =
     let e = c.in-Found.ensures in
-    (rw (e.0, c.Line-of.ensures), e.1, e.2)
+    (rw (e.0, c.line_of.ensures), e.1, e.2)

@@ -5,7 +5,6 @@ use Rattle.num_working.specs.Number.{whole}
 use Rattle.sheet_line.specs.Record.{SmallReading}
 use Rattle.sheet_line.specs.declared.line.Reading.TheVariants.{Density}
 use Rattle.sheet_line.proofs.Lines.{in_float_lem, thousand}
-use borrow.Author.Rules.{rules}
 use Rattle.sheet_line.proofs.line.reading_of.Goals as goal
 
 pub int_to_float-result : goal.int_to_float-result

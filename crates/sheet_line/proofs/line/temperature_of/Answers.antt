@@ -3,7 +3,6 @@ use mathlib.Core.Path.{subst}
 use Rattle.num_working.specs.Number.{whole}
 use Rattle.sheet_text.specs.Field.{Small}
 use Rattle.sheet_line.proofs.Lines.{in_float_lem, ten_thousand}
-use borrow.Author.Rules.{rules}
 use Rattle.sheet_line.proofs.line.temperature_of.Goals as goal
 
 pub int_to_float-result : goal.int_to_float-result

@@ -1,5 +1,4 @@
 -- The reading is recorded with its kind, and the rest is handed on. Assumes nothing.
-use borrow.Author.Rules.{rules}
 use Rattle.sheet_line.proofs.record.record_of.Goals as goal
 
 pub returns : goal.returns

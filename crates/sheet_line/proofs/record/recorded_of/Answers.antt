@@ -1,5 +1,4 @@
 -- The field is blank, or its number stays with its kind. Assumes nothing.
-use borrow.Author.Rules.{rules}
 use Rattle.sheet_line.proofs.record.recorded_of.Goals as goal
 
 pub returns-in-Pressure : goal.returns-in-Pressure

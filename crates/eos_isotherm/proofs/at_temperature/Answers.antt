@@ -1,6 +1,5 @@
 -- Each part is the definition's. Assumes nothing.
 use mathlib.Core.Path.{refl}
-use borrow.Author.Rules.{rules}
 use Rattle.num_formulas.specs.Formula.{value}
 use Rattle.eos_rows.specs.Row.{non_analytics}
 use Rattle.eos_isotherm.specs.Isotherm.{quarter_of, isotherm}

@@ -1,7 +1,6 @@
 -- The column's entry, or the row's own number. Assumes nothing.
 use mathlib.Core.Path.{ap, ◌∙◌}
 use native.Mathlib.Omega.{arith}
-use borrow.Author.Rules.{rules}
 use Rattle.eos_rows.specs.declared.Gaussian.{Gaussian}
 use Rattle.eos_isotherm.proofs.Isotherms.{of_column, of_gaussian}
 use Rattle.eos_isotherm.proofs.quarters_at.Goals as goal

@@ -1,7 +1,6 @@
 -- Each arm is its formula. Assumes nothing.
 use mathlib.Core.Path.{refl}
 use Rattle.num_formulas.specs.Formula.{value}
-use borrow.Author.Rules.{rules}
 use Rattle.eos_non_analytic.proofs.parts.raise.Goals as goal
 
 pub returns-then-half : goal.returns-then-half

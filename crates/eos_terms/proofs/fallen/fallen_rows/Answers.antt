@@ -1,6 +1,5 @@
 -- Each exponential that says so adds the rows that it serves. Assumes nothing.
 use mathlib.Core.Path.{refl}
-use borrow.Author.Rules.{rules}
 use Rattle.eos_terms.specs.Fallen.{fallen_rows}
 use Rattle.eos_terms.proofs.fallen.fallen_rows.Goals as goal
 

@@ -56,3 +56,19 @@ returns c =
     let fs = exponential_figures a.iso a.p.delta Delta in
     due_none fs (onto (checked a.start) fs) c.loop-i.i c.loop-i.s (rw (exponential_length a.iso a.p.delta Delta) (omega arith))
     (c.loop-i.invariant.2 a.iso a.p.delta refl (its_powers a.iso a.p c.requires) (its_decays a.iso a.p c.requires))
+
+pub bounds-xs-at : goal.bounds-xs-at
+bounds-xs-at c = (low (goal.at.bounds-xs-at c).In-loop-i-2).d_small
+
+pub overflow_sub-term : goal.overflow_sub-term
+overflow_sub-term c = (low (goal.at.overflow_sub-term c).In-loop-i-2).c_some
+
+pub bounds-es-z : goal.bounds-es-z
+bounds-es-z c =
+    let h = low (goal.at.bounds-es-z c).In-loop-i-2 in
+    omega arith
+
+pub bounds-xs-z : goal.bounds-xs-z
+bounds-xs-z c =
+    let h = low (goal.at.bounds-xs-z c).In-loop-i-2 in
+    omega arith

@@ -50,3 +50,9 @@ returns c =
     dues_none a.all _ _ c.loop-i.i _
     (c.loop-i.invariant.1 a.iso a.p.delta refl (its_powers a.iso a.p c.requires))
     (polynomial_length a.iso a.p.delta) (omega arith)
+
+pub bounds-xs-at : goal.bounds-xs-at
+bounds-xs-at c = delta_by c.delta_powers-ds.ensures 0
+
+pub bounds-xs-at-in-loop-i : goal.bounds-xs-at-in-loop-i
+bounds-xs-at-in-loop-i c = low (goal.at.bounds-xs-at-in-loop-i c).In-loop-i

@@ -20,10 +20,10 @@ use Rattle.door_density.specs.DensityDoor.{in_phase, density_door}
 abbrev pub never_solid : Equation → Equation
 never_solid E = record {
   critical = E.critical;
-  vapourPressure = E.vapour_pressure;
-  vapourDensity = E.vapour_density;
-  liquidDensity = E.liquid_density;
-  meltingPressure = λ t. Number (inf false);
+  vapour_pressure = E.vapour_pressure;
+  vapour_density = E.vapour_density;
+  liquid_density = E.liquid_density;
+  melting_pressure = λ t. Number (inf false);
   pressure = E.pressure;
   state = E.state;
   fallen = E.fallen;

@@ -31,10 +31,10 @@ pub record Unasked (E : Equation) (a : Answer) : Type 0 where
 abbrev pub conducted_by : (Float → Float → Worked) → Equation → Equation
 conducted_by conductivity E = record {
   critical = E.critical;
-  vapourPressure = E.vapour_pressure;
-  vapourDensity = E.vapour_density;
-  liquidDensity = E.liquid_density;
-  meltingPressure = E.melting_pressure;
+  vapour_pressure = E.vapour_pressure;
+  vapour_density = E.vapour_density;
+  liquid_density = E.liquid_density;
+  melting_pressure = E.melting_pressure;
   pressure = E.pressure;
   state = E.state;
   fallen = E.fallen;

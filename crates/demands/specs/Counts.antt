@@ -45,10 +45,10 @@ forgotten_of (answer.State x) = answer.State (forgotten x)
 abbrev pub uncounted : Equation → Equation
 uncounted E = record {
   critical = E.critical;
-  vapourPressure = E.vapour_pressure;
-  vapourDensity = E.vapour_density;
-  liquidDensity = E.liquid_density;
-  meltingPressure = E.melting_pressure;
+  vapour_pressure = E.vapour_pressure;
+  vapour_density = E.vapour_density;
+  liquid_density = E.liquid_density;
+  melting_pressure = E.melting_pressure;
   pressure = E.pressure;
   state = λ t phase rho. forgotten_in (E.state t phase rho);
   fallen = λ t rho. 0;

@@ -1,36 +1,50 @@
 // What is written to, and whether all that was said so far could be written: after a failure nothing more is.
+ghost use Rattle.std.specs.Prelude.{◌≤◌};
+
 use desk_units::{Figure, Shown, kilograms_down, put_shown};
 use desk_words::put_words;
 use num_whole::Below;
+use std::io::{Cursor, Error, Print, Stderr, Stdout, Write};
 
+// The stream that a paper lies on.
 #[derive(Clone, Copy)]
-pub struct Paper {
-    pub fd: i32,
-    pub ok: bool,
+pub enum Stream {
+    Output(Stdout),
+    Complaints(Stderr),
 }
 
-pub fn paper_on(fd: i32) -> Paper {
-    Paper { fd: fd, ok: true }
+// The failure is of the first write that failed.
+#[derive(Clone, Copy)]
+pub struct Paper {
+    pub on: Stream,
+    pub failure: Option<Error>,
+}
+
+pub fn paper_on(on: Stream) -> Paper {
+    Paper { on, failure: None }
+}
+
+fn write_on(on: Stream, text: &[u8]) -> Result<(), Error> {
+    match on {
+        Stream::Output(out) => Print::write_all(&out, text),
+        Stream::Complaints(out) => Print::write_all(&out, text),
+    }
 }
 
 pub fn say(p: Paper, text: &[u8]) -> Paper {
-    if p.ok {
-        return Paper {
-            fd: p.fd,
-            ok: io::write_all(p.fd, text),
-        };
+    if p.failure.is_some() {
+        return p;
     }
-    p
+    Paper {
+        on: p.on,
+        failure: write_on(p.on, text).err(),
+    }
 }
 
 pub fn say_number(p: Paper, n: u64) -> Paper {
-    if p.ok {
-        return Paper {
-            fd: p.fd,
-            ok: io::print_decimal(p.fd, n),
-        };
-    }
-    p
+    let mut digits = [0; 20];
+    let k = io::decimal(n, &mut digits);
+    say(p, &digits[..k])
 }
 
 // No number that is shown has more bytes.
@@ -67,4 +81,28 @@ pub fn say_refused(p: Paper, n: u8) -> Paper {
 // With the line's end.
 pub fn say_refusal(p: Paper, n: u8) -> Paper {
     say(say_refused(p, n), b"\n")
+}
+
+// Behind the words of an error stands its number, which a person has no use for.
+fn end_of_words(text: &[u8; 256]) -> usize
+    ensures { result ≤ 256 }
+{
+    for i in 0..256 {
+        if text[i] == 0 {
+            return i;
+        }
+        if text[i..].starts_with(b" (os error ") {
+            return i;
+        }
+    }
+    256
+}
+
+// A line of what failed and why, in the words of the system.
+pub fn say_failure(p: Paper, what: &[u8], e: Error) -> Paper {
+    let mut space = Cursor::new([0; 256]);
+    let _ = write!(space, "{e}");
+    let text = space.into_inner();
+    let words = say(say(p, what), b": ");
+    say(say(words, &text[..end_of_words(&text)]), b"\n")
 }

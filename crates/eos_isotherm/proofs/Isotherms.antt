@@ -6,7 +6,7 @@ use native.Mathlib.Omega.{arith}
 use lib.ListN.{length, get_or, take, drop, get_or-append}
 use lib.Seq.{get_or-append-add}
 use lib.Ieee.{Float, nan, binary64, mul}
-use Rattle.num_powers.specs.Power.{power, powers}
+use Rattle.num_powers.specs.Power.{powers}
 use Rattle.num_powers.proofs.Powers.{powers_at}
 use Rattle.num_formulas.specs.Formula.{value}
 use Rattle.eos_rows.specs.Row.{polynomials, exponentials, gaussians, row39, non_analytics, row40}

@@ -11,9 +11,8 @@ use door_limits::document_01;
 use door_pressure::from_pressure;
 use eos_conductivity::{background_at, dilute_at};
 use eos_state::{Phase, State};
-use libc::STDOUT_FILENO;
 use num_working::Worked;
-use run_print::bits::say;
+use run_print::bits::{STDOUT, say};
 use run_print::decimal::{Cell, Decimal, read_decimal, unit, value};
 
 fn is_near(x: f64, d: Decimal) -> bool {
@@ -166,7 +165,7 @@ fn tell_refusal(c: Conducted) {
         Conducted::State(_) => say(b"answered\n"),
         Conducted::Refused(n) => {
             say(b"refused by ");
-            io::print_decimal(STDOUT_FILENO, n as u64);
+            io::print_decimal(STDOUT, n as u64);
             say(b"\n");
         }
     }

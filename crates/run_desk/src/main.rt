@@ -4,38 +4,37 @@
 
 use desk_explain::{explain, warn};
 use desk_paper::help::say_help;
-use desk_paper::paper::paper_on;
+use desk_paper::paper::{Paper, Stream, paper_on};
 use desk_words::put_words;
 use door_limits::document_01;
-use libc::STDOUT_FILENO;
-use run_print::bits::say;
+use run_print::bits::{STDOUT, say};
 use run_texts::sheets::reported;
 use run_texts::texts::{fill, load, titled};
 
-fn shown(title: &[u8], text: &[u8]) {
+fn shown(p: Paper, title: &[u8], text: &[u8]) {
     reported(title, text);
-    let p = explain(paper_on(STDOUT_FILENO), document_01(), text);
+    let p = explain(p, document_01(), text);
     warn(p, document_01(), text, b"sheet.txt");
 }
 
 // Each sheet of a list.
-fn each(list: &[u8]) {
+fn each(p: Paper, list: &[u8]) {
     let mut at = 0;
     while at < list.len() {
         let t = titled(list, at);
         let end = t.end;
         let start = t.start;
         let next = t.next;
-        shown(&list[at..end], &list[start..next]);
+        shown(p, &list[at..end], &list[start..next]);
         at = next;
     }
 }
 
 // RULES 6.1: a sheet has 65,536 bytes at most.
-fn long(title: &[u8], first: &[u8], last: &[u8]) {
+fn long(p: Paper, title: &[u8], first: &[u8], last: &[u8]) {
     let mut space = [0; 65537];
     let n = fill(&mut space, first, b"C 1 1 P 1 1\n", 5460, last);
-    shown(title, &space[..n]);
+    shown(p, title, &space[..n]);
 }
 
 // RULES 14.1
@@ -43,7 +42,7 @@ fn words_of(number: u32) {
     let mut space = [0; 512];
     let n = put_words(number, &mut space);
     say(b"words of ");
-    io::print_decimal(STDOUT_FILENO, number as u64);
+    io::print_decimal(STDOUT, number as u64);
     say(b" are ");
     if n == 0 {
         say(b"none");
@@ -60,15 +59,18 @@ fn all_words() {
     }
 }
 
-fn main() {
+fn main(rt: HostRuntime) {
+    let p = paper_on(Stream::Output(rt.stdout()));
+    let complaints = paper_on(Stream::Complaints(rt.stderr()));
     let mut space = io::large_buffer();
-    let n = load(b"sheets.txt", &mut space);
+    let n = load(&rt, complaints, "sheets.txt", &mut space);
     say(b"= help\n");
-    say_help(paper_on(STDOUT_FILENO));
-    each(&space[..n]);
-    long(b"= 65,536 bytes", b"N 1\n", b"C 1 1 P 1 1\n");
-    long(b"= 65,537 bytes", b"N 10\n", b"C 1 1 P 1 1\n");
+    say_help(p);
+    each(p, &space[..n]);
+    long(p, b"= 65,536 bytes", b"N 1\n", b"C 1 1 P 1 1\n");
+    long(p, b"= 65,537 bytes", b"N 10\n", b"C 1 1 P 1 1\n");
     long(
+        p,
         b"= 65,536 bytes, the last line damaged",
         b"N 1\n",
         b"C 1 1 P 1 x\n",

@@ -17,9 +17,8 @@ use eos_saturation::vapour_pressure;
 use eos_state::{Phase, State, Stated};
 use eos_terms::term::at_density;
 use equation::{conductivity_at, curve_at, pressure_on, state_on};
-use libc::STDOUT_FILENO;
 use num_working::checked;
-use run_print::bits::{figure, say, show, tell};
+use run_print::bits::{STDOUT, figure, say, show, tell};
 
 // The start of a line of a temperature and a density.
 fn at(name: &[u8], t: f64, rho: f64) {
@@ -65,7 +64,7 @@ fn carried(s: State) {
     also(s.cp);
     also(s.w);
     say(b" fallen ");
-    io::print_decimal(STDOUT_FILENO, s.fallen as u64);
+    io::print_decimal(STDOUT, s.fallen as u64);
 }
 
 fn saturated(t: f64) {
@@ -95,7 +94,7 @@ fn saturation_at(t: f64) {
         }
         Saturated::Refused(n) => {
             say(b"refused by ");
-            io::print_decimal(STDOUT_FILENO, n as u64);
+            io::print_decimal(STDOUT, n as u64);
         }
     }
     say(b"\n");

@@ -9,10 +9,14 @@ mod saturated;
 
 ghost use Rattle.std.specs.Prelude.{◌≡◌, length};
 
+use desk_paper::paper::{Paper, Stream, paper_on, say_failure};
 use run_print::bits::say;
 use run_print::counts::tell_counts;
+use run_print::files::read_full;
 use run_print::table::line_after;
 use run_print::tally::{FAILURES, Tally, none};
+use std::fs;
+use std::rt::Files;
 
 // What a table's rows are compared with.
 #[derive(Clone, Copy)]
@@ -107,51 +111,67 @@ fn space() -> [u8; 131072]
     [0; 131072]
 }
 
-fn compare(file: &[u8], with: With, table: &[u8], words: &[u8]) {
+// A table's file and the words that go with it.
+fn compare<R: Files>(
+    files: &R,
+    complaints: Paper,
+    file: &str,
+    with: With,
+    table: &[u8],
+    words: &[u8],
+) {
     let mut space = space();
-    let fd = os::open_read(file);
-    if fd < 0 {
-        os::fail(file);
-        return;
+    match fs::open(files, file) {
+        Ok(mut from) => {
+            let n = read_full(&mut from, &mut space);
+            tell_counts(table, lines(&space[..n], with), words);
+        }
+        Err(e) => {
+            say_failure(complaints, file.as_bytes(), e);
+        }
     }
-    let n = io::read_full(fd, &mut space);
-    libc::close(fd);
-    tell_counts(table, lines(&space[..n], with), words);
 }
 
-fn compare_isobars() {
+fn compare_isobars<R: Files>(files: &R, complaints: Paper) {
     compare(
-        b"isobars.csv",
+        files,
+        complaints,
+        "isobars.csv",
         With::Door,
         b"isobars",
         b" rows\n in range\n of them on the saturation line\n on the melting line\n in the critical box\n compared\n cells compared\n cells left out, damaged in the scan\n\n compared in h - u = p/rho\n left out of it, a cell damaged in the scan\n failures\n",
     );
 }
 
-fn compare_meltings() {
+fn compare_meltings<R: Files>(files: &R, complaints: Paper) {
     compare(
-        b"isobars.csv",
+        files,
+        complaints,
+        "isobars.csv",
         With::MeltingLine,
         b"melting",
         b" rows of the isobars\n\n\n of them on the melting line\n\n\n compared with the melting pressure\n cells left out, damaged in the scan\n\n\n\n failures\n",
     );
 }
 
-fn compare_saturations() {
+fn compare_saturations<R: Files>(files: &R, complaints: Paper) {
     compare(
-        b"saturation.csv",
+        files,
+        complaints,
+        "saturation.csv",
         With::Saturation,
         b"saturation",
         b" rows\n\n\n\n\n compared\n comparisons, the critical density's with both equations\n cells left out, damaged in the scan\n\n\n\n failures\n",
     );
 }
 
-fn main() {
+fn main(rt: HostRuntime) {
+    let complaints = paper_on(Stream::Complaints(rt.stderr()));
     wrong_row();
     wrong_cells();
     wrong_melting();
     wrong_saturation();
-    compare_isobars();
-    compare_meltings();
-    compare_saturations();
+    compare_isobars(&rt, complaints);
+    compare_meltings(&rt, complaints);
+    compare_saturations(&rt, complaints);
 }

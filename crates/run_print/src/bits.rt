@@ -1,15 +1,17 @@
 // What the programs that run figures say, one a line: numbers as the sixteen hexadecimal digits of their bits, since a
 // printed decimal could hide the last one.
-use libc::STDOUT_FILENO;
 use num_working::{Worked, is_finite};
 
+// The number of standard output.
+pub const STDOUT: i32 = 1;
+
 pub fn say(text: &[u8]) {
-    io::write_all(STDOUT_FILENO, text);
+    io::write_all(STDOUT, text);
 }
 
 pub fn show(x: f64) {
     if is_finite(x) {
-        io::print_hex(STDOUT_FILENO, f64::to_bits(x), 16);
+        io::print_hex(STDOUT, f64::to_bits(x), 16);
     } else {
         say(b"not finite");
     }

@@ -1,10 +1,9 @@
 // The counts of a table, one a line.
 ghost use Rattle.std.specs.Prelude.{◌≤◌, length};
 
-use crate::bits::say;
+use crate::bits::{STDOUT, say};
 use crate::table::line_after;
 use crate::tally::Tally;
-use libc::STDOUT_FILENO;
 
 // The table, the number, and what it counts, the line of `words` at `at`; answers where the next line starts. A count
 // with an empty line is not told.
@@ -18,7 +17,7 @@ fn count(table: &[u8], n: u64, words: &[u8], at: usize) -> usize
     if 1 < next - at {
         say(table);
         say(b": ");
-        io::print_decimal(STDOUT_FILENO, n);
+        io::print_decimal(STDOUT, n);
         say(&words[at..next]);
     }
     next

@@ -1,10 +1,9 @@
 // The line of a cell that was not found right.
 ghost use Rattle.std.specs.Prelude.{◌<◌};
 
-use crate::bits::say;
+use crate::bits::{STDOUT, say};
 use crate::table::cell_bytes;
 use crate::tally::{Tally, found};
-use libc::STDOUT_FILENO;
 
 // The whole number at or below x; 0 where there is none.
 fn whole(x: f64) -> u64 {
@@ -22,7 +21,7 @@ fn positive(x: f64) {
     let millionths = whole(x * 1000000.0);
     let mut digits = [0u8; 20];
     let k = io::decimal(1000000 + millionths % 1000000, &mut digits);
-    io::print_decimal(STDOUT_FILENO, millionths / 1000000);
+    io::print_decimal(STDOUT, millionths / 1000000);
     say(b".");
     say(&digits[1..k]);
 }

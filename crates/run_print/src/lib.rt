@@ -6,6 +6,7 @@ pub mod bits;
 pub mod counts;
 pub mod decimal;
 pub mod failure;
+pub mod files;
 pub mod place;
 pub mod table;
 pub mod tally;

@@ -8,8 +8,7 @@ use door_density::from_density;
 use door_limits::document_01;
 use door_pressure::from_pressure;
 use eos_state::{Phase, State};
-use libc::STDOUT_FILENO;
-use run_print::bits::{say, show};
+use run_print::bits::{STDOUT, say, show};
 
 fn tell_phase(phase: Phase) {
     match phase {
@@ -34,7 +33,7 @@ fn tell_state(x: State) {
     tell_number(b" cp ", x.cp);
     tell_number(b" w ", x.w);
     say(b" fallen ");
-    io::print_decimal(STDOUT_FILENO, x.fallen as u64);
+    io::print_decimal(STDOUT, x.fallen as u64);
 }
 
 fn tell_conductivity(c: Conductivity) {
@@ -57,7 +56,7 @@ fn tell_answer(c: Conducted) {
         Conducted::State(x) => tell_carried(x),
         Conducted::Refused(n) => {
             say(b" refused by ");
-            io::print_decimal(STDOUT_FILENO, n as u64);
+            io::print_decimal(STDOUT, n as u64);
         }
     }
     say(b"\n");

@@ -6,16 +6,15 @@
 mod doors;
 
 use eos_constants::{Printed, worked_as};
-use libc::STDOUT_FILENO;
 use num_exponential::exponential::{Raised, exponential};
 use num_powers::whole_power;
 use num_roots::root::{Exponent, root};
 use num_working::Worked;
-use run_print::bits::{figure, say, show};
+use run_print::bits::{STDOUT, figure, say, show};
 
 fn numbered(text: &[u8], n: usize) {
     say(text);
-    io::print_decimal(STDOUT_FILENO, n as u64);
+    io::print_decimal(STDOUT, n as u64);
 }
 
 fn root_of(x: f64, m: usize, k: usize) {

@@ -3,13 +3,14 @@
 // elsewhere too (crosscheck/sheets.py).
 #![tactic(auto)]
 
+use desk_paper::paper::{Paper, Stream, paper_on};
 use door_limits::document_01;
-use libc::STDOUT_FILENO;
-use run_print::bits::say;
+use run_print::bits::{STDOUT, say};
 use run_texts::sheets::{each, reported};
 use run_texts::texts::{fill, load};
 use sheet_report::Written;
 use sheet_score::score;
+use std::rt::Files;
 
 fn built(title: &[u8], first: &[u8], lines: &[u8], times: usize, others: &[u8]) {
     let mut space = [0; 65537];
@@ -25,15 +26,15 @@ fn lent(out: &mut [u8]) {
         out,
     );
     say(b"= an output of dots: ");
-    io::print_decimal(STDOUT_FILENO, out.len() as u64);
+    io::print_decimal(STDOUT, out.len() as u64);
     match w {
         Written::Bytes(n) => {
             say(b", bytes written: ");
-            io::print_decimal(STDOUT_FILENO, n as u64);
+            io::print_decimal(STDOUT, n as u64);
         }
         Written::Refused(n) => {
             say(b", refused by ");
-            io::print_decimal(STDOUT_FILENO, n as u64);
+            io::print_decimal(STDOUT, n as u64);
         }
     }
     say(b"\n");
@@ -43,9 +44,9 @@ fn lent(out: &mut [u8]) {
 
 // The bank's 32 lines are good: both kinds of reading, the three phases, the ends of the ranges, and beside the
 // critical box.
-fn banks() {
+fn banks<R: Files>(files: &R, complaints: Paper) {
     let mut space = io::buffer();
-    let n = load(b"bank.txt", &mut space);
+    let n = load(files, complaints, "bank.txt", &mut space);
     let bank = &space[..n];
     built(
         b"= 32 good lines, the need their total",
@@ -83,9 +84,10 @@ fn long() {
     built(b"= 65,537 bytes", b"N 10\n", b"C 1 1 P 1 1\n", 5461, b"");
 }
 
-fn main() {
+fn main(rt: HostRuntime) {
+    let complaints = paper_on(Stream::Complaints(rt.stderr()));
     let mut space = io::large_buffer();
-    let n = load(b"sheets.txt", &mut space);
+    let n = load(&rt, complaints, "sheets.txt", &mut space);
     each(&space[..n]);
     each(
         b"= CR LF in the first line\nN 1\r\nC 7 3000000 P 5000000 1\n\
@@ -94,7 +96,7 @@ fn main() {
         = a NUL byte\nN 1\nC 7 3000000 P 5000000 1\0\n\
         = a byte above 127\nN 1\nC 7 3000000 P 5000000 \xb1\n",
     );
-    banks();
+    banks(&rt, complaints);
     long();
     lent(&mut [b'.'; 28]);
     lent(&mut [b'.'; 29]);

@@ -11,7 +11,7 @@ use Rattle.scorer.specs.declared.Scored.{Scored}
 -- what was read is at the front of the lent space
 abbrev pub ReadInto : List ℕ → Read → Type 0
 ReadInto space (Read.Bytes n) = n ≤ length space
-ReadInto space Read.Failed = Unit {0}
+ReadInto space (Read.Failed e) = Unit {0}
 
 -- the text's report is at the front of the output, which was o, and its length is long
 pub record Reports (text o out : List ℕ) (long : ℕ) : Type 0 where
@@ -21,4 +21,4 @@ pub record Reports (text o out : List ℕ) (long : ℕ) : Type 0 where
 -- what was read is at the front of the lent space, and its report at the front of the output
 abbrev pub Scores : List ℕ → List ℕ → List ℕ → Scored → Type 0
 Scores space o out (Scored.Report n long) = (n ≤ length space) × Reports (take n space) o out long
-Scores space o out Scored.Unread = out ≡ o
+Scores space o out (Scored.Unread e) = out ≡ o

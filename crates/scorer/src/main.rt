@@ -7,42 +7,42 @@ ghost use Rattle.scorer.specs.Scorer.{ReadInto, Reports, Scores};
 use desk_arguments::{Asked, Named, Wish, Word, nothing_asked, take_word, word_of};
 use desk_explain::{explain, warn};
 use desk_paper::help::{say_help, say_usage};
-use desk_paper::paper::{Paper, paper_on, say, say_number};
+use desk_paper::paper::{Paper, Stream, paper_on, say, say_failure, say_number};
 use desk_words::version;
 use door_limits::document_01;
-use libc::{STDERR_FILENO, STDIN_FILENO, STDOUT_FILENO};
 use sheet_report::Written;
 use sheet_score::score;
+use std::env::FillError;
+use std::fs::File;
+use std::io::{Error, IsTerminal};
+use std::rt::{Env, Stderr, Stdout};
+use std::{fs, str};
 
 // How many bytes were read.
 #[derive(Clone, Copy)]
 enum Read {
     Bytes(usize),
-    Failed,
+    Failed(Error),
 }
 
 // How many bytes were read, and how many their report has.
 #[derive(Clone, Copy)]
 enum Scored {
     Report(usize, usize),
-    Unread,
+    Unread(Error),
 }
 
 // Reads to the end of the input, or until the space is full.
-fn read_text(fd: i32, space: &mut [u8]) -> Read
+fn read_text<R: std::io::Read>(from: &mut R, space: &mut [u8]) -> Read
     ensures { ReadInto space.new result }
 {
     let mut n = 0;
     while n < space.len() {
-        let got = libc::read(fd, &mut space[n..]);
-        if got < 0 {
-            return Read::Failed;
+        match from.read(&mut space[n..]) {
+            Ok(0) => return Read::Bytes(n),
+            Ok(more) => n += more,
+            Err(e) => return Read::Failed(e),
         }
-        let more = io::count(got, &space[n..]);
-        if more == 0 {
-            return Read::Bytes(n);
-        }
-        n += more;
     }
     Read::Bytes(n)
 }
@@ -58,26 +58,32 @@ fn report_of(text: &[u8], out: &mut [u8; 1512]) -> usize
 }
 
 // The report of what was read.
-fn score_from(fd: i32, space: &mut [u8], out: &mut [u8; 1512]) -> Scored
+fn score_from<R: std::io::Read>(from: &mut R, space: &mut [u8], out: &mut [u8; 1512]) -> Scored
     ensures { Scores space.new out.old out.new result }
 {
-    let Read::Bytes(n) = read_text(fd, space) else {
-        return Scored::Unread;
-    };
-    Scored::Report(n, report_of(&space[..n], out))
+    match read_text(from, space) {
+        Read::Bytes(n) => Scored::Report(n, report_of(&space[..n], out)),
+        Read::Failed(e) => Scored::Unread(e),
+    }
 }
 
-fn complain(text: &[u8]) {
-    say(paper_on(STDERR_FILENO), text);
+fn output(to: Stdout) -> Paper {
+    paper_on(Stream::Output(to))
+}
+
+fn complaints(to: Stderr) -> Paper {
+    paper_on(Stream::Complaints(to))
 }
 
 // Whether all was written; what wasn't is said.
-fn is_written(p: Paper) -> bool {
-    if p.ok {
-        return true;
+fn is_written(p: Paper, to: Stderr) -> bool {
+    match p.failure {
+        None => true,
+        Some(e) => {
+            say_failure(complaints(to), b"standard output", e);
+            false
+        }
     }
-    os::fail(b"standard output");
-    false
 }
 
 fn is_several(n: Named) -> bool {
@@ -88,8 +94,7 @@ fn is_several(n: Named) -> bool {
 }
 
 // The name of a sheet, where there are several.
-fn say_name(a: Asked, name: &[u8]) -> Paper {
-    let p = paper_on(STDOUT_FILENO);
+fn say_name(p: Paper, a: Asked, name: &[u8]) -> Paper {
     let named = a.named;
     if is_several(named) {
         return say(say(say(p, b"== "), name), b"\n");
@@ -98,61 +103,95 @@ fn say_name(a: Asked, name: &[u8]) -> Paper {
 }
 
 // What has to be said of a sheet on standard error, where it isn't explained.
-fn warn_of(name: &[u8], text: &[u8]) {
+fn warn_of(p: Paper, name: &[u8], text: &[u8]) {
     if text.len() > 65536 {
-        complain(name);
-        complain(b": The text has more than 65,536 bytes.\n");
+        say(p, name);
+        say(p, b": The text has more than 65,536 bytes.\n");
     }
-    warn(paper_on(STDERR_FILENO), document_01(), text, name);
+    warn(p, document_01(), text, name);
 }
 
 // The sheet in an open file; whether to go on.
 // RULES 6.1: a sheet has 65,536 bytes at most, so that one byte more is enough to know.
-fn answer(fd: i32, name: &[u8], a: Asked) -> bool {
+fn answer<R: std::io::Read>(rt: HostRuntime, from: &mut R, name: &[u8], a: Asked) -> bool {
     let mut space = [0; 65537];
     let mut out = [0; 1512];
-    let Scored::Report(n, long) = score_from(fd, &mut space, &mut out) else {
-        os::fail(name);
-        return true;
-    };
-    let report = say(say_name(a, name), &out[..long]);
-    if a.explained {
-        return is_written(explain(report, document_01(), &space[..n]));
+    match score_from(from, &mut space, &mut out) {
+        Scored::Report(n, long) => tell(rt, name, a, &space[..n], &out[..long]),
+        Scored::Unread(e) => {
+            say_failure(complaints(rt.stderr()), name, e);
+            true
+        }
     }
-    if !is_written(report) {
+}
+
+// A text and its report; whether to go on.
+fn tell(rt: HostRuntime, name: &[u8], a: Asked, text: &[u8], out: &[u8]) -> bool {
+    let report = say(say_name(output(rt.stdout()), a, name), out);
+    if a.explained {
+        return is_written(explain(report, document_01(), text), rt.stderr());
+    }
+    if !is_written(report, rt.stderr()) {
         return false;
     }
-    warn_of(name, &space[..n]);
+    warn_of(complaints(rt.stderr()), name, text);
     true
 }
 
-// The file that the word at a place names.
-fn answer_file(place: usize, a: Asked) -> bool {
-    let mut name = io::buffer();
-    let n = os::arg(place, &mut name);
-    if os::errno() != 0 {
-        os::fail(b"FILE");
-        return true;
+// The numbers of Linux for why a file can't be opened.
+const INVALID: i32 = 22;
+
+const NAME_TOO_LONG: i32 = 36;
+
+const NOT_TEXT: i32 = 84;
+
+fn error_of(e: FillError) -> Error {
+    match e {
+        FillError::NotPresent => Error::from_raw_os_error(INVALID),
+        FillError::TooLong => Error::from_raw_os_error(NAME_TOO_LONG),
     }
-    let fd = os::open_read(&name[..n]);
-    if fd < 0 {
-        os::fail(&name[..n]);
-        return true;
-    }
-    let on = answer(fd, &name[..n], a);
-    libc::close(fd);
-    on
 }
 
-fn answer_input(a: Asked) -> bool {
-    answer(STDIN_FILENO, b"standard input", a)
+// A file's name is text in UTF-8.
+fn open(rt: HostRuntime, name: &[u8]) -> Result<File, Error> {
+    match str::from_utf8(name) {
+        Ok(path) => fs::open(&rt, path),
+        Err(_) => Err(Error::from_raw_os_error(NOT_TEXT)),
+    }
+}
+
+// The file of this name.
+fn answer_file(rt: HostRuntime, name: &[u8], a: Asked) -> bool {
+    match open(rt, name) {
+        Ok(mut from) => answer(rt, &mut from, name, a),
+        Err(e) => {
+            say_failure(complaints(rt.stderr()), name, e);
+            true
+        }
+    }
+}
+
+// The file that the word at a place names.
+fn answer_place(rt: HostRuntime, place: usize, a: Asked) -> bool {
+    let mut name = io::buffer();
+    match rt.arg(place, &mut name) {
+        Ok(n) => answer_file(rt, &name[..n], a),
+        Err(e) => {
+            say_failure(complaints(rt.stderr()), b"FILE", error_of(e));
+            true
+        }
+    }
+}
+
+fn answer_input(rt: HostRuntime, a: Asked) -> bool {
+    answer(rt, &mut rt.stdin(), b"standard input", a)
 }
 
 // A word, where it names a sheet; whether to go on.
-fn answer_word(place: usize, w: Word, a: Asked) -> bool {
+fn answer_word(rt: HostRuntime, place: usize, w: Word, a: Asked) -> bool {
     match w {
-        Word::Input => answer_input(a),
-        Word::File => answer_file(place, a),
+        Word::Input => answer_input(rt, a),
+        Word::File => answer_place(rt, place, a),
         _ => true,
     }
 }
@@ -164,56 +203,59 @@ fn is_end(w: Word) -> bool {
     }
 }
 
-// The word at a place.
-fn word_at(place: usize, ended: bool) -> Word {
+// The word at a place, where there is one.
+fn word_at<E: Env>(env: &E, place: usize, ended: bool) -> Option<Word> {
     let mut space = io::buffer();
-    let n = os::arg(place, &mut space);
-    word_of(ended, &space[..n])
+    match env.arg(place, &mut space) {
+        Ok(n) => Some(word_of(ended, &space[..n])),
+        Err(FillError::TooLong) => Some(word_of(ended, b"")),
+        Err(FillError::NotPresent) => None,
+    }
 }
 
 // By all words after the program's own name.
-fn asked_for() -> Asked {
-    let count = os::arg_count();
+fn asked_for<E: Env>(env: &E) -> Asked {
     let mut a = nothing_asked();
-    let mut i: usize = 1;
-    while i < count {
-        a = take_word(a, i, word_at(i, a.ended));
-        i += 1;
+    for i in 1..usize::MAX {
+        match word_at(env, i, a.ended) {
+            Some(w) => a = take_word(a, i, w),
+            None => return a,
+        }
     }
     a
 }
 
-fn answer_each(a: Asked) {
-    let count = os::arg_count();
+fn answer_each(rt: HostRuntime, a: Asked) {
     let mut ended = false;
-    let mut i: usize = 1;
-    while i < count {
-        let w = word_at(i, ended);
-        if !answer_word(i, w, a) {
+    for i in 1..usize::MAX {
+        let Some(w) = word_at(&rt, i, ended) else {
+            return;
+        };
+        if !answer_word(rt, i, w, a) {
             return;
         }
         if is_end(w) {
             ended = true;
         }
-        i += 1;
     }
 }
 
 // Nobody is to wait for a program that waits for him.
-fn answer_nothing_named(a: Asked) {
-    if libc::isatty(STDIN_FILENO) == 1 {
-        complain(
+fn answer_nothing_named(rt: HostRuntime, a: Asked) {
+    if rt.stdin().is_terminal() {
+        say(
+            complaints(rt.stderr()),
             b"scorer: reading a sheet from standard input; scorer --help shows how one is written\n",
         );
     }
-    answer_input(a);
+    answer_input(rt, a);
 }
 
-fn answer_named(a: Asked) {
+fn answer_named(rt: HostRuntime, a: Asked) {
     let named = a.named;
     match named {
-        Named::Nothing => answer_nothing_named(a),
-        _ => answer_each(a),
+        Named::Nothing => answer_nothing_named(rt, a),
+        _ => answer_each(rt, a),
     }
 }
 
@@ -223,25 +265,28 @@ fn say_version(p: Paper, v: u64) -> Paper {
     say(say_number(say(b, b"."), v % 100), b"\n")
 }
 
-fn no_flag(place: usize) {
+fn no_flag<E: Env>(env: &E, p: Paper, place: usize) {
     let mut word = io::buffer();
-    let n = os::arg(place, &mut word);
-    complain(&word[..n]);
-    complain(b": no such flag\n");
-    say_usage(paper_on(STDERR_FILENO));
+    let n = env.arg(place, &mut word).unwrap_or(0);
+    say(p, &word[..n]);
+    say(p, b": no such flag\n");
+    say_usage(p);
 }
 
-fn main() {
-    let a = asked_for();
+fn main(rt: HostRuntime) {
+    let a = asked_for(&rt);
     let wish = a.wish;
     match wish {
-        Wish::Score => answer_named(a),
+        Wish::Score => answer_named(rt, a),
         Wish::Help => {
-            is_written(say_help(paper_on(STDOUT_FILENO)));
+            is_written(say_help(output(rt.stdout())), rt.stderr());
         }
         Wish::Version => {
-            is_written(say_version(paper_on(STDOUT_FILENO), version() as u64));
+            is_written(
+                say_version(output(rt.stdout()), version() as u64),
+                rt.stderr(),
+            );
         }
-        Wish::NoFlag(place) => no_flag(place),
+        Wish::NoFlag(place) => no_flag(&rt, complaints(rt.stderr()), place),
     }
 }

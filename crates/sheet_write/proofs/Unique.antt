@@ -4,7 +4,7 @@ use Prim.Native.Nat.{ℕ}
 use mathlib.Core.Path.{◌≡◌}
 use mathlib.Core.List.{List}
 use contract.Lifetimes.{Lfts}
-use denote.Ref.{Bor}
+use denote.MutBor.{MutBor}
 use Rattle.num_working.proofs.Unique.{OneAnswer, by_equation}
 use Rattle.sheet_write.specs.Writing.{Wrote, Fitted}
 use Rattle.sheet_write.proofs.put.Reads as put
@@ -13,8 +13,8 @@ use Rattle.sheet_write.proofs.number_len.Reads as number_len
 use Rattle.sheet_write.proofs.put_number.Reads as put_number
 
 -- of a function that writes into its first argument
-abbrev pub OneWriting : {A T : Type 0} (R : Type 0) → (A → R → Bor (List ℕ) × T → Type 0) → Type 0
-OneWriting {A} {T} R Post = (a : A) (r s : R) (x y : Bor (List ℕ) × T) → Post a r x → Post a s y → (r ≡ s) × (x.0.now ≡ y.0.now)
+abbrev pub OneWriting : {A T : Type 0} (R : Type 0) → (A → R → MutBor (List ℕ) × T → Type 0) → Type 0
+OneWriting {A} {T} R Post = (a : A) (r s : R) (x y : MutBor (List ℕ) × T) → Post a r x → Post a s y → (r ≡ s) × (x.0.now ≡ y.0.now)
 
 one_writing : {o xs ys bs : List ℕ} {r s : ℕ} → Wrote o xs r bs → Wrote o ys s bs → (r ≡ s) × (xs ≡ ys)
 one_writing p q = (by_equation p.count q.count, by_equation p.bytes q.bytes)

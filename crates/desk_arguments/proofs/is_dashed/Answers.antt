@@ -1,6 +1,5 @@
 -- The first byte decides, where there is one. Assumes nothing.
 use Rattle.desk_arguments.proofs.Words.{no_byte, first_byte}
-use borrow.Author.Rules.{rules}
 use Rattle.desk_arguments.proofs.is_dashed.Goals as goal
 
 pub returns-then-w-eq0 : goal.returns-then-w-eq0

@@ -1,6 +1,5 @@
 -- Two words are the same exactly where their bytes are. Assumes nothing.
 use Rattle.desk_arguments.proofs.Words.{told_same}
-use borrow.Author.Rules.{rules}
 use Rattle.desk_arguments.proofs.is_word.Goals as goal
 
 pub returns : goal.returns

@@ -1,5 +1,4 @@
 -- Each word is taken as the definition has it. Assumes nothing.
-use borrow.Author.Rules.{rules}
 use Rattle.desk_arguments.proofs.take_word.Goals as goal
 
 pub returns-in-Explain : goal.returns-in-Explain

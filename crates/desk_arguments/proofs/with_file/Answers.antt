@@ -1,6 +1,5 @@
 -- All else stays. Assumes nothing.
 use mathlib.Core.Path.{refl}
-use borrow.Author.Rules.{rules}
 use Rattle.desk_arguments.proofs.with_file.Goals as goal
 
 pub returns : goal.returns

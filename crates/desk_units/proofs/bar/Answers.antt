@@ -1,5 +1,4 @@
 -- The shortest form from five places. Assumes nothing.
-use borrow.Author.Rules.{rules}
 use Rattle.desk_units.specs.Units.{bar}
 use Rattle.desk_units.proofs.bar.Goals as goal
 

@@ -1,6 +1,5 @@
 -- Below 0 C or not is the definition's test, and what is shown is the distance from it. Assumes nothing.
 use mathlib.Core.Path.{refl}
-use borrow.Author.Rules.{rules}
 use borrow.Author.Tests.{lt-ltb, le-ltb}
 use Rattle.desk_units.specs.Units.{celsius}
 use Rattle.desk_units.proofs.celsius.Goals as goal

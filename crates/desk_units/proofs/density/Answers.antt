@@ -1,6 +1,5 @@
 -- The whole number at or below 1,000 times the density is rounded, or there is none. Assumes nothing.
 use mathlib.Core.Path.{refl}
-use borrow.Author.Rules.{rules}
 use Rattle.desk_units.specs.Units.{density}
 use Rattle.desk_units.proofs.Roundings.{thousand}
 use Rattle.desk_units.proofs.density.Goals as goal

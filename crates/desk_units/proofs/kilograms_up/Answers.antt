@@ -1,5 +1,4 @@
 -- Milligrams over 1,000, rounded up, with three places. Assumes nothing.
-use borrow.Author.Rules.{rules}
 use Rattle.desk_units.specs.Units.{kilograms_up}
 use Rattle.desk_units.proofs.kilograms_up.Goals as goal
 

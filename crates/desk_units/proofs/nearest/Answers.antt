@@ -1,7 +1,6 @@
 -- Below half or not is the definition's test, and a quotient by 2 or more leaves room for one more. Assumes nothing.
 use mathlib.Core.Path.{refl}
 use native.Mathlib.Omega.{arith}
-use borrow.Author.Rules.{rules}
 use borrow.Author.Tests.{lt-ltb, le-ltb}
 use Rattle.desk_units.specs.Units.{nearest}
 use Rattle.desk_units.proofs.Roundings.{half_at_most}

@@ -1,6 +1,5 @@
 -- The whole number at or below the pressure is rounded, or there is none. Assumes nothing.
 use mathlib.Core.Path.{refl}
-use borrow.Author.Rules.{rules}
 use Rattle.desk_units.specs.Units.{pressure}
 use Rattle.desk_units.proofs.pressure.Goals as goal
 

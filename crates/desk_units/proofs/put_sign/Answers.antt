@@ -1,5 +1,4 @@
 -- A minus sign, or nothing. Assumes nothing.
-use borrow.Author.Rules.{rules}
 use Rattle.desk_units.specs.Shown.{sign_text}
 use Rattle.desk_units.proofs.put_sign.Goals as goal
 

@@ -1,7 +1,6 @@
 -- What is left over or not is the definition's test, and a quotient by 2 or more leaves room for one more. Assumes nothing.
 use mathlib.Core.Path.{refl}
 use native.Mathlib.Omega.{arith}
-use borrow.Author.Rules.{rules}
 use borrow.Author.Tests.{eq-eqb, ne_eqb}
 use Rattle.desk_units.specs.Units.{rounded_up}
 use Rattle.desk_units.proofs.Roundings.{half_at_most}

@@ -1,8 +1,6 @@
 -- Each turn drops a 0 from the end, and the shortest form stays the same; a place or a digit that stays ends it. Assumes nothing.
-use mathlib.Core.Path.{◌≡◌, refl, sym, ◌∙◌}
+use mathlib.Core.Path.{sym, ◌∙◌}
 use native.Mathlib.Omega.{arith}
-use borrow.Author.Rules.{rules}
-use Rattle.desk_units.specs.Units.{shortest}
 use Rattle.desk_units.proofs.Roundings.{one_stays, no_zero, zero_dropped}
 use Rattle.desk_units.proofs.shortest.Goals as goal
 

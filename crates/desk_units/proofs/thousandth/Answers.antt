@@ -1,5 +1,4 @@
 -- The shortest form from three places. Assumes nothing.
-use borrow.Author.Rules.{rules}
 use Rattle.desk_units.specs.Units.{thousandth}
 use Rattle.desk_units.proofs.thousandth.Goals as goal
 

@@ -1,9 +1,7 @@
 -- At each place the line is what was passed and what is left of it. Assumes nothing.
 use Prim.Native.Nat.{◌-◌}
-use native.Mathlib.Omega.{arith}
 use lib.ListN.{length}
-use borrow.Author.Rules.{rules}
-use Rattle.desk_words.proofs.Lines.{Line, at_first, one_more, at_end, at_line_end}
+use Rattle.desk_words.proofs.Lines.{Line}
 use Rattle.desk_words.proofs.line_end.Given as goal
 
 abbrev pub invariant-loop-i : goal.invariant-loop-i

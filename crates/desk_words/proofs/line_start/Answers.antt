@@ -1,11 +1,8 @@
 -- Each byte that is passed is a line's end or another. Assumes nothing.
-use Prim.Native.Nat.{◌-◌}
-use mathlib.Core.Logic.{⊎_elim}
 use native.Mathlib.Omega.{arith}
-use lib.ListN.{length}
-use borrow.Author.Rules.{rules}
-use Rattle.desk_words.proofs.Lines.{Left, none_passed, found, not_there, line_passed, byte_passed}
+use Rattle.desk_words.proofs.Lines.{found, not_there, line_passed, byte_passed}
 use Rattle.desk_words.proofs.line_start.Goals as goal
+use Rattle.desk_words.proofs.line_start.Goals.{then-s-i-eq10, else-s-i-eq10}
 
 pub returns-then-left-eq0 : goal.returns-then-left-eq0
 returns-then-left-eq0 c = found c.loop-i.invariant c.loop-i-test.true c.if-left-eq0.true
@@ -13,10 +10,10 @@ returns-then-left-eq0 c = found c.loop-i.invariant c.loop-i-test.true c.if-left-
 pub loop-i-preserved : goal.loop-i-preserved
 loop-i-preserved c =
     let l = c.loop-i.invariant in
-    ⊎_elim
-    (λ w. rw w.1 (line_passed l c.loop-i-test.true (omega (arith, c.if-left-eq0.false)) w.0.taken))
-    (λ w. rw w.1 (byte_passed l c.loop-i-test.true (omega (arith, c.if-left-eq0.false)) w.0.left))
-    c.if-s-i-eq10.branch
+    elim c.if-s-i-eq10.branch [
+      | then-s-i-eq10 w ↦ rw w.left-is (line_passed l c.loop-i-test.true (omega (arith, c.if-left-eq0.false)) w.if-s-i-eq10.true)
+      | else-s-i-eq10 w ↦ rw w.left-is (byte_passed l c.loop-i-test.true (omega (arith, c.if-left-eq0.false)) w.if-s-i-eq10.false)
+    ]
 
 pub returns : goal.returns
 returns c = not_there c.loop-i.invariant c.loop-i-test.false

@@ -1,10 +1,7 @@
 -- Each byte that is passed is a line's end or another. Assumes nothing.
 use Prim.Native.Nat.{◌-◌}
-use mathlib.Core.Logic.{⊎_elim}
-use native.Mathlib.Omega.{arith}
 use lib.ListN.{length}
-use borrow.Author.Rules.{rules}
-use Rattle.desk_words.proofs.Lines.{Left, none_passed, found, not_there, line_passed, byte_passed}
+use Rattle.desk_words.proofs.Lines.{Left}
 use Rattle.desk_words.proofs.line_start.Given as goal
 
 abbrev pub invariant-loop-i : goal.invariant-loop-i

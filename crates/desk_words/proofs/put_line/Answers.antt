@@ -1,5 +1,4 @@
 -- What stands from where the line begins to where it ends is the line. Assumes nothing.
-use borrow.Author.Rules.{rules}
 use Rattle.desk_words.proofs.put_line.Goals as goal
 
 pub returns : goal.returns

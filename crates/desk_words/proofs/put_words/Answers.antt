@@ -1,5 +1,4 @@
 -- The text is all words, joined, so that line n has those of n. Assumes nothing.
-use borrow.Author.Rules.{rules}
 use Rattle.desk_words.specs.Words.{all, words}
 use Rattle.desk_words.proofs.Lines.{joined, plain, all_plain, had_back}
 use Rattle.desk_words.proofs.put_words.Goals as goal

@@ -17,13 +17,13 @@ worked : (c : After-pressure_on) → (let a = c.args in of1996.pressure a.t a.rh
 worked c = rw (← on_curve c.args.t, ← c.curve_at-curve.ensures) (sym c.pressure_on.ensures)
 
 -- past 5: the pressure is a number, and lies in its range; and the check of the melting line that was made
-number_is : (c : After-not_solid-c) → (    let a = c.args in of1996.pressure a.t a.rho ≡ Number c.in-Number.p)
+number_is : (c : After-not_solid-c) → (let a = c.args in of1996.pressure a.t a.rho ≡ Number c.in-Number.p)
 number_is c = worked c ∙ c.in-Number.is
 
-inside : (c : After-not_solid-c) → (    outside c.args.l.asked.pressure c.in-Number.p ≡ false)
+inside : (c : After-not_solid-c) → (outside c.args.l.asked.pressure c.in-Number.p ≡ false)
 inside c = sym c.is_outside.ensures ∙ c.if-is_outside.false
 
-check_is : (c : After-not_solid-c) → (    solid (of1996.melting_pressure c.args.t) c.in-Number.p ≡ c.not_solid-c.result)
+check_is : (c : After-not_solid-c) → (solid (of1996.melting_pressure c.args.t) c.in-Number.p ≡ c.not_solid-c.result)
 check_is c = rw (← c.melting_pressure.ensures) (sym c.not_solid-c.ensures)
 
 pub returns-in_default : goal.returns-in_default

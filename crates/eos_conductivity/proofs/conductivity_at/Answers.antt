@@ -6,7 +6,6 @@ use Rattle.num_formulas.specs.Formula.{value}
 use Rattle.num_formulas.proofs.Formulas.{once}
 use Rattle.eos_constants.specs.Reduced.{delta}
 use Rattle.eos_conductivity.specs.Conductivity.{reduced, dilute, residual, exponent, enhancement, conductivity, conductivity_at}
-use borrow.Author.Rules.{rules}
 use Rattle.eos_conductivity.proofs.conductivity_at.Goals as goal
 
 pub returns : goal.returns
@@ -18,5 +17,5 @@ returns c =
       c.background.ensures,
       c.delta_at-delta.ensures,
       c.reduced_at-r.ensures,
-    ) c c.checked.ensures)
+    ) at c.checked.ensures)
     ∙ once (conductivity (reduced a.t) (delta a.rho))

@@ -5,7 +5,6 @@ use Rattle.num_working.specs.Number.{fraction, decimal}
 use Rattle.num_powers.specs.Power.{power}
 use Rattle.num_formulas.specs.Formula.{value}
 use Rattle.eos_conductivity.specs.Conductivity as conductivity
-use borrow.Author.Rules.{rules}
 use Rattle.eos_conductivity.proofs.dilute.Goals as goal
 
 pub returns : goal.returns

@@ -4,7 +4,6 @@ use lib.Ieee.{neg, of_bits, round}
 use Rattle.num_working.specs.Number.{fraction, decimal}
 use Rattle.num_formulas.specs.Formula.{value}
 use Rattle.eos_conductivity.specs.Conductivity as conductivity
-use borrow.Author.Rules.{rules}
 use Rattle.eos_conductivity.proofs.enhancement.Goals as goal
 
 pub returns : goal.returns

@@ -4,7 +4,6 @@ use lib.Ieee.{of_int, round}
 use Rattle.num_working.specs.Number.{whole, fraction, decimal}
 use Rattle.num_formulas.specs.Formula.{value}
 use Rattle.eos_constants.specs.Constant.{span_wagner}
-use borrow.Author.Rules.{rules}
 use Rattle.eos_conductivity.proofs.reduced_at.Goals as goal
 
 pub returns : goal.returns

@@ -1,7 +1,6 @@
 -- One quotient. Assumes nothing.
 use mathlib.Core.Path.{refl}
 use Rattle.num_formulas.specs.Formula.{value}
-use borrow.Author.Rules.{rules}
 use Rattle.eos_constants.proofs.tau_at.Goals as goal
 
 pub returns : goal.returns

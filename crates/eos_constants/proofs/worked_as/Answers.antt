@@ -1,7 +1,6 @@
 -- Each arm is the definition's at the constructor that was matched. Assumes nothing.
 use mathlib.Core.Path.{sym, ap}
 use Rattle.eos_constants.specs.Exponent.{worked_as}
-use borrow.Author.Rules.{rules}
 use Rattle.eos_constants.proofs.worked_as.Goals as goal
 
 pub returns-in-Of0_34 : goal.returns-in-Of0_34

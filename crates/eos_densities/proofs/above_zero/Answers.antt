@@ -3,7 +3,6 @@ use mathlib.Core.Path.{sym, ap}
 use lib.Ieee.{of_bits, of_int}
 use Rattle.num_working.specs.Number.{whole}
 use Rattle.eos_densities.specs.Density.{above_zero}
-use borrow.Author.Rules.{rules}
 use Rattle.eos_densities.proofs.above_zero.Goals as goal
 
 pub returns-then-x : goal.returns-then-x

@@ -4,7 +4,6 @@ use Rattle.num_formulas.specs.Formula.{num, ◌⊗◌, e^, value}
 use Rattle.num_formulas.proofs.Formulas.{once}
 use Rattle.eos_constants.specs.Constant.{span_wagner}
 use Rattle.eos_densities.specs.Density.{above_zero, density_of}
-use borrow.Author.Rules.{rules}
 use Rattle.eos_densities.proofs.density_of.Goals as goal
 
 pub returns : goal.returns

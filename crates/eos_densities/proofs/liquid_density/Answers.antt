@@ -2,7 +2,6 @@
 use mathlib.Core.Path.{◌∙◌}
 use Rattle.eos_densities.specs.Density.{liquid_sum, liquid_density}
 use Rattle.eos_densities.proofs.Sums.{density_from, liquid_of_theta}
-use borrow.Author.Rules.{rules}
 use Rattle.eos_densities.proofs.liquid_density.Goals as goal
 
 pub returns : goal.returns

@@ -3,7 +3,6 @@ use lib.Ieee.{neg, of_bits, round}
 use Rattle.num_working.specs.Number.{fraction, decimal}
 use Rattle.num_formulas.specs.Formula.{value}
 use Rattle.eos_densities.specs.Density.{liquid_sum}
-use borrow.Author.Rules.{rules}
 use Rattle.eos_densities.proofs.liquid_sum.Goals as goal
 
 pub returns : goal.returns

@@ -1,7 +1,6 @@
 -- A root that is refused is a NaN. Assumes nothing.
 use mathlib.Core.Path.{ap, ◌∙◌}
 use Rattle.num_working.specs.Working.{plain}
-use borrow.Author.Rules.{rules}
 use Rattle.eos_densities.proofs.to.Goals as goal
 
 pub returns : goal.returns

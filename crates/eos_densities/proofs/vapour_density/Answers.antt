@@ -2,7 +2,6 @@
 use mathlib.Core.Path.{◌∙◌}
 use Rattle.eos_densities.specs.Density.{vapour_sum, vapour_density}
 use Rattle.eos_densities.proofs.Sums.{density_from, vapour_of_theta}
-use borrow.Author.Rules.{rules}
 use Rattle.eos_densities.proofs.vapour_density.Goals as goal
 
 pub returns : goal.returns

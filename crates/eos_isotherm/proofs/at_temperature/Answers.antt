@@ -1,6 +1,5 @@
 -- Each part is the definition's. Assumes nothing.
 use mathlib.Core.Path.{refl}
-use borrow.Author.Rules.{rules}
 use Rattle.num_formulas.specs.Formula.{value}
 use Rattle.eos_rows.specs.Row.{non_analytics}
 use Rattle.eos_isotherm.specs.Isotherm.{quarter_of, isotherm}
@@ -15,6 +14,6 @@ returns c =
       c.four_bells-bell.ensures,
       c.tau_powers-powers.ensures,
       c.half_of-2.ensures,
-      c.half_of_lem.ensures,
+      c.half_of.ensures,
       c.tau_at-tau.ensures,
     ) refl

@@ -1,6 +1,5 @@
 -- Each row's own β and γ. Assumes nothing.
 use mathlib.Core.Path.{refl}
-use borrow.Author.Rules.{rules}
 use Rattle.eos_rows.specs.Row.{gaussians}
 use Rattle.eos_isotherm.specs.Isotherm.{four_bells}
 use Rattle.eos_isotherm.proofs.four_bells.Goals as goal

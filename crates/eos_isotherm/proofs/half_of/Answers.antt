@@ -1,7 +1,6 @@
 -- The root is the definition's. Assumes nothing.
 use mathlib.Core.Path.{ap, ◌∙◌}
 use Rattle.num_working.specs.Working.{plain}
-use borrow.Author.Rules.{rules}
 use Rattle.eos_isotherm.proofs.half_of.Goals as goal
 
 pub returns : goal.returns

@@ -1,13 +1,12 @@
 -- Each turn puts the next row's power in its place. Assumes nothing.
 use mathlib.Core.Path.{◌≡◌, refl, sym, ◌∙◌}
-use Prim.Native.Nat.{ℕ, ◌/◌, ◌%◌, ◌<◌, ◌≤◌, ◌-◌}
+use Prim.Native.Nat.{ℕ, ◌/◌, ◌%◌, ◌<◌}
 use native.Mathlib.Omega.{arith}
-use borrow.Author.Rules.{rules}
 use lib.ListN.{length, get_or, length-map}
 use lib.Ieee.{Float, nan, binary64, mul}
 use Rattle.num_formulas.specs.Formula.{value}
 use Rattle.eos_isotherm.specs.Isotherm.{quarters, tau_power, tau_powers}
-use Rattle.eos_isotherm.proofs.Fills.{Filled, fill_more, fill_all}
+use Rattle.eos_isotherm.proofs.Fills.{fill_more, fill_all}
 use Rattle.eos_isotherm.proofs.Isotherms.{count, small, power_there}
 use Rattle.eos_isotherm.proofs.tau_powers.Goals as goal
 use Rattle.eos_isotherm.proofs.tau_powers.Goals.{After-quarters_at-j}
@@ -24,6 +23,9 @@ pub loop-i-init : goal.loop-i-init
 loop-i-init c =
     let a = c.args in
     (omega arith, record { long = sym (long a.tau a.quarter); same = refl })
+
+pub bounds-t-j : goal.bounds-t-j
+bounds-t-j c = let l = low c in omega arith
 
 pub loop-i-preserved : goal.loop-i-preserved
 loop-i-preserved c =

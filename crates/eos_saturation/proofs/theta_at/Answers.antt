@@ -6,7 +6,6 @@ use Rattle.eos_constants.specs.Constant.{span_wagner}
 use Rattle.num_formulas.specs.Formula.{value}
 use Rattle.num_formulas.proofs.Formulas.{once}
 use Rattle.eos_saturation.specs.Saturation.{theta}
-use borrow.Author.Rules.{rules}
 use Rattle.eos_saturation.proofs.theta_at.Goals as goal
 
 pub returns : goal.returns

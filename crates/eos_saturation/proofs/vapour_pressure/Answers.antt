@@ -7,7 +7,6 @@ use Rattle.eos_constants.specs.Constant.{span_wagner}
 use Rattle.eos_constants.specs.Reduced.{tau}
 use Rattle.eos_saturation.specs.Saturation.{theta, pressure_sum, vapour_pressure}
 use Rattle.eos_saturation.proofs.Theta.{tested}
-use borrow.Author.Rules.{rules}
 use Rattle.eos_saturation.proofs.vapour_pressure.Goals as goal
 
 -- eq. (3.13), of any τ and θ

@@ -1,6 +1,5 @@
 -- The product so far is the i-th whole power, and the loop ends at n. Assumes nothing.
 use mathlib.Core.Path.{◌≡◌, refl, ap, ◌∙◌}
-use Prim.Native.Nat.{◌≤◌, ◌-◌}
 use native.Mathlib.Omega.{arith}
 use lib.Ieee.{Float, binary64, mul, of_bits, of_int}
 use Rattle.num_working.specs.Number.{whole}

@@ -1,11 +1,7 @@
 -- The product so far is the i-th whole power, and the loop ends at n. Assumes nothing.
-use mathlib.Core.Path.{◌≡◌, refl, ap, ◌∙◌}
+use mathlib.Core.Path.{◌≡◌}
 use Prim.Native.Nat.{◌≤◌, ◌-◌}
-use native.Mathlib.Omega.{arith}
-use lib.Ieee.{Float, binary64, mul, of_bits, of_int}
-use Rattle.num_working.specs.Number.{whole}
 use Rattle.num_powers.specs.Power.{power}
-use Rattle.num_powers.proofs.Powers.{power_next}
 use Rattle.num_powers.proofs.whole_power.Given as goal
 
 abbrev pub invariant-loop-i : goal.invariant-loop-i

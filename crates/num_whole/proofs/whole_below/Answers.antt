@@ -1,6 +1,5 @@
 -- In reach of whole numbers the kit's truncation is the cut. Assumes nothing.
 use Rattle.std.proofs.Common.{◌≡◌, ◌^◌, true, false, sym, ap, ◌∙◌}
-use borrow.Author.Tests.{not-true, not-false}
 use lib.Ieee.{Float, le}
 use Rattle.num_working.specs.Number.{whole}
 use Rattle.num_whole.specs.Whole.{whole_below}
@@ -22,7 +21,7 @@ pub returns-then-x : goal.returns-then-x
 returns-then-x c = past_the_top _ (ap (λ (w : Float). le w c.args.x) (sym top_bits) ∙ c.if-x.true)
 
 pub truncating_f64_to_u64-requires : goal.truncating_f64_to_u64-requires
-truncating_f64_to_u64-requires c = let k = truncated _ (low (goal.at.truncating_f64_to_u64-requires c).Else-x) (high (goal.at.truncating_f64_to_u64-requires c).Else-x) in (k.low, k.high)
+truncating_f64_to_u64-requires c = let k = truncated _ (low (goal.at.truncating_f64_to_u64-requires c).Else-x) (high (goal.at.truncating_f64_to_u64-requires c).Else-x) in record { lower_bound = k.low; upper_bound = k.high }
 
 pub returns : goal.returns
 unfolding whole_below

@@ -2,7 +2,6 @@
 use native.Mathlib.Omega.{arith}
 use lib.ListN.{length-append}
 use Rattle.sheet_report.specs.Report.{ending_bytes}
-use borrow.Author.Rules.{rules}
 use Rattle.sheet_report.proofs.ending_len.Goals as goal
 
 pub returns-in-Covered : goal.returns-in-Covered

@@ -1,7 +1,6 @@
 -- A line is six bytes and two numbers. Assumes nothing.
 use native.Mathlib.Omega.{arith}
 use Rattle.sheet_report.proofs.Reports.{line_size}
-use borrow.Author.Rules.{rules}
 use Rattle.sheet_report.proofs.line_len.Goals as goal
 
 pub returns-in-Mass : goal.returns-in-Mass

@@ -1,18 +1,14 @@
 -- After i turns the sum is the length of the first i lines, 46 each at most. Assumes nothing.
-use Prim.Native.Nat.{◌+◌, ◌-◌, ◌*◌, ◌≤◌}
-use mathlib.Core.Path.{◌≡◌, ap}
+use mathlib.Core.Path.{ap}
 use native.Mathlib.Omega.{arith}
 use lib.ListN.{length}
-use borrow.Author.Rules.{rules}
-use Rattle.sheet_outcome.specs.Outcome.{marks_of}
-use Rattle.sheet_report.specs.Report.{lines_bytes}
-use Rattle.sheet_report.proofs.Reports.{lines_after, next_length, no_line}
+use Rattle.sheet_report.proofs.Reports.{next_length, no_line}
 use Rattle.sheet_report.proofs.lines_len.Goals as goal
 
 pub loop-i-preserved : goal.loop-i-preserved
 loop-i-preserved c =
-    omega (arith, next_length c.args.t1 c.loop-i.i (omega arith))
+    omega (arith, next_length c.args.m c.loop-i.i (omega arith))
 
 pub returns : goal.returns
 returns c =
-    omega (arith, ap length (no_line c.args.t1 c.loop-i.i (omega arith)))
+    omega (arith, ap length (no_line c.args.m c.loop-i.i (omega arith)))

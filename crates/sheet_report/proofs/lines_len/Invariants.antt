@@ -1,12 +1,10 @@
 -- After i turns the sum is the length of the first i lines, 46 each at most. Assumes nothing.
 use Prim.Native.Nat.{◌+◌, ◌-◌, ◌*◌, ◌≤◌}
-use mathlib.Core.Path.{◌≡◌, ap}
-use native.Mathlib.Omega.{arith}
+use mathlib.Core.Path.{◌≡◌}
 use lib.ListN.{length}
-use borrow.Author.Rules.{rules}
 use Rattle.sheet_outcome.specs.Outcome.{marks_of}
 use Rattle.sheet_report.specs.Report.{lines_bytes}
-use Rattle.sheet_report.proofs.Reports.{lines_after, next_length, no_line}
+use Rattle.sheet_report.proofs.Reports.{lines_after}
 use Rattle.sheet_report.proofs.lines_len.Given as goal
 
 abbrev pub invariant-loop-i : goal.invariant-loop-i

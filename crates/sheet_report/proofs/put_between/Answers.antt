@@ -2,7 +2,6 @@
 use native.Mathlib.Omega.{arith}
 use lib.ListN.{length-append}
 use Rattle.sheet_write.proofs.Writings.{then}
-use borrow.Author.Rules.{rules}
 use Rattle.sheet_report.proofs.put_between.Goals as goal
 
 pub returns : goal.returns

@@ -2,7 +2,6 @@
 use native.Mathlib.Omega.{arith}
 use lib.ListN.{length-append}
 use Rattle.sheet_report.specs.Report.{ending_bytes}
-use borrow.Author.Rules.{rules}
 use Rattle.sheet_report.proofs.put_ending.Goals as goal
 
 pub put_between-requires : goal.put_between-requires

@@ -4,7 +4,6 @@ use Rattle.sheet_write.specs.Writing.{ascii}
 use Rattle.sheet_write.proofs.Writings.{inside, room, then}
 use Rattle.sheet_report.specs.Report.{line_bytes}
 use Rattle.sheet_report.proofs.Reports.{between_length, line_length}
-use borrow.Author.Rules.{rules}
 use Rattle.sheet_report.proofs.put_line.Goals as goal
 
 pub put_between-a-requires : goal.put_between-a-requires

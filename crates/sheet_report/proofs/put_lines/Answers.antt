@@ -1,8 +1,7 @@
 -- After i turns the first i lines lie over the output, and each turn puts the next where they end. Assumes nothing.
-use Prim.Native.Nat.{◌-◌, ◌≤◌}
 use native.Mathlib.Omega.{arith}
 use borrow.Author.Rules.{rules}
-use Rattle.sheet_report.proofs.Reports.{Turn, start, before, kept, done, fits, at_most, next}
+use Rattle.sheet_report.proofs.Reports.{start, before, kept, done, fits, at_most, next}
 use Rattle.sheet_report.proofs.put_lines.Goals as goal
 
 pub loop-i-init : goal.loop-i-init

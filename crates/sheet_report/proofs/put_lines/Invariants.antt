@@ -1,8 +1,6 @@
 -- After i turns the first i lines lie over the output, and each turn puts the next where they end. Assumes nothing.
 use Prim.Native.Nat.{◌-◌, ◌≤◌}
-use native.Mathlib.Omega.{arith}
-use borrow.Author.Rules.{rules}
-use Rattle.sheet_report.proofs.Reports.{Turn, start, before, kept, done, fits, at_most, next}
+use Rattle.sheet_report.proofs.Reports.{Turn}
 use Rattle.sheet_report.proofs.put_lines.Given as goal
 
 abbrev pub invariant-loop-i : goal.invariant-loop-i

@@ -4,7 +4,6 @@ use native.Mathlib.Omega.{arith}
 use lib.ListN.{length-append}
 use Rattle.sheet_write.proofs.Writings.{then}
 use Rattle.sheet_report.specs.Report.{report_bytes}
-use borrow.Author.Rules.{rules}
 use Rattle.sheet_report.proofs.write_report.Goals as goal
 
 pub returns-then-long-out : goal.returns-then-long-out

@@ -15,7 +15,7 @@ use Rattle.sheet_weigh.proofs.Markings.{marked_length, held, held_more}
 use Rattle.sheet_weigh.proofs.weigh_all.Given as goal
 
 abbrev pub invariant-loop-i : goal.invariant-loop-i
-invariant-loop-i l =     (1 ≤ l.i) × (l.i ≤ l.n + 1) × (l.marks ≡ held l.limits l.s.lines (l.i - 1)) × Known l.s.lines (l.i - 1) l.numbers l.known
+invariant-loop-i l = (1 ≤ l.i) × (l.i ≤ l.n + 1) × (l.marks ≡ held l.limits l.s.lines (l.i - 1)) × Known l.s.lines (l.i - 1) l.numbers l.known
 
 abbrev pub decreases-loop-i : goal.decreases-loop-i
 decreases-loop-i l = l.n + 1 - l.i

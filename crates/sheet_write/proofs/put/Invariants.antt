@@ -1,12 +1,8 @@
 -- After i turns the first i bytes of the text are written, and each turn writes the next. Assumes nothing.
 use Prim.Native.Nat.{◌≤◌, ◌-◌}
-use mathlib.Core.Path.{◌≡◌, refl}
-use native.Mathlib.Omega.{arith}
+use mathlib.Core.Path.{◌≡◌}
 use lib.ListN.{length, take}
-use lib.Seq.{take_all}
-use borrow.Author.Rules.{rules}
 use Rattle.sheet_write.specs.Writing.{Wrote}
-use Rattle.sheet_write.proofs.Writings.{nothing, next_byte}
 use Rattle.sheet_write.proofs.put.Given as goal
 
 abbrev pub invariant-loop-i : goal.invariant-loop-i

@@ -1,6 +1,5 @@
 -- The test of the whole table: its two hundred bytes are those of `pairs`, computed. Assumes nothing.
 use mathlib.Core.Path.{refl}
-use borrow.Author.Rules.{rules}
 use Rattle.sheet_write.specs.Pairs.{pairs, pairs_from}
 use Rattle.sheet_write.proofs.put_by_table.Goals as goal
 

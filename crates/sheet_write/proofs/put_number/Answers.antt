@@ -1,6 +1,5 @@
 -- One digit by itself, and more by the table. Assumes nothing.
 use native.Mathlib.Omega.{arith}
-use borrow.Author.Rules.{rules}
 use Rattle.sheet_text.proofs.Decimals.{length_small}
 use Rattle.sheet_write.proofs.Writings.{one_digit}
 use Rattle.sheet_write.proofs.put_number.Goals as goal

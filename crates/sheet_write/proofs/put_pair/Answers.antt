@@ -1,7 +1,6 @@
 -- The two digits of r stand in the table at 2 r. Assumes nothing.
 use native.Mathlib.Omega.{arith}
 use lib.ListN.{length-set}
-use borrow.Author.Rules.{rules}
 use Rattle.sheet_write.proofs.Pairs.{stand, two_hundred}
 use Rattle.sheet_write.proofs.put_pair.Goals as goal
 

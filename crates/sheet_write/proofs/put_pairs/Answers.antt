@@ -1,10 +1,9 @@
 -- At each turn the last two digits of those that are left are written before the others, until one or two are left. Assumes nothing.
-use mathlib.Core.Path.{◌≡◌, refl}
+use mathlib.Core.Path.{refl}
 use native.Mathlib.Omega.{arith}
-use lib.ListN.{length, length-set}
-use borrow.Author.Rules.{rules}
+use lib.ListN.{length-set}
 use Rattle.sheet_text.proofs.Decimals.{length_small, length_pair, length_pairs}
-use Rattle.sheet_write.proofs.Backward.{Behind, none_yet, at_most, two_more, first, first_two}
+use Rattle.sheet_write.proofs.Backward.{none_yet, at_most, two_more, first, first_two}
 use Rattle.sheet_write.proofs.put_pairs.Goals as goal
 
 pub loop-left-init : goal.loop-left-init

@@ -1,10 +1,7 @@
 -- At each turn the last two digits of those that are left are written before the others, until one or two are left. Assumes nothing.
-use mathlib.Core.Path.{◌≡◌, refl}
-use native.Mathlib.Omega.{arith}
-use lib.ListN.{length, length-set}
-use borrow.Author.Rules.{rules}
-use Rattle.sheet_text.proofs.Decimals.{length_small, length_pair, length_pairs}
-use Rattle.sheet_write.proofs.Backward.{Behind, none_yet, at_most, two_more, first, first_two}
+use mathlib.Core.Path.{◌≡◌}
+use lib.ListN.{length}
+use Rattle.sheet_write.proofs.Backward.{Behind}
 use Rattle.sheet_write.proofs.put_pairs.Given as goal
 
 abbrev pub invariant-loop-left : goal.invariant-loop-left

@@ -1,5 +1,4 @@
 -- The bytes fit, and are written; or they don't, and nothing is. Assumes nothing.
-use borrow.Author.Rules.{rules}
 use Rattle.sheet_write.proofs.Writings.{fits, stays}
 use Rattle.sheet_write.proofs.put_whole.Goals as goal
 

@@ -1,7 +1,6 @@
 -- The term times the first bracket, onto the sum. Assumes nothing.
 use mathlib.Core.Path.{refl}
 use Rattle.num_formulas.specs.Formula.{value}
-use borrow.Author.Rules.{rules}
 use Rattle.eos_non_analytic.proofs.figures.add_slope.Goals as goal
 
 pub returns : goal.returns

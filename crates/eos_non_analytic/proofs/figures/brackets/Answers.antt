@@ -2,7 +2,6 @@
 use mathlib.Core.Path.{refl}
 use Rattle.num_formulas.specs.Formula.{value}
 use Rattle.eos_non_analytic.specs.Figures.{brackets_by}
-use borrow.Author.Rules.{rules}
 use Rattle.eos_non_analytic.proofs.figures.brackets.Goals as goal
 
 pub returns : goal.returns

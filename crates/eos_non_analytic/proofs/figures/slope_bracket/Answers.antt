@@ -4,7 +4,6 @@ use lib.Ieee.{of_bits, of_int, round, div}
 use Rattle.num_working.specs.Number.{fraction, whole}
 use Rattle.num_formulas.specs.Formula.{value}
 use Rattle.eos_non_analytic.specs.Figures.{brackets_by}
-use borrow.Author.Rules.{rules}
 use Rattle.eos_non_analytic.proofs.figures.slope_bracket.Goals as goal
 
 pub returns : goal.returns

@@ -3,7 +3,6 @@ use mathlib.Core.Path.{refl}
 use Rattle.num_formulas.specs.Formula.{value}
 use Rattle.eos_rows.specs.Row.{non_analytics}
 use Rattle.eos_non_analytic.specs.Parts.{critical_by}
-use borrow.Author.Rules.{rules}
 use Rattle.eos_non_analytic.proofs.parts.at_critical.Goals as goal
 
 pub returns : goal.returns

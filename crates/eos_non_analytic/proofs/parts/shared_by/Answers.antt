@@ -6,7 +6,6 @@ use Rattle.num_working.specs.Number.{whole}
 use Rattle.num_powers.specs.Power.{power}
 use Rattle.num_formulas.specs.Formula.{Formula, num, ◌^^◌, value}
 use Rattle.eos_non_analytic.specs.Parts.{raised}
-use borrow.Author.Rules.{rules}
 use Rattle.eos_non_analytic.proofs.parts.shared_by.Goals as goal
 
 seen : (half : Bool) (e y : Formula) → value (raised half (num (value e)) (num (value y))) ≡ value (raised half e y)

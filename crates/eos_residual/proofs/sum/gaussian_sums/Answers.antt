@@ -35,3 +35,6 @@ pub returns : goal.returns
 returns c =
     let a = c.args in
     dues_none a.all _ _ c.loop-i.i _ c.loop-i.invariant.1 (gaussian_length a.iso a.p.delta) (omega arith)
+
+pub bounds-xs-at : goal.bounds-xs-at
+bounds-xs-at c = low (goal.at.bounds-xs-at c).After-gaussian_row-r

@@ -17,7 +17,7 @@ use Rattle.eos_residual.proofs.sum.polynomial_sums.Goals.{In-loop-i}
 
 -- the power of δ that a turn comes to
 low : (c : In-loop-i)
-    →    get_or c.delta_powers-ds.result c.loop-i.i 0 < 11
+    → get_or c.delta_powers-ds.result c.loop-i.i 0 < 11
 low c =
     delta_by c.delta_powers-ds.ensures c.loop-i.i
 
@@ -50,3 +50,9 @@ returns c =
     dues_none a.all _ _ c.loop-i.i _
     (c.loop-i.invariant.1 a.iso a.p.delta refl (its_powers a.iso a.p c.requires))
     (polynomial_length a.iso a.p.delta) (omega arith)
+
+pub bounds-xs-at : goal.bounds-xs-at
+bounds-xs-at c = delta_by c.delta_powers-ds.ensures 0
+
+pub bounds-xs-at-in-loop-i : goal.bounds-xs-at-in-loop-i
+bounds-xs-at-in-loop-i c = low (goal.at.bounds-xs-at-in-loop-i c).In-loop-i

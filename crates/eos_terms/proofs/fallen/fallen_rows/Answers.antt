@@ -1,6 +1,5 @@
 -- Each exponential that says so adds the rows that it serves. Assumes nothing.
 use mathlib.Core.Path.{refl}
-use borrow.Author.Rules.{rules}
 use Rattle.eos_terms.specs.Fallen.{fallen_rows}
 use Rattle.eos_terms.proofs.fallen.fallen_rows.Goals as goal
 
@@ -8,7 +7,7 @@ pub returns : goal.returns
 unfolding fallen_rows
 returns c =
     rw (
-      c.rows_of_lem.ensures,
+      c.rows_of.ensures,
       c.rows_of-2.ensures,
       c.rows_of-3.ensures,
       c.rows_of-4.ensures,

@@ -1,6 +1,5 @@
 -- By what is said. Assumes nothing.
 use mathlib.Core.Path.{refl, sym, ◌∙◌}
-use borrow.Author.Rules.{rules}
 use Rattle.eos_terms.specs.Fallen.{rows_of}
 use Rattle.eos_terms.proofs.fallen.rows_of.Goals as goal
 

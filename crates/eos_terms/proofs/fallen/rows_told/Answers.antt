@@ -1,6 +1,5 @@
 -- Where it is to be told. Assumes nothing.
 use mathlib.Core.Path.{refl}
-use borrow.Author.Rules.{rules}
 use Rattle.eos_terms.proofs.fallen.rows_told.Goals as goal
 
 pub returns-then-told : goal.returns-then-told

@@ -1,7 +1,6 @@
 -- The point by the twelve exponentials of its arguments, and the rows by what they say, where it is told. Assumes nothing.
 use mathlib.Core.Path.{◌≡◌, ap, ◌∙◌}
 use mathlib.Core.Bool.{cond}
-use borrow.Author.Rules.{rules}
 use Rattle.eos_terms.specs.Term.{point}
 use Rattle.eos_terms.specs.Fallen.{fallen_terms, fallen_rows, at_density}
 use Rattle.eos_terms.proofs.Counts.{counted}

@@ -3,7 +3,6 @@ use mathlib.Core.Path.{◌≡◌, refl, ap, ◌∙◌}
 use mathlib.Core.List.{List}
 use lib.ListN.{get_or}
 use lib.Ieee.{Float, nan}
-use borrow.Author.Rules.{rules}
 use Rattle.num_powers.specs.Power.{power, powers}
 use Rattle.num_exponential.specs.declared.decay.Twelve.{Twelve}
 use Rattle.eos_rows.specs.Row.{gaussians, row39, non_analytics, row42}

@@ -1,5 +1,4 @@
 -- One test after the other, as the definition has them. Assumes nothing.
-use borrow.Author.Rules.{rules}
 use Rattle.num_exponential.specs.Decay.{every}
 use Rattle.num_exponential.proofs.decay.all_in_series.Goals as goal
 

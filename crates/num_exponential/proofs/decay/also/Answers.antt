@@ -1,6 +1,5 @@
 -- The test is the definition's. Assumes nothing.
 use mathlib.Core.Path.{sym, ◌∙◌}
-use borrow.Author.Rules.{rules}
 use Rattle.num_exponential.proofs.decay.also.Goals as goal
 
 pub returns-then-in_series : goal.returns-then-in_series

@@ -1,6 +1,5 @@
 -- The exponential is the definition's. Assumes nothing.
 use mathlib.Core.Path.{ap, ◌∙◌}
-use borrow.Author.Rules.{rules}
 use Rattle.num_working.specs.Working.{plain}
 use Rattle.num_exponential.specs.Exponential.{answer_alone}
 use Rattle.num_exponential.specs.Decay.{decay}

@@ -1,6 +1,5 @@
 -- Finite, and below −36. Assumes nothing.
 use mathlib.Core.Path.{sym, ◌∙◌}
-use borrow.Author.Rules.{rules}
 use lib.Ieee.{of_bits, of_int}
 use Rattle.num_working.specs.Number.{whole}
 use Rattle.num_exponential.proofs.Falls.{says, says_nothing}

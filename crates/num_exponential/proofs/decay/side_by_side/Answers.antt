@@ -1,6 +1,5 @@
 -- Worked step by step together, each number is the definition's. Assumes nothing.
 use mathlib.Core.Path.{sym, ap, ◌∙◌, subst}
-use borrow.Author.Rules.{rules}
 use lib.Dec.{T}
 use lib.Ieee.{Float}
 use Rattle.num_working.specs.Number.{whole}

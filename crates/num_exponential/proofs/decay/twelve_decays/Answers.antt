@@ -1,6 +1,5 @@
 -- Side by side or one by one, each is the definition's. Assumes nothing.
 use mathlib.Core.Path.{sym, ◌∙◌, subst}
-use borrow.Author.Rules.{rules}
 use lib.Dec.{T}
 use Rattle.num_exponential.proofs.decay.twelve_decays.Goals as goal
 

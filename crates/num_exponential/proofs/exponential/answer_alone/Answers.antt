@@ -1,6 +1,5 @@
 -- By what the exponential came to. Assumes nothing.
 use mathlib.Core.Path.{sym, ap}
-use borrow.Author.Rules.{rules}
 use Rattle.num_exponential.specs.Exponential.{answer_alone}
 use Rattle.num_exponential.proofs.exponential.answer_alone.Goals as goal
 

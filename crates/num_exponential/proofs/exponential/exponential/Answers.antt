@@ -1,6 +1,5 @@
 -- By what the steps came to, and the test of the argument. Assumes nothing.
 use mathlib.Core.Path.{refl}
-use borrow.Author.Rules.{rules}
 use lib.Ieee.{of_bits, of_int}
 use Rattle.num_working.specs.Number.{whole}
 use Rattle.num_exponential.specs.Exponential.{exponential}

@@ -1,6 +1,5 @@
 -- Either way the series is the definition's, and so are the squarings; the number is tested once at the end. Assumes nothing.
 use mathlib.Core.Path.{sym, ap, ◌∙◌, subst}
-use borrow.Author.Rules.{rules}
 use lib.Dec.{T}
 use lib.Ieee.{neg, of_bits, of_int, round}
 use Rattle.num_working.specs.Number.{whole}

@@ -1,11 +1,8 @@
 -- Each turn of the loop is a turn of the definition, on numbers that are tested once at the end. Assumes nothing.
-use mathlib.Core.Path.{◌≡◌, refl, sym, ◌∙◌}
-use Prim.Native.Nat.{◌≤◌}
+use mathlib.Core.Path.{refl, sym, ◌∙◌}
 use native.Mathlib.Omega.{arith}
 use lib.Ieee.{of_bits, of_int}
 use Rattle.num_working.specs.Number.{whole}
-use Rattle.num_working.specs.Working.{checked}
-use Rattle.num_exponential.specs.Exponential.{series}
 use Rattle.num_exponential.proofs.Exponentials.{series_turn, series_end}
 use Rattle.num_exponential.proofs.exponential.series.Goals as goal
 

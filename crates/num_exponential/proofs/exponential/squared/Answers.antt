@@ -1,8 +1,6 @@
 -- Each turn of the loop is a turn of the definition. Assumes nothing.
-use mathlib.Core.Path.{◌≡◌, refl, sym, ◌∙◌}
+use mathlib.Core.Path.{refl, sym, ◌∙◌}
 use native.Mathlib.Omega.{arith}
-use Rattle.num_working.specs.Working.{checked}
-use Rattle.num_exponential.specs.Exponential.{squared}
 use Rattle.num_exponential.proofs.Exponentials.{squared_turn, squared_end}
 use Rattle.num_exponential.proofs.exponential.squared.Goals as goal
 

@@ -1,9 +1,7 @@
 -- Each turn of the loop is a turn of the definition. Assumes nothing.
-use mathlib.Core.Path.{◌≡◌, refl, sym, ◌∙◌}
-use native.Mathlib.Omega.{arith}
+use mathlib.Core.Path.{◌≡◌}
 use Rattle.num_working.specs.Working.{checked}
 use Rattle.num_exponential.specs.Exponential.{squared}
-use Rattle.num_exponential.proofs.Exponentials.{squared_turn, squared_end}
 use Rattle.num_exponential.proofs.exponential.squared.Given as goal
 
 abbrev pub invariant-loop-n : goal.invariant-loop-n

@@ -1,6 +1,5 @@
 -- Each return is the arm of the definition that the tests before it lead to. Assumes nothing.
 use mathlib.Core.Path.{◌≡◌, sym, ap, ◌∙◌}
-use borrow.Author.Rules.{rules}
 use lib.Ieee.{of_bits, of_int}
 use Rattle.num_working.specs.declared.Worked.{Worked}
 use Rattle.num_working.specs.Number.{whole}

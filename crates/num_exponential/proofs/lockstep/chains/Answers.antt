@@ -14,7 +14,7 @@ use Rattle.num_exponential.proofs.lockstep.chains.Goals.{After-parts-thirteenth,
 
 -- ---- the six quotients
 abbrev begun : After-parts-thirteenth → Start
-begun c = c
+begun c = c.before.before.before.before.before.before
 
 abbrev Quotient : ℕ → After-parts-thirteenth → Twelve → Type 0
 Quotient k c q = Of (λ v. div binary64 v (whole k)) (begun c).args.y q
@@ -45,10 +45,10 @@ thirteenth c = record { is = c.parts-thirteenth.ensures }
 
 -- ---- the steps, from k = 14 down to 8 and from 7 down to 1
 abbrev parted : After-step-s-7 → After-parts-thirteenth
-parted c = c
+parted c = c.before.before.before.before.before.before.before
 
 abbrev halfway : After-step → After-step-s-7
-halfway c = c
+halfway c = c.before.before.before.before.before.before.before
 
 first_half : (c : After-step-s-7) → Of upper (begun (parted c)).args.y c.step-s-7.result
 unfolding upper seven turn each fraction whole of_bits of_int round
@@ -103,5 +103,6 @@ parts-thirteenth-requires c = (c.requires, tt, tt, tt)
 
 pub returns : goal.returns
 returns c =
-    let s = begun (parted (halfway c)) in
-    (second_half (goal.at.returns c).After-step).is ∙ same_each normal _ _ s.args.y stepped s.pre
+    let at = (goal.at.returns c).After-step in
+    let s = begun (parted (halfway at)) in
+    (second_half at).is ∙ same_each normal _ _ s.args.y stepped s.requires

@@ -1,7 +1,6 @@
 -- The law of num_laws/proofs/Parts.antt: y is a value that f64 holds, as each parameter is. Assumes nothing.
 use mathlib.Core.Path.{sym, subst}
 use lib.Dec.{T}
-use borrow.Author.Rules.{rules}
 use Rattle.num_laws.proofs.Parts.{Parted, parted}
 use Rattle.num_exponential.proofs.lockstep.part.Goals as goal
 use Rattle.num_exponential.proofs.lockstep.part.Goals.{Start}

@@ -1,6 +1,5 @@
 -- Nothing is promised; what is owed is that no bits made or read are a NaN's. Assumes nothing.
 use native.Mathlib.Omega.{arith}
-use borrow.Author.Rules.{rules}
 use Rattle.num_working.proofs.Numbers.{no_nan, less_no_nan}
 use Rattle.num_roots.proofs.root.about_power.Goals as goal
 

@@ -1,6 +1,4 @@
 -- Nothing is promised but an end: what is left of k halves. Assumes nothing.
-use Prim.Native.Nat.{◌≤◌}
-use native.Mathlib.Omega.{arith}
 use Rattle.num_roots.proofs.root.about_whole_power.Goals as goal
 
 pub returns : goal.returns

@@ -1,12 +1,7 @@
 -- The loop keeps a bracket: not above at its lower end, above at its upper end or there the end of the range, which is looked at last.
 -- Where the ends have met, the crossing is between them, and there is only one. Assumes nothing.
 use mathlib.Core.Path.{◌≡◌, sym}
-use Prim.Native.Nat.{ℕ, ◌≤◌, ◌<◌, ◌-◌}
 use native.Mathlib.Omega.{arith}
-use borrow.Author.Rules.{rules}
-use lib.Ieee.{Float}
-use Rattle.num_halving.specs.Halving.{NotAbove, Above}
-use Rattle.num_roots.specs.Root.{power_at}
 use Rattle.num_roots.proofs.Roots.{top, first_not_above, above_at, not_above_at, crossing_is, no_crossing}
 use Rattle.num_roots.proofs.root.crossing.Goals as goal
 
@@ -15,7 +10,7 @@ loop-lo-init c = record {
   apart = omega arith;
   within = omega arith;
   some = omega arith;
-  here = first_not_above c.args.k c.args.t (omega arith) c.requires.0;
+  here = first_not_above c.args.k c.args.t (omega arith) c.requires.t;
   next = λ h. absurd (omega arith);
 }
 
@@ -45,17 +40,17 @@ pub returns-then-hi-lt4697254411347427328 : goal.returns-then-hi-lt4697254411347
 returns-then-hi-lt4697254411347427328 c =
     let l = c.loop-lo in
     let b = l.invariant.next (omega arith) in
-    sym (crossing_is c.args.k c.args.t (omega arith) (omega arith) c.requires.0 l.lo l.hi (omega arith) (omega arith) l.invariant.here b)
+    sym (crossing_is c.args.k c.args.t (omega arith) (omega arith) c.requires.t l.lo l.hi (omega arith) (omega arith) l.invariant.here b)
 
 pub returns-then-t-power_at-2 : goal.returns-then-t-power_at-2
 returns-then-t-power_at-2 c =
     let l = c.loop-lo in
     let b = above_at _ _ _ _ (omega arith) (omega arith) c.power_at-2.ensures c.if-t-power_at-2.true in
-    sym (crossing_is c.args.k c.args.t (omega arith) (omega arith) c.requires.0 l.lo l.hi (omega arith) (omega arith) l.invariant.here b)
+    sym (crossing_is c.args.k c.args.t (omega arith) (omega arith) c.requires.t l.lo l.hi (omega arith) (omega arith) l.invariant.here b)
 
 pub returns-else-t-power_at-2 : goal.returns-else-t-power_at-2
 returns-else-t-power_at-2 c =
     let l = c.loop-lo in
     let e : l.hi ≡ top = omega arith in
     let b = not_above_at _ _ _ _ (omega arith) (omega arith) c.power_at-2.ensures c.if-t-power_at-2.false in
-    sym (no_crossing c.args.k c.args.t (omega arith) (omega arith) c.requires.0 (rw e at b))
+    sym (no_crossing c.args.k c.args.t (omega arith) (omega arith) c.requires.t (rw e at b))

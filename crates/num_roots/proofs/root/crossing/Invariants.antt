@@ -1,13 +1,10 @@
 -- The loop keeps a bracket: not above at its lower end, above at its upper end or there the end of the range, which is looked at last.
 -- Where the ends have met, the crossing is between them, and there is only one. Assumes nothing.
-use mathlib.Core.Path.{◌≡◌, sym}
 use Prim.Native.Nat.{ℕ, ◌≤◌, ◌<◌, ◌-◌}
-use native.Mathlib.Omega.{arith}
-use borrow.Author.Rules.{rules}
 use lib.Ieee.{Float}
 use Rattle.num_halving.specs.Halving.{NotAbove, Above}
 use Rattle.num_roots.specs.Root.{power_at}
-use Rattle.num_roots.proofs.Roots.{top, first_not_above, above_at, not_above_at, crossing_is, no_crossing}
+use Rattle.num_roots.proofs.Roots.{top}
 use Rattle.num_roots.proofs.root.crossing.Given as goal
 
 pub record Bracket (k : ℕ) (t : Float) (lo hi width : ℕ) : Type 0 where

@@ -1,5 +1,4 @@
 -- The guess is within the ends because it is tested, and what is tested is no NaN. Assumes nothing.
-use borrow.Author.Rules.{rules}
 use Rattle.num_working.proofs.Numbers.{more_no_nan}
 use Rattle.num_roots.proofs.root.guess.Goals as goal
 

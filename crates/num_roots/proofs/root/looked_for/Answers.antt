@@ -3,7 +3,6 @@ use mathlib.Core.Path.{◌≡◌, sym, ◌∙◌}
 use mathlib.Core.Bool.{true}
 use Prim.Native.Nat.{◌*◌}
 use native.Mathlib.Omega.{arith}
-use borrow.Author.Rules.{rules}
 use borrow.Author.Tests.{lt-ltb, le-ltb}
 use lib.Dec.{ltb}
 use lib.Ieee.{of_bits, of_int}
@@ -16,7 +15,7 @@ use Rattle.num_roots.proofs.root.looked_for.Goals as goal
 use Rattle.num_roots.proofs.root.looked_for.Goals.{Else-x-2, Start}
 
 abbrev begun : Else-x-2 → Start
-begun c = c
+begun c = c.before.before.before.before.before
 
 finite_so : (c : Else-x-2) → finite (begun c).args.x ≡ true
 finite_so c = sym c.is_finite.ensures ∙ c.if-is_finite.true
@@ -57,13 +56,13 @@ returns-then-x-2 c =
 
 pub returns-then-k-gt51 : goal.returns-then-k-gt51
 returns-then-k-gt51 c =
-    let a = (begun c).args in
+    let a = c.args in
     sym (rest (goal.at.returns-then-k-gt51 c).Else-x-2 ∙ search_fails a.e.m a.e.k a.x (omega arith))
 
 pub searched-requires : goal.searched-requires
 unfolding of_bits of_int whole
 searched-requires c =
-    (above_0 (begun c).args.x (finite_so (goal.at.searched-requires c).Else-x-2) c.if-x.false c.if-x-2.false, (omega arith, omega arith, omega arith))
+    record { t = above_0 c.args.x (finite_so (goal.at.searched-requires c).Else-x-2) c.if-x.false c.if-x-2.false; le_k = (omega arith, omega arith, omega arith) }
 
 pub returns : goal.returns
 returns c = c.searched.ensures ∙ sym (rest (goal.at.returns c).Else-x-2)

@@ -1,5 +1,4 @@
 -- The bits are below the infinity's, so they are no NaN's. Assumes nothing.
-use borrow.Author.Rules.{rules}
 use Rattle.num_working.proofs.Numbers.{no_nan}
 use Rattle.num_roots.proofs.root.power_at.Goals as goal
 

@@ -1,6 +1,5 @@
 -- The neighbours of the guess have bits below the infinity's. Assumes nothing.
 use native.Mathlib.Omega.{arith}
-use borrow.Author.Rules.{rules}
 use Rattle.num_working.proofs.Numbers.{no_nan}
 use Rattle.num_roots.proofs.root.powers_about.Goals as goal
 

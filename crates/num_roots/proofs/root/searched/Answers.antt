@@ -2,7 +2,6 @@
 use mathlib.Core.Path.{◌≡◌, sym, ap, subst, ◌∙◌}
 use Prim.Native.Nat.{ℕ}
 use native.Mathlib.Omega.{arith}
-use borrow.Author.Rules.{rules}
 use lib.Dec.{T}
 use lib.Ieee.{Float}
 use lib.Ieee.Scale.{finite}
@@ -27,16 +26,16 @@ abbrev asked : Start → Worked
 asked s = searched s.args.m s.args.k s.args.x
 
 -- the power, as it was worked
-raised : (c : After-checked) → asked c ≡ looked_for c.args.k c.checked.result
+raised : (c : After-checked) → asked c.before.before ≡ looked_for c.args.k c.checked.result
 unfolding searched
 raised c =
     let a = c.args in
     ap (looked_for a.k) (sym (checked_power a.x a.m) ∙ sym (ap checked c.whole_power.ensures) ∙ sym c.checked.ensures)
 
 -- and the crossing, as it was found
-told : (c : After-crossing) → root_of c.crossing.result ≡ asked c
+told : (c : After-crossing) → root_of c.crossing.result ≡ asked c.before.before.before.before.before.before
 told c =
-    ap root_of c.crossing.ensures ∙ sym (raised c ∙ ap (looked_for _) c.in-Number.is)
+    ap root_of c.crossing.ensures ∙ sym (raised c.before.before.before.before ∙ ap (looked_for _) c.in-Number.is)
 
 pub returns-in_default : goal.returns-in_default
 returns-in_default c = sym (raised (goal.at.returns-in_default c).After-checked ∙ ap (looked_for _) c.in_default.is)
@@ -45,8 +44,8 @@ pub crossing-requires : goal.crossing-requires
 crossing-requires c =
     let n = checked_number c.whole_power.result c.in-Number.t (sym c.checked.ensures ∙ c.in-Number.is) in
     let f : T (finite (power c.args.x c.args.m)) = rw c.whole_power.ensures at n.1 in
-    let p = power_unsigned c.args.x c.args.m c.requires.0 f in
-    (subst (λ (z : Float). T (nonneg z)) (sym c.whole_power.ensures ∙ n.0) p, (omega arith, omega arith))
+    let p = power_unsigned c.args.x c.args.m c.requires.t f in
+    record { t = subst (λ (z : Float). T (nonneg z)) (sym c.whole_power.ensures ∙ n.0) p; le_k = (omega arith, omega arith) }
 
 pub float_from_bits-result : goal.float_from_bits-result
 float_from_bits-result c =

@@ -1,10 +1,8 @@
 -- Each of the three is the i-th whole power of its float, and the loop ends at k. Assumes nothing.
-use mathlib.Core.Path.{◌≡◌, refl, ap, ◌∙◌}
-use Prim.Native.Nat.{ℕ, ◌≤◌, ◌+◌, ◌-◌}
-use native.Mathlib.Omega.{arith}
-use lib.Ieee.{Float, binary64, mul}
+use mathlib.Core.Path.{◌≡◌}
+use Prim.Native.Nat.{ℕ, ◌≤◌, ◌-◌}
+use lib.Ieee.{Float}
 use Rattle.num_powers.specs.Power.{power}
-use Rattle.num_powers.proofs.Powers.{power_next}
 use Rattle.num_roots.proofs.root.three_powers.Given as goal
 
 pub record Raised (x y z : Float) (i : ℕ) (below here above : Float) : Type 0 where

@@ -1,29 +1,26 @@
 -- Each is told from the powers about its guess. Assumes nothing.
 use mathlib.Core.Path.{ap, ◌∙◌}
 use Rattle.num_working.specs.Working.{plain}
-use borrow.Author.Rules.{rules}
 use Rattle.num_roots.proofs.Searchables.{powers_asked}
 use Rattle.num_roots.proofs.side.three_told.Goals as goal
 
 pub powers_about-p-requires : goal.powers_about-p-requires
-powers_about-p-requires c = powers_asked _ _ _ _ c.requires.0
+powers_about-p-requires c = let p = powers_asked _ _ _ _ c.requires.0 in record { le_k = p.0; at_nonzero = p.1 }
 
 pub powers_about-r-requires : goal.powers_about-r-requires
-powers_about-r-requires c = powers_asked _ _ _ _ c.requires.2
+powers_about-r-requires c = let p = powers_asked _ _ _ _ c.requires.2 in record { le_k = p.0; at_nonzero = p.1 }
 
 pub powers_about-w-requires : goal.powers_about-w-requires
-powers_about-w-requires c = powers_asked _ _ _ _ c.requires.1
+powers_about-w-requires c = let p = powers_asked _ _ _ _ c.requires.1 in record { le_k = p.0; at_nonzero = p.1 }
 
 pub root_about-requires : goal.root_about-requires
-root_about-requires c = (c.requires.0, c.powers_about-p.ensures)
+root_about-requires c = record { guessed = c.requires.0; powers_about = c.powers_about-p.ensures }
 
 pub root_about-requires-2 : goal.root_about-requires-2
-root_about-requires-2 c =
-    (c.requires.1, c.powers_about-w.ensures)
+root_about-requires-2 c = record { guessed = c.requires.1; powers_about = c.powers_about-w.ensures }
 
 pub root_about-requires-3 : goal.root_about-requires-3
-root_about-requires-3 c =
-    (c.requires.2, c.powers_about-r.ensures)
+root_about-requires-3 c = record { guessed = c.requires.2; powers_about = c.powers_about-r.ensures }
 
 pub returns : goal.returns
 returns c =

@@ -1,6 +1,5 @@
 -- Each is `plain` of the root. Assumes nothing.
 use mathlib.Core.Path.{refl}
-use borrow.Author.Rules.{rules}
 use Rattle.num_roots.proofs.side.two_by_one.Goals as goal
 
 pub returns : goal.returns

@@ -1,6 +1,5 @@
 -- Searched for together where both have to be, and else one by one. Assumes nothing.
 use mathlib.Core.Path.{sym, ◌∙◌}
-use borrow.Author.Rules.{rules}
 use Rattle.num_roots.proofs.side.two_roots.Goals as goal
 
 pub two_searched-requires : goal.two_searched-requires

@@ -1,5 +1,5 @@
 -- A finite number is no NaN, so its bits can be read. Assumes nothing.
-use Rattle.std.proofs.Common.{sym, ◌∙◌, rules}
+use Rattle.std.proofs.Common.{sym, ◌∙◌}
 use Rattle.num_working.proofs.Numbers.{finite_no_nan}
 use Rattle.run_print.proofs.bits.show.Goals as goal
 

@@ -1,5 +1,5 @@
 -- There are twelve counts. The measure is how many are left. Assumes nothing.
-use Rattle.std.proofs.Common.{◌-◌, ◌≤◌, length, rules}
+use Rattle.std.proofs.Common.{◌-◌, ◌≤◌, length}
 use Rattle.run_print.proofs.counts.tell_counts.Given as goal
 
 abbrev pub invariant-loop-i : goal.invariant-loop-i

@@ -1,5 +1,5 @@
 -- A byte is read below the length of the cell. The measure is what is left of it. Assumes nothing.
-use Rattle.std.proofs.Common.{◌-◌, length, rules}
+use Rattle.std.proofs.Common.{◌-◌, length}
 use Rattle.run_print.proofs.decimal.digits_of.Given as goal
 
 abbrev pub invariant-loop-i : goal.invariant-loop-i

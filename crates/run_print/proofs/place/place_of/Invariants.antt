@@ -1,5 +1,5 @@
 -- The place lies between `at` and the end. The measure is what is left of the text. Assumes nothing.
-use Rattle.std.proofs.Common.{◌-◌, ◌≤◌, length, rules}
+use Rattle.std.proofs.Common.{◌-◌, ◌≤◌, length}
 use Rattle.run_print.proofs.place.place_of.Given as goal
 
 abbrev pub invariant-loop-i : goal.invariant-loop-i

@@ -1,5 +1,5 @@
 -- Each cell starts within the text. The measure is the cells still to pass. Assumes nothing.
-use Rattle.std.proofs.Common.{◌-◌, ◌≤◌, length, rules}
+use Rattle.std.proofs.Common.{◌-◌, ◌≤◌, length}
 use Rattle.run_print.proofs.table.cell_start.Given as goal
 
 abbrev pub invariant-loop-i : goal.invariant-loop-i

@@ -1,5 +1,5 @@
 -- Each word starts within the words, after the one before. The measure is what is left of them. Assumes nothing.
-use Rattle.std.proofs.Common.{◌-◌, ◌≤◌, length, rules}
+use Rattle.std.proofs.Common.{◌-◌, ◌≤◌, length}
 use Rattle.run_print.proofs.table.names.Given as goal
 
 abbrev pub invariant-loop-at : goal.invariant-loop-at

@@ -1,5 +1,4 @@
 -- The place that was asked for holds what `more` answers. Assumes nothing.
-use Rattle.std.proofs.Common.{rules}
 use Rattle.run_print.proofs.tally.counted.Goals as goal
 
 pub returns : goal.returns

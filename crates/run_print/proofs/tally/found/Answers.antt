@@ -1,5 +1,4 @@
 -- By cases on `right`, what `counted` ensures of each count. Assumes nothing.
-use Rattle.std.proofs.Common.{rules}
 use Rattle.run_print.proofs.tally.found.Goals as goal
 
 pub returns-then-right : goal.returns-then-right

@@ -1,0 +1,19 @@
+// Files that a program is run on.
+ghost use Rattle.io.specs.Counts.{IsPrefixLen};
+
+use std::io::Read;
+
+// What an open file has, as far as there is space, or up to where a read fails.
+pub fn read_full<R: Read>(from: &mut R, space: &mut [u8]) -> usize
+    ensures { IsPrefixLen result space.new }
+{
+    let mut n = 0;
+    while n < space.len() {
+        match from.read(&mut space[n..]) {
+            Ok(0) => return n,
+            Ok(more) => n += more,
+            Err(_) => return n,
+        }
+    }
+    n
+}

@@ -1,5 +1,5 @@
 /* docs/plane.svg: the plane of temperature and pressure as the pressure door sees it, by the door's own answers.
- *     rt staticlib interface && cc -Iinclude examples/plane.c target/staticlib/libinterface.a -lm -o plane && ./plane >docs/plane.svg
+ *     (cd crates/interface && rt lib) && cc -Iinclude examples/plane.c crates/interface/out/libinterface.a -lm -o plane && ./plane >docs/plane.svg
  */
 #include <math.h>
 #include <stdio.h>

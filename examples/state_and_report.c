@@ -1,5 +1,5 @@
 /* A state, and a sheet's report. On x86-64:
- *     rt staticlib interface && cc -Iinclude examples/state_and_report.c target/staticlib/libinterface.a -o state_and_report
+ *     (cd crates/interface && rt lib) && cc -Iinclude examples/state_and_report.c crates/interface/out/libinterface.a -o state_and_report
  */
 #include <stdio.h>
 #include <string.h>

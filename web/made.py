@@ -12,7 +12,7 @@ PAGE = 'web/index.html'
 def crates():
     """crates.txt: each crate with its own line and what it uses"""
     with open('crates.txt', encoding='utf-8') as file:
-        lines = [re.fullmatch(r'(\w+):([\w ]*)', line) for line in file.read().split('\n')]
+        lines = [re.fullmatch(r'(\w+)(?: staticlib)?:([\w ]*)', line) for line in file.read().split('\n')]
     return {line[1]: (line[0], line[2].split()) for line in lines if line}
 
 

@@ -1,7 +1,7 @@
 """web/comparing/sheets.py FOLDER [--sheets N] [--forms N] [--seed S]: sheets, good and damaged, and what the program writes of each; and forms as they are
 typed, and the text that each should give. For sheets.mjs:
 
-    FOLDER/sheets.json  a line for each sheet: {"case": .., "text": its bytes in base64, "wrote": what target/bin/scorer --explain wrote, its report too}
+    FOLDER/sheets.json  a line for each sheet: {"case": .., "text": its bytes in base64, "wrote": what crates/scorer/out/scorer --explain wrote, its report too}
     FOLDER/forms.json   a line for each form: {"form": {"need": .., "rows": [..]}, "text": the sheet's text, or null where it has none, "marks": the fields
                         that are marked, each [row, field], "notes": those that are noted, each [row, field, words, whether thousands may be meant]}
 
@@ -21,7 +21,7 @@ import tempfile
 sys.dont_write_bytecode = True
 import typed  # noqa: E402, beside this file
 
-PROGRAM = 'target/bin/scorer'
+PROGRAM = 'crates/scorer/out/scorer'
 CRITICAL, TRIPLE, HOTTEST = 3041282, 2165920, 5230000  # 0.1 mK
 AT_ONCE = 100
 

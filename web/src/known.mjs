@@ -1,7 +1,7 @@
 // What the library is known to answer, worked elsewhere: the reports are those of RULES 7.4, README and examples/stored, the figures crosscheck/doors.py's and
 // crosscheck/saturation.py's, each as the shortest decimal that reads back to the same double. A page gives no verdict where one of them differs.
 
-// A bank of 32, the most that a sheet has: what stands behind each number, 1 to 32, and its milligrams (target/bin/scorer's, and crosscheck/sheets.py's)
+// A bank of 32, the most that a sheet has: what stands behind each number, 1 to 32, and its milligrams (crates/scorer/out/scorer's, and crosscheck/sheets.py's)
 const BANK = [
     ['3115998 D 637917 40000', 25516680], ['- W 16584 50000', 16584000], ['2512751 P 1255226 80000', 2409603], ['3086276 P 11723951 40000', 30268277],
     ['3146596 D 614958 6800', 4181714], ['- W 31721 6800', 31721000], ['2815208 P 500782 50000', 485704], ['3093137 P 13401171 6800', 5326258],

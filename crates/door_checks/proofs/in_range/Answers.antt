@@ -4,7 +4,6 @@ use mathlib.Core.Bool.{true, false, ◌&&◌}
 use lib.Ieee.Scale.{finite}
 use Rattle.door_limits.specs.Limits.{outside}
 use Rattle.door_checks.specs.Check.{ranged}
-use borrow.Author.Rules.{rules}
 use Rattle.door_checks.proofs.in_range.Goals as goal
 use Rattle.door_checks.proofs.in_range.Goals.{After-is_outside, After-is_outside-2}
 

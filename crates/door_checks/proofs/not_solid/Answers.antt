@@ -1,7 +1,6 @@
 -- Each answer rewrites with the tests that led to it. Assumes nothing.
 use mathlib.Core.Path.{refl}
 use Rattle.door_checks.specs.Check.{solid}
-use borrow.Author.Rules.{rules}
 use Rattle.door_checks.proofs.not_solid.Goals as goal
 
 pub returns-in_default : goal.returns-in_default

@@ -1,7 +1,6 @@
 -- The number as it was given. Assumes nothing.
 use mathlib.Core.Path.{sym, ap}
 use Rattle.door_checks.specs.Check.{number_of}
-use borrow.Author.Rules.{rules}
 use Rattle.door_checks.proofs.number_of.Goals as goal
 
 pub returns-in-No : goal.returns-in-No

@@ -1,7 +1,6 @@
 -- Each answer rewrites with the tests that led to it. Assumes nothing.
 use mathlib.Core.Path.{refl, sym, ◌∙◌}
 use Rattle.door_checks.specs.Check.{boxed}
-use borrow.Author.Rules.{rules}
 use Rattle.door_checks.proofs.out_of_box.Goals as goal
 
 pub returns-then-is_outside : goal.returns-then-is_outside

@@ -21,7 +21,7 @@ pub search_at-requires : goal.search_at-requires
 search_at-requires c =
     let x = scaled_reached search_ends.liquid _ _ searchable.liquid (lawful.liquid _) (end_is (goal.at.search_at-requires c).After-scaled ∙ c.in-Number.is) in
     let s = subst Searchable (sym c.search_ends-ends.ensures) searchable in
-    (x.nonneg, (s.to.nonneg, s.to.fits))
+    record { t = x.nonneg; t_2 = s.to.nonneg; t_3 = s.to.fits }
 
 pub returns : goal.returns
 unfolding liquid

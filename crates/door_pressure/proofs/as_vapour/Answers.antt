@@ -21,7 +21,7 @@ pub search_at-requires : goal.search_at-requires
 search_at-requires c =
     let x = scaled_reached search_ends.vapour _ _ searchable.vapour (lawful.vapour _) (end_is (goal.at.search_at-requires c).After-scaled ∙ c.in-Number.is) in
     let s = subst Searchable (sym c.search_ends-ends.ensures) searchable in
-    (s.from.nonneg, (x.nonneg, x.fits))
+    record { t = s.from.nonneg; t_2 = x.nonneg; t_3 = x.fits }
 
 pub returns : goal.returns
 unfolding vapour

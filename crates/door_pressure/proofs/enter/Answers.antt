@@ -7,7 +7,7 @@ use borrow.Author.Rules.{rules}
 use Rattle.door_pressure.proofs.enter.Goals as goal
 
 pub search_at-requires : goal.search_at-requires
-search_at-requires c = let s = subst Searchable (sym c.search_ends-ends.ensures) searchable in (s.from.nonneg, (s.to.nonneg, s.to.fits))
+search_at-requires c = let s = subst Searchable (sym c.search_ends-ends.ensures) searchable in record { t = s.from.nonneg; t_2 = s.to.nonneg; t_3 = s.to.fits }
 
 pub returns-then-critical_temperature-t : goal.returns-then-critical_temperature-t
 unfolding entered

@@ -12,20 +12,17 @@ use Rattle.door_pressure.proofs.search.between.Goals as goal
 pub returns-then-p-low : goal.returns-then-p-low
 returns-then-p-low c =
     let a = c.args in
-    let k = c.requires.1.1 in
-    let n = first_above (is_above a.curve a.p a.from _ k.0 c.if-p-low.true) (is_worthy a.curve a.to _ k.1) in
+    let n = first_above (is_above a.curve a.p a.from _ c.requires.from_value c.if-p-low.true) (is_worthy a.curve a.to _ c.requires.to_value) in
     sym (nowhere_back (figure (pressure_on a.curve)) a.p a.from a.to n)
 
 pub narrow-requires : goal.narrow-requires
 narrow-requires c =
     let a = c.args in
-    let k = c.requires.1.1 in
-    let low = is_not_above a.curve a.p a.from _ k.0 c.if-p-low.false in
-    (omega arith, (omega arith, (low, is_above a.curve a.p a.to _ k.1 c.if-p-high.true)))
+    let low = is_not_above a.curve a.p a.from _ c.requires.from_value c.if-p-low.false in
+    record { from_lt_to = omega arith; to_bound = omega arith; not_above = low; above = is_above a.curve a.p a.to _ c.requires.to_value c.if-p-high.true }
 
 pub returns : goal.returns
 returns c =
     let a = c.args in
-    let k = c.requires.1.1 in
-    let n = second_not_above (is_worthy a.curve a.from _ k.0) (is_not_above a.curve a.p a.to _ k.1 c.if-p-high.false) in
+    let n = second_not_above (is_worthy a.curve a.from _ c.requires.from_value) (is_not_above a.curve a.p a.to _ c.requires.to_value c.if-p-high.false) in
     sym (nowhere_back (figure (pressure_on a.curve)) a.p a.from a.to n)

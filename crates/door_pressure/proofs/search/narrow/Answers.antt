@@ -14,7 +14,7 @@ use Rattle.door_pressure.proofs.search.narrow.Goals as goal
 pub loop-lo-init : goal.loop-lo-init
 loop-lo-init c =
     let a = c.args in
-    (omega arith, begins (figure (pressure_on a.curve)) a.p a.from a.to (omega arith) (omega arith) c.requires.1.1.0 c.requires.1.1.1)
+    (omega arith, begins (figure (pressure_on a.curve)) a.p a.from a.to (omega arith) (omega arith) c.requires.not_above c.requires.above)
 
 pub float_from_bits-mid : goal.float_from_bits-mid
 float_from_bits-mid c = no_nan _ (omega arith)

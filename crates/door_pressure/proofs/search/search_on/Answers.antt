@@ -12,18 +12,18 @@ use borrow.Author.Rules.{rules}
 use Rattle.door_pressure.proofs.search.search_on.Goals as goal
 
 pub float_to_bits-from : goal.float_to_bits-from
-float_to_bits-from c = nonneg_no_nan c.args.from c.requires.0
+float_to_bits-from c = nonneg_no_nan c.args.from c.requires.t
 
 pub float_to_bits-to : goal.float_to_bits-to
-float_to_bits-to c = nonneg_no_nan c.args.to c.requires.1.0
+float_to_bits-to c = nonneg_no_nan c.args.to c.requires.t_2
 
 pub crossing-requires : goal.crossing-requires
-crossing-requires c = bits_below c.args.to c.requires.1.0 c.requires.1.1
+crossing-requires c = bits_below c.args.to c.requires.t_2 c.requires.t_3
 
 pub float_from_bits-b : goal.float_from_bits-b
 float_from_bits-b c =
     let a = c.args in
-    let h = bits_below a.to c.requires.1.0 c.requires.1.1 in
+    let h = bits_below a.to c.requires.t_2 c.requires.t_3 in
     let e = sym c.crossing.ensures ∙ c.in-At.is in
     let f = answer (figure (pressure_on a.curve)) a.p (to_bits binary64 a.from) (to_bits binary64 a.to) _ (omega arith) e in
     let l = f.to in

@@ -18,7 +18,7 @@ worked c = rw (← on_curve c.args.t, ← c.curve_at-curve.ensures) (sym c.press
 
 -- past 5: the pressure is a number, and lies in its range; and the check of the melting line that was made
 number_is : (c : After-not_solid-c) → (let a = c.args in of1996.pressure a.t a.rho ≡ Number c.in-Number.p)
-number_is c = worked c ∙ c.in-Number.is
+number_is c = worked c.before.before.before.before.before.before ∙ c.in-Number.is
 
 inside : (c : After-not_solid-c) → (outside c.args.l.asked.pressure c.in-Number.p ≡ false)
 inside c = sym c.is_outside.ensures ∙ c.if-is_outside.false

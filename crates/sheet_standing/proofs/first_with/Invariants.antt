@@ -1,12 +1,8 @@
 -- None of the lines that were passed has the number. Assumes nothing.
-use mathlib.Core.Path.{◌≡◌, refl, sym, ◌∙◌}
+use mathlib.Core.Path.{◌≡◌}
 use Prim.Native.Nat.{◌-◌, ◌≤◌}
-use native.Mathlib.Omega.{arith}
-use borrow.Author.Rules.{rules}
-use lib.ListN.{length, drop}
-use Rattle.sheet_outcome.proofs.Arrays.{unmapped}
+use lib.ListN.{drop}
 use Rattle.sheet_standing.specs.Standing.{first_with}
-use Rattle.sheet_standing.proofs.Firsts.{found, passed, at_end}
 use Rattle.sheet_standing.proofs.first_with.Given as goal
 
 abbrev pub invariant-loop-i : goal.invariant-loop-i

@@ -1,7 +1,6 @@
 -- A blank is no number. Assumes nothing.
 use mathlib.Core.Path.{refl, sym}
 use mathlib.Core.Bool.{or-false}
-use borrow.Author.Rules.{rules}
 use Rattle.sheet_standing.specs.Standing.{is_on, numbers}
 use Rattle.sheet_standing.proofs.has_number.Goals as goal
 

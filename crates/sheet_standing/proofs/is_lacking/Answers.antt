@@ -1,6 +1,5 @@
 -- The volume first, and then the value, with the temperature where a door is asked. Assumes nothing.
 use mathlib.Core.Path.{◌≡◌, refl, ◌∙◌}
-use borrow.Author.Rules.{rules}
 use Rattle.sheet_standing.specs.Standing.{no_reading, lacking}
 use Rattle.sheet_standing.proofs.is_lacking.Goals as goal
 use Rattle.sheet_standing.proofs.is_lacking.Goals.{In-Number}

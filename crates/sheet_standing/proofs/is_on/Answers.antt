@@ -1,10 +1,6 @@
 -- None of those that were passed is the number. Assumes nothing.
-use mathlib.Core.Path.{◌≡◌, refl}
-use Prim.Native.Nat.{◌-◌, ◌≤◌}
+use mathlib.Core.Path.{refl}
 use native.Mathlib.Omega.{arith}
-use lib.ListN.{length, drop}
-use borrow.Author.Rules.{rules}
-use Rattle.sheet_standing.specs.Standing.{is_on}
 use Rattle.sheet_standing.proofs.Standings.{found, passed, at_end}
 use Rattle.sheet_standing.proofs.is_on.Goals as goal
 

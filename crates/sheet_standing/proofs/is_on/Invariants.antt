@@ -1,11 +1,8 @@
 -- None of those that were passed is the number. Assumes nothing.
-use mathlib.Core.Path.{◌≡◌, refl}
+use mathlib.Core.Path.{◌≡◌}
 use Prim.Native.Nat.{◌-◌, ◌≤◌}
-use native.Mathlib.Omega.{arith}
 use lib.ListN.{length, drop}
-use borrow.Author.Rules.{rules}
 use Rattle.sheet_standing.specs.Standing.{is_on}
-use Rattle.sheet_standing.proofs.Standings.{found, passed, at_end}
 use Rattle.sheet_standing.proofs.is_on.Given as goal
 
 abbrev pub invariant-loop-i : goal.invariant-loop-i

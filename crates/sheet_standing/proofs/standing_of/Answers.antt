@@ -1,6 +1,5 @@
 -- A blank is told first, and then a number that was there. Assumes nothing.
 use mathlib.Core.Path.{sym, ◌∙◌}
-use borrow.Author.Rules.{rules}
 use Rattle.sheet_standing.specs.Standing.{lacking, standing}
 use Rattle.sheet_standing.proofs.standing_of.Goals as goal
 

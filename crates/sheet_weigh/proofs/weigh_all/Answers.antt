@@ -41,7 +41,7 @@ overflow_add-known c = omega (arith, known_most c.loop-i.invariant.3)
 pub loop-i-preserved : goal.loop-i-preserved
 loop-i-preserved c =
     let L = c.args.limits in
-    let ls = c.args.t2.lines in
+    let ls = c.args.s.lines in
     let i = c.loop-i.i in
     let size : length ls ≡ 32 = search (rules, unmapped) in
     let next : i - 1 + 1 ≡ i + 1 - 1 = omega arith in
@@ -59,7 +59,7 @@ pub returns : goal.returns
 unfolding marks_for
 returns c =
     let L = c.args.limits in
-    let s = c.args.t2 in
+    let s = c.args.s in
     let ls = take s.count s.lines in
     let size : length s.lines ≡ 32 = search (rules, unmapped) in
     let all : c.loop-i.i - 1 ≡ s.count = omega arith in

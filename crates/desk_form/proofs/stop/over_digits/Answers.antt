@@ -1,7 +1,6 @@
 -- A stop behind some digits is not before the first. Assumes nothing.
 use native.Mathlib.Omega.{arith}
 use Rattle.desk_form.proofs.Steps.{later}
-use borrow.Author.Rules.{rules}
 use Rattle.desk_form.proofs.stop.over_digits.Goals as goal
 
 pub returns-then-many-gt10 : goal.returns-then-many-gt10

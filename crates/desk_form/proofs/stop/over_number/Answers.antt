@@ -1,7 +1,6 @@
 -- A step from one place on is one from this place. Assumes nothing.
 use native.Mathlib.Omega.{arith}
 use Rattle.desk_form.proofs.Steps.{later}
-use borrow.Author.Rules.{rules}
 use Rattle.desk_form.proofs.stop.over_number.Goals as goal
 
 pub returns-then-s-at-eq45 : goal.returns-then-s-at-eq45

@@ -1,7 +1,6 @@
 -- The place only goes up. Assumes nothing.
 use Prim.Native.Nat.{◌-◌, ◌≤◌}
 use lib.ListN.{length}
-use borrow.Author.Rules.{rules}
 use Rattle.desk_form.proofs.stop.past_digits.Given as goal
 
 abbrev pub invariant-loop-i : goal.invariant-loop-i

@@ -1,9 +1,6 @@
 -- The place only goes up, and the measure is what is left of the form. Assumes nothing.
-use Prim.Native.Nat.{◌-◌, ◌≤◌}
 use native.Mathlib.Omega.{arith}
-use lib.ListN.{length}
 use Rattle.desk_form.proofs.Steps.{stops_on}
-use borrow.Author.Rules.{rules}
 use Rattle.desk_form.proofs.stop.stop_by.Goals as goal
 
 pub returns-in_default : goal.returns-in_default

@@ -1,9 +1,6 @@
 -- The place only goes up, and the measure is what is left of the form. Assumes nothing.
 use Prim.Native.Nat.{◌-◌, ◌≤◌}
-use native.Mathlib.Omega.{arith}
 use lib.ListN.{length}
-use Rattle.desk_form.proofs.Steps.{stops_on}
-use borrow.Author.Rules.{rules}
 use Rattle.desk_form.proofs.stop.stop_by.Given as goal
 
 abbrev pub invariant-loop-k : goal.invariant-loop-k

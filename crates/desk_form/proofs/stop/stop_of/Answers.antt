@@ -1,6 +1,5 @@
 -- Each answer is the definition's. Assumes nothing.
 use mathlib.Core.Path.{refl}
-use borrow.Author.Rules.{rules}
 use Rattle.desk_form.proofs.stop.stop_of.Goals as goal
 
 pub returns-in-To : goal.returns-in-To

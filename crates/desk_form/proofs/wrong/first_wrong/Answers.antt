@@ -1,9 +1,6 @@
 -- The lines that were passed are in the form, and the first that can't be read isn't. Assumes nothing.
-use Prim.Native.Nat.{◌-◌}
 use native.Mathlib.Omega.{arith}
-use lib.ListN.{length}
-use borrow.Author.Rules.{rules}
-use Rattle.desk_form.proofs.Turns.{need_wrong, Passed, begun, done, stops, one_more}
+use Rattle.desk_form.proofs.Turns.{need_wrong, begun, done, stops, one_more}
 use Rattle.desk_form.proofs.wrong.first_wrong.Goals as goal
 
 pub returns-in_default : goal.returns-in_default

@@ -1,7 +1,6 @@
 -- What was put lies within the space. Assumes nothing.
 use mathlib.Core.Path.{sym}
 use lib.Seq.{length-take-le}
-use borrow.Author.Rules.{rules}
 use Rattle.sheet_write.proofs.Writings.{within}
 use Rattle.desk_paper.proofs.paper.say_shown.Goals as goal
 

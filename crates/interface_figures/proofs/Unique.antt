@@ -3,7 +3,7 @@ use Prim.Native.Nat.{ℕ}
 use mathlib.Core.Path.{◌≡◌}
 use mathlib.Core.List.{List}
 use contract.Lifetimes.{Lfts}
-use denote.Ref.{Bor}
+use denote.MutBor.{MutBor}
 use lib.Ieee.{Float}
 use Rattle.num_working.proofs.Unique.{by_equation}
 use Rattle.interface_figures.specs.Figures.{HandedIn}
@@ -16,8 +16,8 @@ pub one_handed : {least : ℕ} {old new out given : List Float} {number r s : �
 one_handed p q = (by_equation p.number q.number, by_equation p.figures q.figures)
 
 -- of a function that writes into its second argument
-abbrev OneHanded : {A S T : Type 0} → (A → ℕ → S × (Bor (List Float) × T) → Type 0) → Type 0
-OneHanded {A} {S} {T} Post = (a : A) (r s : ℕ) (x y : S × (Bor (List Float) × T)) → Post a r x → Post a s y → (r ≡ s) × (x.1.0.now ≡ y.1.0.now)
+abbrev OneHanded : {A S T : Type 0} → (A → ℕ → S × (MutBor (List Float) × T) → Type 0) → Type 0
+OneHanded {A} {S} {T} Post = (a : A) (r s : ℕ) (x y : S × (MutBor (List Float) × T)) → Post a r x → Post a s y → (r ≡ s) × (x.1.0.now ≡ y.1.0.now)
 
 pub put_answer_once : (κs : Lfts 1) → OneHanded (put_answer.Post κs)
 put_answer_once κs a r s x y = one_handed

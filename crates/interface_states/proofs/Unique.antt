@@ -3,7 +3,7 @@ use Prim.Native.Nat.{ℕ}
 use mathlib.Core.Path.{◌≡◌}
 use mathlib.Core.List.{List}
 use contract.Lifetimes.{Lfts}
-use denote.Ref.{Bor}
+use denote.MutBor.{MutBor}
 use lib.Ieee.{Float}
 use Rattle.num_working.proofs.Unique.{by_equation}
 use Rattle.interface_states.specs.States.{StatesIn}
@@ -15,7 +15,7 @@ one_worked p q = (by_equation p.number q.number, (by_equation p.answered q.answe
 
 -- of a function that writes into its third and fourth arguments
 abbrev pub AnswersAndFigures : Type 0 → Type 0 → Type 0 → Type 0
-AnswersAndFigures S T U = S × (T × (Bor (List ℕ) × (Bor (List Float) × U)))
+AnswersAndFigures S T U = S × (T × (MutBor (List ℕ) × (MutBor (List Float) × U)))
 
 abbrev pub OneWorked : {A S T U : Type 0} → (A → ℕ → AnswersAndFigures S T U → Type 0) → Type 0
 OneWorked {A} {S} {T} {U} Post = (a : A) (r s : ℕ) (x y : AnswersAndFigures S T U) → Post a r x → Post a s y

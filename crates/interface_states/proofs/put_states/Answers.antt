@@ -18,7 +18,7 @@ loop-i-init c = start _ _ _ _ (sym c.lengths_fit.ensures ∙ not-false c.lengths
 pub loop-i-preserved : goal.loop-i-preserved
 loop-i-preserved c =
     let l = c.loop-i in
-    next l.invariant (10 * l.i + 10 - 10 * l.i) (l.i + 1) (omega arith) (omega arith) c.loop-i-test.true nan _ _ c.put_place.auto.1.1.0
+    next l.invariant (10 * l.i + 10 - 10 * l.i) (l.i + 1) (omega arith) (omega arith) c.loop-i-test.true nan _ _ c.put_place.auto.figures
     c.put_place.ensures
 
 pub returns : goal.returns

@@ -1,8 +1,6 @@
 -- Each line starts within the text, after the one before. The measure is what is left of the text. Assumes nothing.
 use Prim.Native.Nat.{◌≤◌, ◌-◌}
-use native.Mathlib.Omega.{arith}
 use lib.ListN.{length}
-use borrow.Author.Rules.{rules}
 use Rattle.run_isobars.proofs.lines.Given as goal
 
 abbrev pub invariant-loop-line : goal.invariant-loop-line

@@ -1,7 +1,6 @@
 -- The figure is set, or there is none at its place. Assumes nothing.
 use mathlib.Core.Path.{sym}
 use lib.Seq.{set_out}
-use borrow.Author.Rules.{rules}
 use Rattle.interface_figures.proofs.put_at.Goals as goal
 
 pub returns-else-i-figures : goal.returns-else-i-figures

@@ -1,5 +1,4 @@
 -- What is handed over with the count stays, and what was asked for is set behind it. Assumes nothing.
-use borrow.Author.Rules.{rules}
 use Rattle.interface_figures.proofs.Handed.{not_asked_in, asked_in}
 use Rattle.interface_figures.proofs.put_carried.Goals as goal
 

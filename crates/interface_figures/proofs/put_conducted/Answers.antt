@@ -1,5 +1,4 @@
 -- A state with what it carries, or a refusal, as each is handed over. Assumes nothing.
-use borrow.Author.Rules.{rules}
 use Rattle.interface_figures.proofs.Handed.{refused_in}
 use Rattle.interface_figures.proofs.put_conducted.Goals as goal
 

@@ -1,5 +1,4 @@
 -- What is handed over by its eight numbers stays, and the count is set behind them. Assumes nothing.
-use borrow.Author.Rules.{rules}
 use Rattle.num_working.specs.Number.{whole}
 use Rattle.interface_figures.proofs.Handed.{state_counted, refused_counted}
 use Rattle.interface_figures.proofs.put_counted.Goals as goal

@@ -2,7 +2,6 @@
 use native.Mathlib.Omega.{arith}
 use lib.ListN.{length-set}
 use Rattle.interface_figures.proofs.Handed.{eight_over}
-use borrow.Author.Rules.{rules}
 use Rattle.interface_figures.proofs.put_eight.Goals as goal
 
 pub bounds-figures-1 : goal.bounds-figures-1

@@ -1,6 +1,5 @@
 -- 15 where fewer than three are lent; else by what saturation came to. Assumes nothing.
 use mathlib.Core.Path.{sym, ap, ◌∙◌}
-use borrow.Author.Rules.{rules}
 use Rattle.door_saturation.specs.declared.Saturated.{Saturated}
 use Rattle.interface_figures.specs.Figures.{saturated_number, saturated_of}
 use Rattle.interface_figures.proofs.Handed.{too_few, enough}

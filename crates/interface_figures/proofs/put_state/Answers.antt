@@ -1,5 +1,4 @@
 -- The door's answer with the conductivity where ten are lent, as it is handed over. Assumes nothing.
-use borrow.Author.Rules.{rules}
 use Rattle.interface_figures.specs.Figures.{asked}
 use Rattle.interface_figures.proofs.put_state.Goals as goal
 

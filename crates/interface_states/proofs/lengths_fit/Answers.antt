@@ -1,5 +1,4 @@
 -- Each test is the definition's. Assumes nothing.
-use borrow.Author.Rules.{rules}
 use borrow.Author.Tests.{eq-eqb, ne_eqb}
 use Rattle.interface_states.proofs.lengths_fit.Goals as goal
 

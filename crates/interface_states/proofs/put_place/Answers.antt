@@ -1,5 +1,4 @@
 -- What the door answers is handed on. Assumes nothing.
-use borrow.Author.Rules.{rules}
 use Rattle.interface_states.proofs.put_place.Goals as goal
 
 pub returns : goal.returns

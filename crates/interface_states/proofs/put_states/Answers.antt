@@ -2,18 +2,15 @@
 use mathlib.Core.Path.{sym, ◌∙◌}
 use Prim.Native.Nat.{◌+◌, ◌-◌, ◌*◌}
 use native.Mathlib.Omega.{arith}
-use borrow.Author.Rules.{rules}
-use borrow.Author.Tests.{not-true, not-false}
-use lib.ListN.{length}
 use lib.Ieee.{nan}
-use Rattle.interface_states.proofs.Places.{Turn, misfit, start, next, done}
+use Rattle.interface_states.proofs.Places.{misfit, start, next, done}
 use Rattle.interface_states.proofs.put_states.Goals as goal
 
 pub returns-then-not-lengths_fit : goal.returns-then-not-lengths_fit
-returns-then-not-lengths_fit c = misfit _ _ _ _ (sym c.lengths_fit.ensures ∙ not-true c.lengths_fit.result c.if-not-lengths_fit.true-raw)
+returns-then-not-lengths_fit c = misfit _ _ _ _ (sym c.lengths_fit.ensures ∙ c.if-not-lengths_fit.true)
 
 pub loop-i-init : goal.loop-i-init
-loop-i-init c = start _ _ _ _ (sym c.lengths_fit.ensures ∙ not-false c.lengths_fit.result c.if-not-lengths_fit.false-raw)
+loop-i-init c = start _ _ _ _ (sym c.lengths_fit.ensures ∙ c.if-not-lengths_fit.false)
 
 pub loop-i-preserved : goal.loop-i-preserved
 loop-i-preserved c =

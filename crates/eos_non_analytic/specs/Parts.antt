@@ -47,7 +47,7 @@ parts row n tau =
     let P₀ = root (worked_as row.root) Δ in
     record { θ = θ; Δ = Δ; P₀ = P₀; P₁ = P₀ ⊘ Δ; low = raised row.half n.e (n.X ^^ 2) }
 
--- Ψ = e^(−(C-as-X + z)), with z for D·(τ−1)²
+-- Ψ = e^(−(C·X + z)), with z for D·(τ−1)²
 abbrev pub psi_sum : NonAnalytic → Formula → Formula → Formula
 psi_sum row X z = num row.kc ⊗ X ⊕ z
 

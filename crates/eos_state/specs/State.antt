@@ -36,7 +36,7 @@ g sums = one ⊕ num sums.d ⊖ num sums.dt
 abbrev pub k : Five → Formula
 k sums = one ⊕ two ⊗ num sums.d ⊕ num sums.dd
 
--- R-as-T
+-- R·T
 abbrev pub thermal : Float → Formula
 thermal t = num span_wagner.gas ⊗ num t
 

@@ -4,7 +4,7 @@ use mathlib.Core.Path.{◌≡◌, refl}
 use mathlib.Core.List.{List}
 use Prim.Native.Nat.{ℕ, ◌*◌, ◌≤◌, ◌<◌}
 use contract.Lifetimes.{Lfts}
-use denote.Ref.{Bor}
+use denote.MutBor.{MutBor}
 use lib.ListN.{length, get_or}
 use lib.Ieee.{Float, nan}
 use Rattle.num_working.specs.declared.Worked.TheVariants.{Number}
@@ -28,8 +28,8 @@ use Rattle.interface.proofs.makhroeng_states_from_pressure.Reads as states_from_
 
 -- ---- of the two functions: whatever meets the promise of one that writes into its third argument
 
-abbrev Figures : {A S T U : Type 0} → (A → ℕ → S × (T × (Bor (List Float) × U)) → Type 0) → (A → ℕ → List Float → Type 0) → Type 0
-Figures {A} {S} {T} {U} Post Q = (a : A) (r : ℕ) (x : S × (T × (Bor (List Float) × U))) → Post a r x → Q a r x.1.1.0.now
+abbrev Figures : {A S T U : Type 0} → (A → ℕ → S × (T × (MutBor (List Float) × U)) → Type 0) → (A → ℕ → List Float → Type 0) → Type 0
+Figures {A} {S} {T} {U} Post Q = (a : A) (r : ℕ) (x : S × (T × (MutBor (List Float) × U))) → Post a r x → Q a r x.1.1.0.now
 
 -- with fewer than ten lent the door's answer with its count
 pub state_from_pressure_unasked : (κs : Lfts 1) → Figures (state_from_pressure.Post κs) (λ a r new. length a.1.1.0.now < 10

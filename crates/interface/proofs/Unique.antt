@@ -3,7 +3,7 @@ use Prim.Native.Nat.{ℕ}
 use mathlib.Core.Path.{◌≡◌}
 use mathlib.Core.List.{List}
 use contract.Lifetimes.{Lfts}
-use denote.Ref.{Bor}
+use denote.MutBor.{MutBor}
 use lib.Ieee.{Float}
 use Rattle.num_working.proofs.Unique.{OneAnswer, by_equation}
 use Rattle.interface_figures.proofs.Unique.{one_handed}
@@ -20,12 +20,12 @@ use Rattle.interface.proofs.makhroeng_words.Reads as words
 use Rattle.interface.proofs.makhroeng_version.Reads as version
 
 -- of a function that writes into its third argument, and of one that writes into its second
-abbrev OneAnswered : {A S T U : Type 0} → (A → ℕ → S × (T × (Bor (List Float) × U)) → Type 0) → Type 0
+abbrev OneAnswered : {A S T U : Type 0} → (A → ℕ → S × (T × (MutBor (List Float) × U)) → Type 0) → Type 0
 OneAnswered {A} {S} {T} {U} Post =
-    (a : A) (r s : ℕ) (x y : S × (T × (Bor (List Float) × U))) → Post a r x → Post a s y → (r ≡ s) × (x.1.1.0.now ≡ y.1.1.0.now)
+    (a : A) (r s : ℕ) (x y : S × (T × (MutBor (List Float) × U))) → Post a r x → Post a s y → (r ≡ s) × (x.1.1.0.now ≡ y.1.1.0.now)
 
-abbrev OneInSecond : {A S T : Type 0} (E : Type 0) → (A → ℕ → S × (Bor (List E) × T) → Type 0) → Type 0
-OneInSecond {A} {S} {T} E Post = (a : A) (r s : ℕ) (x y : S × (Bor (List E) × T)) → Post a r x → Post a s y → (r ≡ s) × (x.1.0.now ≡ y.1.0.now)
+abbrev OneInSecond : {A S T : Type 0} (E : Type 0) → (A → ℕ → S × (MutBor (List E) × T) → Type 0) → Type 0
+OneInSecond {A} {S} {T} E Post = (a : A) (r s : ℕ) (x y : S × (MutBor (List E) × T)) → Post a r x → Post a s y → (r ≡ s) × (x.1.0.now ≡ y.1.0.now)
 
 pub from_pressure_once : (κs : Lfts 1) → OneAnswered (from_pressure.Post κs)
 from_pressure_once κs a r s x y = one_handed

@@ -1,6 +1,5 @@
 -- A refusal keeps its number; of a state the answer is the definition's, asked or not. Assumes nothing.
 use mathlib.Core.Path.{refl, ◌∙◌}
-use borrow.Author.Rules.{rules}
 use Rattle.door_conductivity.proofs.with_conductivity.Goals as goal
 
 pub returns-in_default : goal.returns-in_default

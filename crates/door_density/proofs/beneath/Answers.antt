@@ -3,7 +3,6 @@ use mathlib.Core.Path.{◌≡◌, sym, ◌∙◌}
 use Rattle.num_working.specs.declared.Worked.TheVariants.{Number}
 use Rattle.equation.specs.Equation.{of1996}
 use Rattle.door_density.specs.DensityDoor.{beneath}
-use borrow.Author.Rules.{rules}
 use Rattle.door_density.proofs.beneath.Goals as goal
 use Rattle.door_density.proofs.beneath.Goals.{In-Number, In-Number-liquid_density}
 

@@ -2,7 +2,6 @@
 use mathlib.Core.Path.{refl, sym, ap, ◌∙◌}
 use lib.Ieee.{Float, le}
 use Rattle.door_density.specs.DensityDoor.{entered}
-use borrow.Author.Rules.{rules}
 use Rattle.door_density.proofs.enter.Goals as goal
 
 pub returns-then-critical_temperature-t : goal.returns-then-critical_temperature-t

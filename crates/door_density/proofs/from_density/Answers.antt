@@ -3,7 +3,6 @@ use mathlib.Core.Path.{sym, ap, ◌∙◌}
 use Rattle.door_checks.specs.Check.{number_of}
 use Rattle.door_answers.specs.declared.Answer.TheVariants.{Refused}
 use Rattle.door_density.specs.DensityDoor.{density_door}
-use borrow.Author.Rules.{rules}
 use Rattle.door_density.proofs.from_density.Goals as goal
 
 pub returns-in_default : goal.returns-in_default

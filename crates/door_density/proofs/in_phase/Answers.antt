@@ -8,7 +8,6 @@ use Rattle.door_limits.specs.Limits.{outside}
 use Rattle.door_checks.specs.Check.{solid, number_of}
 use Rattle.door_answers.specs.declared.Answer.TheVariants.{Refused}
 use Rattle.door_density.specs.DensityDoor.{in_phase}
-use borrow.Author.Rules.{rules}
 use Rattle.door_density.proofs.in_phase.Goals as goal
 use Rattle.door_density.proofs.in_phase.Goals.{After-not_solid-c, After-pressure_on}
 

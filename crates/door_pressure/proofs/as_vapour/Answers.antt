@@ -5,7 +5,6 @@ use Rattle.equation.proofs.Laws.{lawful}
 use Rattle.door_limits.specs.Limits.{search_ends}
 use Rattle.door_pressure.specs.PressureDoor.{scaled, vapour}
 use Rattle.door_pressure.proofs.Doors.{Searchable, searchable, scaled_reached}
-use borrow.Author.Rules.{rules}
 use Rattle.door_pressure.proofs.as_vapour.Goals as goal
 use Rattle.door_pressure.proofs.as_vapour.Goals.{After-scaled}
 

@@ -3,7 +3,6 @@ use mathlib.Core.Path.{◌≡◌, refl, sym, ◌∙◌}
 use Rattle.num_working.specs.declared.Worked.TheVariants.{Number}
 use Rattle.equation.specs.Equation.{of1996}
 use Rattle.door_pressure.specs.PressureDoor.{beneath}
-use borrow.Author.Rules.{rules}
 use Rattle.door_pressure.proofs.beneath.Goals as goal
 use Rattle.door_pressure.proofs.beneath.Goals.{In-Number}
 

@@ -3,7 +3,6 @@ use mathlib.Core.Path.{refl, sym, ap, subst, ◌∙◌}
 use lib.Ieee.{Float, le}
 use Rattle.door_pressure.specs.PressureDoor.{entered}
 use Rattle.door_pressure.proofs.Doors.{Searchable, searchable}
-use borrow.Author.Rules.{rules}
 use Rattle.door_pressure.proofs.enter.Goals as goal
 
 pub search_at-requires : goal.search_at-requires

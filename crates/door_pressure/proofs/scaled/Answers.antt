@@ -1,9 +1,7 @@
 -- One product, tested. Assumes nothing.
-use mathlib.Core.Path.{refl, sym, ◌∙◌}
+use mathlib.Core.Path.{refl, sym}
 use Rattle.num_formulas.specs.Formula.{value}
 use Rattle.num_formulas.proofs.Tests.{tested}
-use Rattle.door_pressure.specs.PressureDoor.{scaled}
-use borrow.Author.Rules.{rules}
 use Rattle.door_pressure.proofs.scaled.Goals as goal
 
 pub returns-in_default : goal.returns-in_default

@@ -4,7 +4,6 @@ use Rattle.equation.specs.Equation.{of1996}
 use Rattle.door_checks.specs.Check.{solid, number_of}
 use Rattle.door_answers.specs.declared.Answer.TheVariants.{Refused}
 use Rattle.door_pressure.specs.PressureDoor.{thawed}
-use borrow.Author.Rules.{rules}
 use Rattle.door_pressure.proofs.thaw.Goals as goal
 use Rattle.door_pressure.proofs.thaw.Goals.{After-not_solid-c}
 

@@ -5,7 +5,6 @@ use lib.Ieee.{lt}
 use lib.Ieee.Scale.{finite}
 use Rattle.door_limits.specs.Limits.{outside}
 use Rattle.door_saturation.specs.Saturation.{saturated}
-use borrow.Author.Rules.{rules}
 use Rattle.door_saturation.proofs.saturated_at.Goals as goal
 use Rattle.door_saturation.proofs.saturated_at.Goals.{After-critical_temperature, After-is_outside}
 

@@ -1,7 +1,6 @@
 -- Each answer is the definition's at what was worked. Assumes nothing.
 use mathlib.Core.Path.{refl, sym, ◌∙◌}
 use Rattle.door_saturation.specs.Saturation.{worked_at}
-use borrow.Author.Rules.{rules}
 use Rattle.door_saturation.proofs.worked_at.Goals as goal
 
 pub returns-in_default : goal.returns-in_default

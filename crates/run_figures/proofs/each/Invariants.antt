@@ -1,7 +1,6 @@
 -- Each number stands within the list. The measure is what is left of it. Assumes nothing.
 use Prim.Native.Nat.{◌≤◌, ◌-◌}
 use lib.ListN.{length}
-use borrow.Author.Rules.{rules}
 use Rattle.run_figures.proofs.each.Given as goal
 
 abbrev pub invariant-loop-i : goal.invariant-loop-i

@@ -1,7 +1,6 @@
 -- Before the i-th line the one array holds the marks of those above it, and the other their cylinder numbers. Assumes nothing.
 use mathlib.Core.Path.{◌≡◌, refl, sym, ap, ◌∙◌}
-use mathlib.Core.Logic.{⊎_elim}
-use Prim.Native.Nat.{◌+◌, ◌-◌, ◌≤◌}
+use Prim.Native.Nat.{◌+◌, ◌-◌}
 use native.Mathlib.Omega.{arith}
 use borrow.Author.Rules.{rules}
 use lib.ListN.{length, take}
@@ -50,10 +49,10 @@ loop-i-preserved c =
     let w = rw (known_taken k (omega arith)) at c.weigh_after-w.ensures in
     let more = held_more L ls (i - 1) blank_line _ _ (omega arith) (omega arith) w c.loop-i.invariant.2 in
     let after : Known ls (i - 1 + 1) c.match-number.numbers c.match-number.known =
-      elim c.match-number.branch [
-        | in-Number w ↦ rw (w.numbers-is, w.known-is) (one_known k blank_line (omega arith) _ (omega arith) w.in-Number.is)
-        | in_default w ↦ rw (w.numbers-is, w.known-is) (one_blank k blank_line (omega arith) w.in_default.is)
-      ] in
+    elim c.match-number.branch [
+      | in-Number w ↦ rw (w.numbers-is, w.known-is) (one_known k blank_line (omega arith) _ (omega arith) w.in-Number.is)
+      | in_default w ↦ rw (w.numbers-is, w.known-is) (one_blank k blank_line (omega arith) w.in_default.is)
+    ] in
     (omega arith, omega arith, more ∙ ap (held L ls) next, rw (← next) after)
 
 pub returns : goal.returns

@@ -4,7 +4,6 @@ use Prim.Native.Nat.{ℕ, ◌≤◌}
 use Rattle.sheet_line.specs.declared.line.Line.{Line}
 use native.Mathlib.Omega.{arith}
 use lib.ListN.{length, take, length-take}
-use borrow.Author.Rules.{rules}
 use Rattle.sheet_weigh.proofs.Markings.{marks_of_lem, fit_to_add}
 use Rattle.sheet_weigh.proofs.work.Goals as goal
 

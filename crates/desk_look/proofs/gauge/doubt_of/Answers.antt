@@ -1,7 +1,6 @@
 -- Both products are of the volume. Assumes nothing.
 use mathlib.Core.Path.{refl}
 use Rattle.desk_look.specs.Gauge.{doubt_of}
-use borrow.Author.Rules.{rules}
 use Rattle.desk_look.proofs.gauge.doubt_of.Goals as goal
 
 pub returns : goal.returns

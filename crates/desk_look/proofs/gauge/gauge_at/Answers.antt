@@ -1,6 +1,5 @@
 -- A blank, a density or a scale has no gauge. Assumes nothing.
 use mathlib.Core.Path.{refl}
-use borrow.Author.Rules.{rules}
 use Rattle.desk_look.proofs.gauge.gauge_at.Goals as goal
 
 pub returns-in-Blank : goal.returns-in-Blank

@@ -1,6 +1,5 @@
 -- By saturation, and by how near the pressure is to it. Assumes nothing.
 use mathlib.Core.Path.{refl, sym, ◌∙◌}
-use borrow.Author.Rules.{rules}
 use Rattle.desk_look.proofs.gauge.gauge_by.Goals as goal
 
 pub returns-then-is_near : goal.returns-then-is_near

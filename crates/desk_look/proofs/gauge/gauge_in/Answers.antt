@@ -2,7 +2,6 @@
 use mathlib.Core.Path.{refl, sym, ◌∙◌}
 use Rattle.sheet_weigh.proofs.Weighings.{volume_most}
 use Rattle.desk_look.specs.Gauge.{gauge_in}
-use borrow.Author.Rules.{rules}
 use Rattle.desk_look.proofs.gauge.gauge_in.Goals as goal
 
 pub gauge_by-requires : goal.gauge_by-requires

@@ -1,7 +1,6 @@
 -- A blank number or volume has no warning. Assumes nothing.
 use mathlib.Core.Path.{refl, ◌∙◌}
 use Rattle.desk_look.specs.Gauge.{gauge}
-use borrow.Author.Rules.{rules}
 use Rattle.desk_look.proofs.gauge.gauge_of.Goals as goal
 
 pub returns-in_default : goal.returns-in_default

@@ -3,7 +3,6 @@ use mathlib.Core.Path.{refl}
 use lib.Ieee.{of_bits, of_int, neg}
 use Rattle.num_working.specs.Number.{whole}
 use Rattle.desk_look.specs.Gauge.{near}
-use borrow.Author.Rules.{rules}
 use Rattle.desk_look.proofs.gauge.is_near.Goals as goal
 
 pub returns : goal.returns

@@ -2,7 +2,6 @@
 use Rattle.num_working.specs.Number.{whole}
 use Rattle.sheet_weigh.proofs.Weighings.{in_float_lem}
 use Rattle.desk_look.specs.Gauge.{product_of}
-use borrow.Author.Rules.{rules}
 use Rattle.desk_look.proofs.gauge.product_of.Goals as goal
 
 pub int_to_float-v : goal.int_to_float-v

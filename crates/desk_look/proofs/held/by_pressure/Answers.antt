@@ -1,6 +1,5 @@
 -- Without a temperature the door is not asked. Assumes nothing.
-use mathlib.Core.Path.{refl, ◌∙◌}
-use borrow.Author.Rules.{rules}
+use mathlib.Core.Path.{refl}
 use Rattle.desk_look.proofs.held.by_pressure.Goals as goal
 
 pub returns-in_default : goal.returns-in_default

@@ -1,6 +1,5 @@
 -- The density and the phase are those of the state. Assumes nothing.
 use mathlib.Core.Path.{refl}
-use borrow.Author.Rules.{rules}
 use Rattle.desk_look.proofs.held.held_with.Goals as goal
 
 pub returns-in-State : goal.returns-in-State

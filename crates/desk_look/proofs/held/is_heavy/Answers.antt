@@ -2,7 +2,6 @@
 use mathlib.Core.Path.{refl}
 use lib.Ieee.{of_bits, of_int}
 use Rattle.num_working.specs.Number.{whole}
-use borrow.Author.Rules.{rules}
 use Rattle.desk_look.proofs.held.is_heavy.Goals as goal
 
 pub returns-in-Mass : goal.returns-in-Mass

@@ -1,7 +1,6 @@
 -- A volume in its range is held against the milligrams, and no other is. Assumes nothing.
 use mathlib.Core.Path.{refl, sym, ◌∙◌}
 use native.Mathlib.Omega.{arith}
-use borrow.Author.Rules.{rules}
 use Rattle.sheet_weigh.proofs.Weighings.{volume_most}
 use Rattle.desk_look.proofs.held.is_overfull.Goals as goal
 

@@ -1,7 +1,6 @@
 -- What came of the line decides, and its milligrams are looked at by its reading. Assumes nothing.
 use mathlib.Core.Path.{refl}
 use Rattle.desk_look.specs.Held.{look}
-use borrow.Author.Rules.{rules}
 use Rattle.desk_look.proofs.held.look_at.Goals as goal
 
 pub returns-in-Mass : goal.returns-in-Mass

@@ -2,7 +2,6 @@
 use mathlib.Core.Path.{refl}
 use borrow.Author.Tests.{le-leb, lt-leb}
 use Rattle.desk_look.specs.Held.{margin}
-use borrow.Author.Rules.{rules}
 use Rattle.desk_look.proofs.held.margin_of.Goals as goal
 
 pub returns-then-mg-need : goal.returns-then-mg-need

@@ -1,6 +1,5 @@
 -- The reading decides which door is asked, and what was weighed is of none. Assumes nothing.
 use mathlib.Core.Path.{refl}
-use borrow.Author.Rules.{rules}
 use Rattle.desk_look.proofs.held.seen_by.Goals as goal
 
 pub returns-in-Blank : goal.returns-in-Blank

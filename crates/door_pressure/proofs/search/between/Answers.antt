@@ -6,7 +6,6 @@ use Rattle.num_halving.proofs.Halvings.{nowhere_back}
 use Rattle.equation.specs.Equation.{pressure_on}
 use Rattle.door_pressure.specs.Search.{figure}
 use Rattle.door_pressure.proofs.Searches.{is_above, is_not_above, is_worthy}
-use borrow.Author.Rules.{rules}
 use Rattle.door_pressure.proofs.search.between.Goals as goal
 
 pub returns-then-p-low : goal.returns-then-p-low

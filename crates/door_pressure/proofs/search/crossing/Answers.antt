@@ -6,7 +6,6 @@ use Rattle.num_working.proofs.Numbers.{no_nan}
 use Rattle.num_halving.proofs.Halvings.{nowhere_back, breaks_back}
 use Rattle.equation.specs.Equation.{pressure_on}
 use Rattle.door_pressure.specs.Search.{figure}
-use borrow.Author.Rules.{rules}
 use Rattle.door_pressure.proofs.search.crossing.Goals as goal
 
 pub returns-then-to-from : goal.returns-then-to-from

@@ -1,7 +1,6 @@
 -- On the temperature's curve. Assumes nothing.
 use mathlib.Core.Path.{◌∙◌}
 use Rattle.equation.proofs.Curves.{on_curve, state_on_curve}
-use borrow.Author.Rules.{rules}
 use Rattle.door_pressure.proofs.search.search_at.Goals as goal
 
 pub returns : goal.returns

@@ -8,7 +8,6 @@ use Rattle.equation.specs.Equation.{pressure_on, state_on}
 use Rattle.door_answers.specs.Answer.{answer_with}
 use Rattle.door_pressure.specs.Search.{figure, found, searched}
 use Rattle.door_pressure.proofs.Searches.{bits_below}
-use borrow.Author.Rules.{rules}
 use Rattle.door_pressure.proofs.search.search_on.Goals as goal
 
 pub float_to_bits-from : goal.float_to_bits-from

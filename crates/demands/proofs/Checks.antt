@@ -60,7 +60,7 @@ module _ (E : Equation) (t p : Float) where
   unfolding solid
   melts P a f s h =
       by_working (λ (c : Check). P (passed c a)) (E.melting_pressure t) _ _ f
-      (λ m e. by_test (λ (c : Check). P (passed c a)) (lt m p) _ _ (s m e) (λ q. h (record { melting = m; worked = e; not-above = q })))
+      (λ m e. by_test (λ (c : Check). P (passed c a)) (lt m p) _ _ (s m e) (λ q. h (record { melting = m; worked = e; not_above = q })))
 
   pub thawed_back : Fluid E t p → solid (E.melting_pressure t) p ≡ Passed
   unfolding solid

@@ -36,8 +36,8 @@ use Rattle.demands.proofs.DensityDoors.{density_answers}
 
 -- ---- not asked for
 pub not_asked : (E : Equation) (a : Answer) → Unasked E a
-not_asked E (answer.Refused n) = record { same = refl; none = λ c e. never (cc); by-any = λ F. refl }
-not_asked E (answer.State s) = record { same = refl; none = λ c e. cc; by-any = λ F. refl }
+not_asked E (answer.Refused n) = record { same = refl; none = λ c e. never (cc); by_any = λ F. refl }
+not_asked E (answer.State s) = record { same = refl; none = λ c e. cc; by_any = λ F. refl }
 
 -- no step of a door looks at it
 module _ (E : Equation) (L : Limits) where

@@ -210,7 +210,7 @@ module _ (L : Limits) (t : List ℕ) where
     of_count e =
         by_test ListedAs (eqb (length b.cylinders) 0) _ _ (λ p. no_lines e (eqb-true _ 0 p))
         (λ p. by_test ListedAs (ltb 32 (length b.cylinders)) _ _ (λ q. many_lines e (ltb-true 32 _ q))
-        (λ q. of_need (record { read = e; some-line = above_none (eqb-false (length b.cylinders) 0 p); at_most = ltb-false 32 _ q }) b.need refl))
+        (λ q. of_need (record { read = e; some_line = above_none (eqb-false (length b.cylinders) 0 p); at_most = ltb-false 32 _ q }) b.need refl))
 
   of_form : (o : Option Bank) → in_form t ≡ o → Reported L t (report L o)
   unfolding report

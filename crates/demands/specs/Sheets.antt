@@ -1,7 +1,7 @@
 -- RULES 10.1: what is demanded of a sheet: its report, for every byte string, in the order of RULES 3.4. Definitions only.
 use Rattle.std.specs.Prelude.{ℕ, ◌+◌, ◌≤◌, ◌<◌, ◌≡◌, List, [], ◌∷◌, ◌++◌, map, length, get_or}
 use Rattle.std.proofs.Math.Option.{none, some}
-use Rattle.std.specs.Borrow.{Bor}
+use Rattle.std.specs.Borrow.{Bor, MutBor}
 use Rattle.door_limits.specs.declared.Limits.{Limits}
 use Rattle.sheet_text.specs.declared.Field.{Field}
 use Rattle.sheet_mass.specs.Mass.{as_milligrams}
@@ -77,7 +77,7 @@ module _ (L : Limits) where
 
 -- whatever meets the promise of a function from limits, a text and a lent output (`Post`, its own `ensures`) delivers. a is what it is called with,
 -- (limits, (text, (output, ..))), x the same afterwards, and `now` what a reference holds
-abbrev pub Delivers : {S T U W : Type 0} → (Limits × (Bor (List ℕ) × (Bor (List ℕ) × S)) → Written → T × (U × (Bor (List ℕ) × W)) → Type 0) → Type 0
+abbrev pub Delivers : {S T U W : Type 0} → (Limits × (Bor (List ℕ) × (MutBor (List ℕ) × S)) → Written → T × (U × (MutBor (List ℕ) × W)) → Type 0) → Type 0
 Delivers {S} {T} {U} {W} Post =
-    (a : Limits × (Bor (List ℕ) × (Bor (List ℕ) × S))) (r : Written) (x : T × (U × (Bor (List ℕ) × W))) → Post a r x
+    (a : Limits × (Bor (List ℕ) × (MutBor (List ℕ) × S))) (r : Written) (x : T × (U × (MutBor (List ℕ) × W))) → Post a r x
     → Delivered a.0 a.1.0.now a.1.1.0.now x.1.1.0.now r

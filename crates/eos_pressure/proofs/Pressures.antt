@@ -5,7 +5,6 @@ use lib.Dec.{T}
 use lib.Ieee.{Float}
 use lib.Ieee.Bits.{is_true}
 use lib.Ieee.Scale.{finite}
-use Rattle.num_working.specs.Working.{or_else}
 use Rattle.num_working.specs.declared.Worked.{Worked}
 use Rattle.num_working.specs.declared.Worked.TheVariants.{Number, Failed}
 use Rattle.num_working.proofs.Cases.{by_working}

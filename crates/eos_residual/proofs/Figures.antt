@@ -1,6 +1,6 @@
 -- A row's figures as code works them, from the columns and arrays at the row's place, are the definition's. Assumes nothing.
 use mathlib.Core.Path.{◌≡◌, refl, sym, ap, ◌∙◌}
-use mathlib.Core.List.{List, [], ◌∷◌}
+use mathlib.Core.List.{List}
 use Prim.Native.Nat.{ℕ, zero, suc, ◌+◌, ◌-◌, ◌<◌}
 use native.Mathlib.Omega.{arith}
 use lib.Dec.{ltb, ltb→lt}
@@ -14,7 +14,7 @@ use Rattle.num_working.specs.declared.Worked.TheVariants.{Failed}
 use Rattle.num_formulas.specs.Formula.{Formula, num, ◌⊗◌, ◌^^◌, value, work}
 use Rattle.num_formulas.proofs.Formulas.{once}
 use Rattle.eos_rows.specs.declared.Gaussian.{Gaussian}
-use Rattle.eos_rows.specs.Row.{Polynomial, Exponential, polynomials, row7, exponentials, row34, gaussians, row39}
+use Rattle.eos_rows.specs.Row.{Exponential, polynomials, row7, exponentials, row34, gaussians, row39}
 use Rattle.eos_rows.specs.Column.{coefficients, delta_powers, tau_quarters, decay_powers}
 use Rattle.eos_rows.proofs.Places.{everywhere, below}
 use Rattle.eos_rows.proofs.Table.{seven, twenty_seven, five_bells, get_d_map_lt, of_polynomial, of_exponential}

@@ -12,7 +12,6 @@ use Rattle.eos_brackets.specs.declared.Five.{Five}
 use Rattle.eos_isotherm.specs.declared.Isotherm.{Isotherm}
 use Rattle.eos_non_analytic.specs.Figures.{non_analytic_figures}
 use Rattle.eos_residual.specs.Sum.{onto, total, polynomial_figures, exponential_figures, gaussian_figures, figures, residual, all_five}
-use Rattle.eos_residual.specs.declared.sum.Sums.{Sums}
 use Rattle.eos_residual.specs.declared.sum.Sums.TheVariants.{Summed, Broken}
 use Rattle.eos_residual.proofs.Sums.{onto_append, total_append}
 use Rattle.eos_residual.proofs.Figures.{polynomial_length}

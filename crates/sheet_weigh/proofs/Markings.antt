@@ -29,7 +29,7 @@ module _ (L : Limits) where
   after_length : (before : List ℕ) (ls : List Line) → length (marked_after L before ls) ≡ length ls
   unfolding marked_after
   after_length before [] = refl
-  after_length before (l ∷ ls) = ap suc (after_length _ ls)
+  after_length before (l ∷ ls) = ap suc (after_length (before ++ numbers (l ∷ [])) ls)
 
   -- the numbers before a line, those of the first line among them
   one_before : (before : List ℕ) (l : Line) (ls : List Line) → (before ++ numbers (l ∷ [])) ++ numbers ls ≡ before ++ numbers (l ∷ ls)

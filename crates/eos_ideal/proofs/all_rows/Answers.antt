@@ -1,7 +1,6 @@
 -- Row by row the sums are the formulas'. Assumes nothing.
 use Rattle.num_formulas.specs.Formula.{value}
 use Rattle.eos_ideal.specs.Ideal.{phi_τ, phi_ττ}
-use borrow.Author.Rules.{rules}
 use Rattle.eos_ideal.proofs.all_rows.Goals as goal
 
 pub returns : goal.returns

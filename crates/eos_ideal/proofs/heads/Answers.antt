@@ -1,6 +1,5 @@
 -- Both are the formulas', operation by operation. Assumes nothing.
 use Rattle.num_formulas.specs.Formula.{value}
-use borrow.Author.Rules.{rules}
 use Rattle.eos_ideal.proofs.heads.Goals as goal
 
 pub returns : goal.returns

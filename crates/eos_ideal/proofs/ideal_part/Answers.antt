@@ -5,7 +5,6 @@ use Rattle.num_formulas.specs.Formula.{num, ◌⊗◌, value}
 use Rattle.num_formulas.proofs.Formulas.{once}
 use Rattle.eos_ideal.specs.declared.Ideal.{Ideal}
 use Rattle.eos_ideal.specs.Ideal.{phi_τ, phi_ττ, ideal_part}
-use borrow.Author.Rules.{rules}
 use Rattle.eos_ideal.proofs.ideal_part.Goals as goal
 
 pair : {a b c d : Worked} → a ≡ b → c ≡ d → ◌≡◌ {A = Ideal} (record { first = a; second = c }) (record { first = b; second = d })

@@ -3,7 +3,6 @@ use lib.Ieee.{of_bits, of_int}
 use Rattle.num_working.specs.Number.{whole}
 use Rattle.num_formulas.specs.Formula.{value}
 use Rattle.eos_ideal.specs.Ideal.{row_τ, row_ττ}
-use borrow.Author.Rules.{rules}
 use Rattle.eos_ideal.proofs.with_row.Goals as goal
 
 pub returns : goal.returns

@@ -3,8 +3,7 @@ use mathlib.Core.Path.{◌≡◌, sym, ◌∙◌}
 use Rattle.num_formulas.specs.Formula.{work}
 use Rattle.num_formulas.proofs.Tests.{tested}
 use Rattle.eos_constants.specs.Reduced.{delta}
-use Rattle.eos_pressure.specs.Pressure.{pressure_formula, pressure_on}
-use borrow.Author.Rules.{rules}
+use Rattle.eos_pressure.specs.Pressure.{pressure_on}
 use Rattle.eos_pressure.proofs.pressure_on.Goals as goal
 use Rattle.eos_pressure.proofs.pressure_on.Goals.{After-checked}
 

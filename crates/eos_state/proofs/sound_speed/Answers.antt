@@ -3,7 +3,6 @@ use mathlib.Core.Path.{refl}
 use lib.Ieee.{of_bits, of_int}
 use Rattle.num_working.specs.Number.{whole}
 use Rattle.num_formulas.specs.Formula.{value}
-use borrow.Author.Rules.{rules}
 use Rattle.eos_state.proofs.sound_speed.Goals as goal
 
 pub returns : goal.returns

@@ -2,7 +2,6 @@
 use mathlib.Core.Path.{sym, ap, ◌∙◌}
 use Rattle.eos_ideal.specs.declared.Ideal.{Ideal}
 use Rattle.eos_state.specs.State.{state_ideal}
-use borrow.Author.Rules.{rules}
 use Rattle.eos_state.proofs.state_ideal.Goals as goal
 
 pub returns-in_default : goal.returns-in_default

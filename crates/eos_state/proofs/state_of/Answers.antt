@@ -1,11 +1,8 @@
 -- Each field is worked in plain f64 and tested. Assumes nothing.
-use mathlib.Core.Path.{ap, ◌∙◌}
-use Rattle.num_working.specs.Working.{checked}
+use mathlib.Core.Path.{◌∙◌}
 use Rattle.num_formulas.proofs.Formulas.{once}
 use Rattle.eos_pressure.specs.Pressure.{pressure_formula}
-use Rattle.eos_state.specs.State.{energy, enthalpy, heat_v, heat_p, sound, stated, plainly, state_of}
-use Rattle.eos_state.specs.declared.State.{State}
-use borrow.Author.Rules.{rules}
+use Rattle.eos_state.specs.State.{energy, enthalpy, heat_v, heat_p, sound, plainly, state_of}
 use Rattle.eos_state.proofs.state_of.Goals as goal
 
 pub returns : goal.returns

@@ -6,7 +6,6 @@ use Rattle.eos_constants.specs.Reduced.{delta}
 use Rattle.eos_residual.specs.Sum.{residual_part}
 use Rattle.eos_residual.specs.declared.sum.Residual.{Residual}
 use Rattle.eos_state.specs.State.{state_on}
-use borrow.Author.Rules.{rules}
 use Rattle.eos_state.proofs.state_on.Goals as goal
 use Rattle.eos_state.proofs.state_on.Goals.{After-checked}
 

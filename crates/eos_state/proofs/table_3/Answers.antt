@@ -4,7 +4,6 @@ use lib.Ieee.{of_bits, of_int}
 use Rattle.num_working.specs.Number.{whole}
 use Rattle.num_formulas.specs.Formula.{value}
 use Rattle.eos_state.specs.State.{plainly}
-use borrow.Author.Rules.{rules}
 use Rattle.eos_state.proofs.table_3.Goals as goal
 
 pub returns : goal.returns

@@ -10,7 +10,6 @@ use Rattle.eos_state.specs.State.{stated}
 use Rattle.eos_state.specs.declared.State.{State}
 use Rattle.eos_state.specs.declared.Stated.{Stated}
 use Rattle.eos_state.specs.declared.Stated.TheVariants.{Known, Unknown}
-use borrow.Author.Rules.{rules}
 use Rattle.eos_state.proofs.tested.Goals as goal
 
 merged : (a b c : Bool) (x z : Stated) → cond a (cond b (cond c x z) z) z ≡ cond (a && (b && c)) x z

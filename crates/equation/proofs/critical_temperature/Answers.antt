@@ -2,7 +2,6 @@
 use mathlib.Core.Path.{ap}
 use Rattle.eos_constants.specs.declared.Constants.{Constants}
 use Rattle.equation.specs.Equation.{of1996}
-use borrow.Author.Rules.{rules}
 use Rattle.equation.proofs.critical_temperature.Goals as goal
 
 pub returns : goal.returns

@@ -1,6 +1,5 @@
 -- It is 1996's. Assumes nothing.
 use Rattle.equation.specs.Equation.{curve}
-use borrow.Author.Rules.{rules}
 use Rattle.equation.proofs.curve_at.Goals as goal
 
 pub returns : goal.returns

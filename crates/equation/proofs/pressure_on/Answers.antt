@@ -1,6 +1,5 @@
 -- It is 1996's. Assumes nothing.
 use Rattle.equation.specs.Equation.{pressure_on}
-use borrow.Author.Rules.{rules}
 use Rattle.equation.proofs.pressure_on.Goals as goal
 
 pub returns : goal.returns

@@ -1,6 +1,5 @@
 -- It is 1996's. Assumes nothing.
 use Rattle.equation.specs.Equation.{of1996}
-use borrow.Author.Rules.{rules}
 use Rattle.equation.proofs.vapour_density.Goals as goal
 
 pub returns : goal.returns

@@ -2,7 +2,6 @@
 use mathlib.Core.Path.{ap, ◌∙◌}
 use Rattle.door_answers.specs.Answer.{refusal_number}
 use Rattle.sheet_outcome.specs.declared.Weighed.TheVariants.{Refused}
-use borrow.Author.Rules.{rules}
 use Rattle.sheet_weigh.proofs.by_answer.Goals as goal
 
 pub returns-in_default : goal.returns-in_default

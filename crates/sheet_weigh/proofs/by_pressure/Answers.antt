@@ -1,8 +1,6 @@
 -- A blank temperature is refused by 1 and the volume by 2, before the door of a pressure is asked. Assumes nothing.
 use mathlib.Core.Path.{◌≡◌, sym, ◌∙◌}
 use mathlib.Core.Bool.{true}
-use borrow.Author.Rules.{rules}
-use borrow.Author.Tests.{not-true, not-false}
 use Rattle.sheet_weigh.specs.Weighing.{is_volume, by_reading}
 use Rattle.sheet_weigh.proofs.Weighings.{volume_most, out_of_range, in_range}
 use Rattle.sheet_weigh.proofs.by_pressure.Goals as goal

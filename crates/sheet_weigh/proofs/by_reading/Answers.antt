@@ -1,6 +1,4 @@
 -- A blank is refused by 1; a pressure goes to the one door, a density to the other, and grams to none. Assumes nothing.
-use mathlib.Core.Path.{◌∙◌}
-use borrow.Author.Rules.{rules}
 use Rattle.sheet_weigh.specs.Weighing.{by_reading}
 use Rattle.sheet_weigh.proofs.by_reading.Goals as goal
 

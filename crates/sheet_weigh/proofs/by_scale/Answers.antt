@@ -1,8 +1,6 @@
 -- The volume is refused by 2 before the scale's grams are looked at. Assumes nothing.
 use mathlib.Core.Path.{◌≡◌, sym, ap, ◌∙◌}
 use mathlib.Core.Bool.{true}
-use borrow.Author.Rules.{rules}
-use borrow.Author.Tests.{not-true, not-false}
 use Rattle.sheet_weigh.specs.Weighing.{is_volume, on_scale}
 use Rattle.sheet_weigh.proofs.Weighings.{out_of_range, in_range}
 use Rattle.sheet_weigh.proofs.by_scale.Goals as goal

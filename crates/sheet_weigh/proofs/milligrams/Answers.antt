@@ -1,6 +1,5 @@
 -- One product, and the whole number at or below it. Assumes nothing.
 use mathlib.Core.Path.{sym, ap, ◌∙◌}
-use borrow.Author.Rules.{rules}
 use Rattle.num_working.specs.Number.{whole}
 use Rattle.sheet_weigh.specs.Weighing.{mass}
 use Rattle.sheet_weigh.proofs.Weighings.{in_float_lem, mass_of}

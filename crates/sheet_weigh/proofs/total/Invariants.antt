@@ -1,12 +1,9 @@
 -- What was added and what is left make up the total, and 32 lines' milligrams stay below 2⁵⁸. Assumes nothing.
 use mathlib.Core.Path.{◌≡◌}
-use Prim.Native.Nat.{◌-◌, ◌*◌, ◌^◌, ◌≤◌, ◌<◌}
-use native.Mathlib.Omega.{arith}
-use borrow.Author.Rules.{rules}
-use lib.ListN.{length, drop}
+use Prim.Native.Nat.{◌-◌, ◌*◌, ◌^◌, ◌≤◌}
+use lib.ListN.{drop}
 use Rattle.sheet_outcome.specs.Outcome.{marks_of, total}
-use Rattle.sheet_outcome.proofs.Arrays.{unmapped, past_end, counted, mark_there}
-use Rattle.sheet_outcome.proofs.Totals.{onto, onto_none, at_end, one_refused, one_more}
+use Rattle.sheet_outcome.proofs.Totals.{onto}
 use Rattle.sheet_weigh.proofs.total.Given as goal
 
 abbrev pub invariant-loop-i : goal.invariant-loop-i

@@ -1,6 +1,5 @@
 -- A blank number or volume is refused by 1, and the reading decides what else is asked for. Assumes nothing.
 use mathlib.Core.Path.{◌∙◌}
-use borrow.Author.Rules.{rules}
 use Rattle.sheet_weigh.specs.Weighing.{weighed}
 use Rattle.sheet_weigh.proofs.weigh.Goals as goal
 

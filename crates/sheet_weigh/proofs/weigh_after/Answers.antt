@@ -1,6 +1,5 @@
 -- The line's first checks are passed or their number is handed on. Assumes nothing.
 use mathlib.Core.Path.{sym, ap, ◌∙◌}
-use borrow.Author.Rules.{rules}
 use Rattle.door_checks.specs.Check.{number_of}
 use Rattle.sheet_outcome.specs.declared.Weighed.{Weighed}
 use Rattle.sheet_weigh.specs.Weighing.{weighed_after}

@@ -1,7 +1,6 @@
 -- Before the i-th line the one array holds the marks of those above it, and the other their cylinder numbers. Assumes nothing.
 use mathlib.Core.Path.{◌≡◌, refl, sym, ap, ◌∙◌}
-use mathlib.Core.Logic.{⊎_elim}
-use Prim.Native.Nat.{◌+◌, ◌-◌, ◌≤◌}
+use Prim.Native.Nat.{◌+◌, ◌-◌}
 use native.Mathlib.Omega.{arith}
 use borrow.Author.Rules.{rules}
 use lib.ListN.{length, take}
@@ -13,6 +12,7 @@ use Rattle.sheet_weigh.specs.Sheet.{marks_for, marked_after, marked}
 use Rattle.sheet_weigh.proofs.Knowns.{Known, none_known, known_most, known_room, known_taken, one_blank, one_known}
 use Rattle.sheet_weigh.proofs.Markings.{marked_length, held, held_more}
 use Rattle.sheet_weigh.proofs.weigh_all.Goals as goal
+use Rattle.sheet_weigh.proofs.weigh_all.Goals.{in-Number, in_default}
 
 pub loop-i-init : goal.loop-i-init
 unfolding marks_for marked marked_after padded
@@ -48,11 +48,11 @@ loop-i-preserved c =
     let k = c.loop-i.invariant.3 in
     let w = rw (known_taken k (omega arith)) at c.weigh_after-w.ensures in
     let more = held_more L ls (i - 1) blank_line _ _ (omega arith) (omega arith) w c.loop-i.invariant.2 in
-    let after : Known ls (i - 1 + 1) c.in-Number.numbers c.in-Number.known =
-    ⊎_elim
-    (λ w. rw (w.3, w.4) (one_known k blank_line (omega arith) _ (omega arith) w.1.given.1))
-    (λ w. rw (w.2, w.3) (one_blank k blank_line (omega arith) w.1.given.1))
-    c.in-Number.branch in
+    let after : Known ls (i - 1 + 1) c.match-number.numbers c.match-number.known =
+    elim c.match-number.branch [
+      | in-Number w ↦ rw (w.numbers-is, w.known-is) (one_known k blank_line (omega arith) _ (omega arith) w.in-Number.is)
+      | in_default w ↦ rw (w.numbers-is, w.known-is) (one_blank k blank_line (omega arith) w.in_default.is)
+    ] in
     (omega arith, omega arith, more ∙ ap (held L ls) next, rw (← next) after)
 
 pub returns : goal.returns

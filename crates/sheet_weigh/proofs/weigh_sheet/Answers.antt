@@ -1,6 +1,5 @@
 -- What is admitted is worked, and what is not is sent back. Assumes nothing.
 use mathlib.Core.Path.{sym, ◌∙◌}
-use borrow.Author.Rules.{rules}
 use Rattle.sheet_outcome.proofs.Admissions.{few}
 use Rattle.sheet_weigh.specs.Sheet.{outcome}
 use Rattle.sheet_weigh.proofs.weigh_sheet.Goals as goal

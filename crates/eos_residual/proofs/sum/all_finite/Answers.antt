@@ -1,6 +1,5 @@
 -- One test after another. Assumes nothing.
 use mathlib.Core.Path.{refl}
-use borrow.Author.Rules.{rules}
 use Rattle.eos_residual.proofs.sum.all_finite.Goals as goal
 
 pub returns : goal.returns

@@ -1,6 +1,5 @@
 -- The five in turn fail where one is not finite. Assumes nothing.
 use mathlib.Core.Path.{sym, ◌∙◌}
-use borrow.Author.Rules.{rules}
 use Rattle.eos_residual.proofs.Totals.{summed, broken}
 use Rattle.eos_residual.proofs.sum.all_five.Goals as goal
 

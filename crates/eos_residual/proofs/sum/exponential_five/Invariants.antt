@@ -1,21 +1,15 @@
 -- Each turn adds the next row's figures; what is left to add gives the sums. Assumes nothing.
-use mathlib.Core.Path.{◌≡◌, refl}
+use mathlib.Core.Path.{◌≡◌}
 use mathlib.Core.Bool.{true}
-use Prim.Native.Nat.{◌+◌, ◌-◌, ◌≤◌}
-use native.Mathlib.Omega.{arith}
-use borrow.Author.Rules.{rules}
-use lib.ListN.{get_or}
+use Prim.Native.Nat.{◌-◌, ◌≤◌}
 use lib.Ieee.{Float}
 use Rattle.num_powers.specs.Power.{powers}
-use Rattle.num_working.specs.Number.{whole}
 use Rattle.num_working.specs.Working.{checked}
 use Rattle.eos_brackets.specs.Derivative.{of}
 use Rattle.eos_isotherm.specs.declared.Isotherm.{Isotherm}
 use Rattle.eos_terms.specs.Term.{decays}
-use Rattle.eos_terms.proofs.Points.{its_powers, its_decays}
 use Rattle.eos_residual.specs.Sum.{onto, exponential_figures}
-use Rattle.eos_residual.proofs.Sums.{Dues, dues_more, dues_none}
-use Rattle.eos_residual.proofs.Figures.{Placed, placed_by, exponential_length, exponential_placed}
+use Rattle.eos_residual.proofs.Sums.{Dues}
 use Rattle.eos_residual.proofs.sum.exponential_five.Given as goal
 
 abbrev pub invariant-loop-i : goal.invariant-loop-i

@@ -1,22 +1,16 @@
 -- Each turn adds the next row's figure; what is left to add gives the sum. Nines fill 27 rows. Assumes nothing.
-use mathlib.Core.Path.{◌≡◌, refl}
-use mathlib.Core.List.{List}
-use Prim.Native.Nat.{ℕ, ◌+◌, ◌-◌, ◌%◌, ◌≤◌}
+use mathlib.Core.Path.{refl}
+use Prim.Native.Nat.{◌+◌}
 use native.Mathlib.Omega.{arith}
-use borrow.Author.Rules.{rules}
 use lib.ListN.{get_or}
-use lib.Ieee.{Float}
-use Rattle.num_powers.specs.Power.{powers}
 use Rattle.num_working.specs.Number.{whole}
 use Rattle.num_working.specs.Working.{checked}
 use Rattle.num_formulas.specs.Formula.{value}
 use Rattle.eos_brackets.specs.Bracket.{exponential}
 use Rattle.eos_brackets.specs.Derivative.{Delta}
-use Rattle.eos_isotherm.specs.declared.Isotherm.{Isotherm}
-use Rattle.eos_terms.specs.Term.{decays}
 use Rattle.eos_terms.proofs.Points.{its_powers, its_decays}
 use Rattle.eos_residual.specs.Sum.{onto, exponential_figures}
-use Rattle.eos_residual.proofs.Sums.{Due, due_more, due_none}
+use Rattle.eos_residual.proofs.Sums.{due_more, due_none}
 use Rattle.eos_residual.proofs.Figures.{Placed, placed_by, exponential_length, exponential_placed}
 use Rattle.eos_residual.proofs.sum.exponential_slope.Goals as goal
 use Rattle.eos_residual.proofs.sum.exponential_slope.Goals.{In-loop-i-2}

@@ -1,5 +1,4 @@
 -- Of the first alone no other is asked for. Assumes nothing.
-use borrow.Author.Rules.{rules}
 use Rattle.num_working.specs.Working.{checked}
 use Rattle.eos_brackets.specs.Derivative.{of}
 use Rattle.eos_brackets.proofs.Derivatives.{all_asked}

@@ -1,14 +1,10 @@
 -- Each turn adds the next row's figures; what is left to add gives the sums that are asked for. Assumes nothing.
 use mathlib.Core.Path.{refl}
-use Prim.Native.Nat.{◌-◌, ◌<◌, ◌≤◌}
+use Prim.Native.Nat.{◌<◌}
 use native.Mathlib.Omega.{arith}
-use borrow.Author.Rules.{rules}
 use Rattle.num_working.specs.Number.{whole}
-use Rattle.num_working.specs.Working.{checked}
-use Rattle.eos_brackets.specs.Derivative.{of}
-use Rattle.eos_residual.specs.Sum.{onto, gaussian_figures}
 use Rattle.eos_terms.proofs.Points.{its_powers, its_bells}
-use Rattle.eos_residual.proofs.Sums.{Dues, dues_more, dues_none}
+use Rattle.eos_residual.proofs.Sums.{dues_more, dues_none}
 use Rattle.eos_residual.proofs.Figures.{gaussian_small, gaussian_length, gaussian_placed}
 use Rattle.eos_residual.proofs.sum.gaussian_sums.Goals as goal
 use Rattle.eos_residual.proofs.sum.gaussian_sums.Goals.{After-gaussian_row-r}

@@ -1,15 +1,9 @@
 -- Each turn adds the next row's figures; what is left to add gives the sums that are asked for. Assumes nothing.
-use mathlib.Core.Path.{refl}
-use Prim.Native.Nat.{◌-◌, ◌<◌, ◌≤◌}
-use native.Mathlib.Omega.{arith}
-use borrow.Author.Rules.{rules}
-use Rattle.num_working.specs.Number.{whole}
+use Prim.Native.Nat.{◌-◌, ◌≤◌}
 use Rattle.num_working.specs.Working.{checked}
 use Rattle.eos_brackets.specs.Derivative.{of}
 use Rattle.eos_residual.specs.Sum.{onto, gaussian_figures}
-use Rattle.eos_terms.proofs.Points.{its_powers, its_bells}
-use Rattle.eos_residual.proofs.Sums.{Dues, dues_more, dues_none}
-use Rattle.eos_residual.proofs.Figures.{gaussian_small, gaussian_length, gaussian_placed}
+use Rattle.eos_residual.proofs.Sums.{Dues}
 use Rattle.eos_residual.proofs.sum.gaussian_sums.Given as goal
 
 abbrev pub invariant-loop-i : goal.invariant-loop-i

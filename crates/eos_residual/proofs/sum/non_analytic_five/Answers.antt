@@ -1,5 +1,4 @@
 -- The three rows one after the other, of each of the five. Assumes nothing.
-use borrow.Author.Rules.{rules}
 use Rattle.eos_residual.proofs.ThreeRows.{three_rows_of_five}
 use Rattle.eos_residual.proofs.sum.non_analytic_five.Goals as goal
 

@@ -1,5 +1,4 @@
 -- The three rows one after the other, of the first sum. Assumes nothing.
-use borrow.Author.Rules.{rules}
 use Rattle.eos_brackets.specs.Derivative.{Delta}
 use Rattle.eos_residual.proofs.ThreeRows.{three_rows}
 use Rattle.eos_residual.proofs.sum.non_analytic_slope.Goals as goal

@@ -1,16 +1,12 @@
 -- Each turn adds the next row's figures; what is left to add gives the sums that are asked for. Assumes nothing.
-use mathlib.Core.Path.{◌≡◌, refl}
-use Prim.Native.Nat.{◌-◌, ◌<◌, ◌≤◌}
+use mathlib.Core.Path.{refl}
+use Prim.Native.Nat.{◌<◌}
 use native.Mathlib.Omega.{arith}
-use borrow.Author.Rules.{rules}
 use lib.ListN.{get_or}
-use lib.Ieee.{Float}
-use Rattle.num_powers.specs.Power.{powers}
 use Rattle.num_working.specs.Number.{whole}
-use Rattle.eos_isotherm.specs.declared.Isotherm.{Isotherm}
 use Rattle.eos_terms.proofs.Points.{its_powers}
-use Rattle.eos_residual.specs.Sum.{total, polynomial_figures}
-use Rattle.eos_residual.proofs.Sums.{Dues, dues_first, dues_more, dues_none}
+use Rattle.eos_residual.specs.Sum.{polynomial_figures}
+use Rattle.eos_residual.proofs.Sums.{dues_first, dues_more, dues_none}
 use Rattle.eos_residual.proofs.Figures.{delta_by, polynomial_length, polynomial_placed}
 use Rattle.eos_residual.proofs.sum.polynomial_sums.Goals as goal
 use Rattle.eos_residual.proofs.sum.polynomial_sums.Goals.{In-loop-i}

@@ -5,7 +5,6 @@ use Rattle.eos_brackets.specs.Derivative.{of}
 use Rattle.eos_brackets.proofs.Derivatives.{all_asked}
 use Rattle.eos_residual.specs.Sum.{residual, five_sums, residual_part}
 use Rattle.eos_residual.proofs.Totals.{all_five_same}
-use borrow.Author.Rules.{rules}
 use Rattle.eos_residual.proofs.sum.residual_part.Goals as goal
 
 pub returns : goal.returns

@@ -1,7 +1,6 @@
 -- The first sum, tested. Assumes nothing.
 use mathlib.Core.Path.{◌∙◌}
 use Rattle.eos_brackets.specs.Derivative.{Delta}
-use borrow.Author.Rules.{rules}
 use Rattle.eos_residual.proofs.sum.slope_at.Goals as goal
 
 pub returns : goal.returns

@@ -1,6 +1,5 @@
 -- The four kinds of rows in turn. Assumes nothing.
 use mathlib.Core.Path.{◌≡◌, sym, ap, ◌∙◌}
-use borrow.Author.Rules.{rules}
 use lib.Ieee.{Float}
 use Rattle.num_working.specs.Working.{checked}
 use Rattle.eos_brackets.specs.Derivative.{of}

@@ -1,5 +1,4 @@
 -- What is written is the report of what was weighed, of what was read. Assumes nothing.
-use borrow.Author.Rules.{rules}
 use Rattle.sheet_score.proofs.Reports.{reported}
 use Rattle.sheet_score.proofs.score.Goals as goal
 

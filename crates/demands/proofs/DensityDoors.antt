@@ -25,7 +25,7 @@ use Rattle.demands.specs.Demands.{Fluid, InRangeD, in_box_d, PastD, Phased, abov
 use Rattle.demands.specs.Demands.{RefusesD, out_of_ranges, in_the_box, no_vapour, no_liquid}
 use Rattle.demands.specs.Demands.{between, no_pressure, pressure_outside, no_melting, solid_there, no_state, AnsweredD}
 use Rattle.demands.specs.Demands.{DensityRefusals, DensityAnswers}
-use Rattle.demands.proofs.Checks.{stops, passes, finds, stops_back, passes_back, melts, thawed_back}
+use Rattle.demands.proofs.Checks.{stops, passes, finds, stops_back, passes_back, melts}
 
 module _ (E : Equation) (L : Limits) (lawful : Lawful E) (t rho : Float) where
   -- ---- an answer of the door, explained

@@ -21,7 +21,7 @@ use Rattle.sheet_outcome.specs.declared.Ending.{Ending}
 use Rattle.sheet_report.proofs.Reports.{between_length, number_of, line_size}
 use Rattle.sheet_score.specs.Score.{report}
 use Rattle.demands.specs.Demands.{Numbered, to_9, is_19}
-use Rattle.demands.specs.Twice.{no_mark, came, NumberedAlone, as_door, is_23, NumberedAt, as_alone, is_30}
+use Rattle.demands.specs.Twice.{no_mark, came, as_door, is_23, NumberedAt, as_alone, is_30}
 use Rattle.demands.specs.Sheets as sheets
 use Rattle.demands.specs.Sheets.{sum, AllWeighed, Lined, Reported, not_in_form, no_lines, many_lines, no_need, one_refused, named_twice, covered, short}
 use Rattle.demands.proofs.Twice.{refusals_at}

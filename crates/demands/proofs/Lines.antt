@@ -7,13 +7,11 @@ use lib.Ieee.{Float, binary64, div}
 use Rattle.num_working.specs.Number.{whole}
 use Rattle.sheet_text.specs.declared.Field.{Field}
 use Rattle.sheet_mass.specs.Mass.{as_grams, as_milligrams, is_mass, milligrams_of, from_scale}
-use Rattle.sheet_mass.specs.declared.Milligrams.{Milligrams}
 use Rattle.sheet_mass.specs.declared.Scaled.{Scaled}
 use Rattle.sheet_line.specs.Record.{recorded_of}
 use Rattle.sheet_line.specs.Line.{temperature_of, reading_of, line_of}
 use Rattle.sheet_line.specs.declared.cylinder.Kind.{Kind}
 use Rattle.sheet_line.specs.declared.cylinder.Cylinder.{Cylinder}
-use Rattle.sheet_line.specs.declared.line.Reading.{Reading}
 use Rattle.sheet_line.specs.declared.line.Temperature.{Temperature}
 use Rattle.eos_state.specs.declared.State.{State}
 use Rattle.equation.specs.Equation.{of1996}
@@ -24,7 +22,7 @@ use Rattle.door_density.specs.DensityDoor.{density_door}
 use Rattle.num_whole.specs.Whole.{whole_below}
 use Rattle.num_whole.specs.declared.Below.{Below}
 use Rattle.num_working.proofs.Cases.{by_test}
-use Rattle.sheet_weigh.specs.Weighing.{if_number, if_kelvin, is_volume, filled, on_scale, mass, milligrams, by_answer, by_reading, weighed}
+use Rattle.sheet_weigh.specs.Weighing.{if_number, is_volume, filled, on_scale, mass, milligrams, by_answer, by_reading, weighed}
 use Rattle.sheet_outcome.specs.declared.Weighed.{Weighed}
 use Rattle.sheet_report.proofs.Reports.{number_of}
 use Rattle.demands.specs.Demands.{Exactly}

@@ -1,11 +1,10 @@
 -- The pressure door, over any equation and any limits: each refusal exactly under its condition, and what an answer means. Assumes nothing.
 use Prim.Native.Nat.{ℕ, ◌^◌, ◌≤◌}
 use mathlib.Core.Path.{◌≡◌, refl, sym, ap, subst, ◌∙◌}
-use mathlib.Core.Bool.{true, false}
+use mathlib.Core.Bool.{false}
 use native.Mathlib.Omega.{arith}
 use lib.Ieee.{Float, binary64, eq, lt, le, of_bits, to_bits}
 use Rattle.num_working.specs.declared.Worked.{Worked}
-use Rattle.num_working.specs.declared.Worked.TheVariants.{Number}
 use Rattle.num_working.proofs.Cases.{by_test, by_working}
 use Rattle.num_halving.specs.Halving.{NoCrossing, halve}
 use Rattle.num_halving.specs.declared.Crossing.{Crossing}

@@ -1,6 +1,6 @@
 -- A line's record, and a weighed line: by what it is refused and with what it is answered, that its temperature is not used, the largest total, and what is as
 -- it was. Assumes nothing.
-use Prim.Native.Nat.{ℕ, ◌*◌, ◌≤◌, ◌<◌}
+use Prim.Native.Nat.{ℕ, ◌*◌, ◌≤◌}
 use mathlib.Core.Path.{◌≡◌, refl, ap, subst, ◌∙◌}
 use mathlib.Core.Bool.{true}
 use mathlib.Core.List.{List, [], ◌∷◌, ◌++◌, map}
@@ -14,7 +14,7 @@ use Rattle.door_answers.specs.declared.Answer.{Answer}
 use Rattle.sheet_text.specs.Field.{field_text}
 use Rattle.sheet_text.specs.declared.Field.{Field}
 use Rattle.sheet_text.proofs.Parses.{none_or_some}
-use Rattle.sheet_mass.specs.Mass.{as_milligrams, milligrams_of, from_scale}
+use Rattle.sheet_mass.specs.Mass.{milligrams_of, from_scale}
 use Rattle.sheet_line.specs.Cylinder.{kind_letter, cylinder_text}
 use Rattle.sheet_line.specs.Record.{recorded_of, record_of}
 use Rattle.sheet_line.specs.Line.{line_of}
@@ -35,7 +35,7 @@ use Rattle.sheet_score.specs.Score.{listed, report}
 use Rattle.demands.specs.Lines as lines
 use Rattle.demands.specs.Lines.{AtDoor, for_pressure, for_density, Dashed, in_number, in_temperature, in_value, in_volume, Asked, by_pressure, by_density}
 use Rattle.demands.specs.Lines.{OnScale, RefusesLine, no_volume, no_volume_weighed, no_mass, by_door, no_product, Weighs, by_product, by_scale}
-use Rattle.demands.specs.Twice.{at, Again, came, RefusesAt, lacks, is_again, alone, WeighsAt}
+use Rattle.demands.specs.Twice.{at, Again, RefusesAt, lacks, is_again, alone, WeighsAt}
 use Rattle.demands.specs.Scales.{Lacks, lacks_number, lacks_value, lacks_volume, RefusesScale, by_1, by_30, by_2, by_23, AnswersScale, thousandfold}
 use Rattle.demands.specs.Scales.{ScaleRefusals, ScaleAnswers, with_temperature, ButForTemperatures, no_more, alike, other, TemperatureNotUsed}
 use Rattle.demands.specs.Sheets.{sum, AllWeighed, none_left, one_more}

@@ -18,12 +18,12 @@ within (m ∷ ms) (suc i) d e h = within ms i d e (le_of_suc-le-suc h)
 
 pub returns-then-i-lt32 : goal.returns-then-i-lt32
 returns-then-i-lt32 c =
-    let ms = c.args.t1.marks in
+    let ms = c.args.m.marks in
     let size : length ms ≡ 32 = search (rules, unmapped) in
     ap (λ (m : Mark). m.weighed) (within ms _ _ _ (omega arith))
 
 pub returns : goal.returns
 returns c =
-    let ms = c.args.t1.marks in
+    let ms = c.args.m.marks in
     let size : length ms ≡ 32 = search (rules, unmapped) in
     ap (λ (m : Mark). m.weighed) (sym (get_or-eq_default ms _ (omega arith)))

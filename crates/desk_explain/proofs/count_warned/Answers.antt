@@ -1,6 +1,4 @@
 -- Each turn comes further in the text, and no more are counted than bytes passed. Assumes nothing.
-use Prim.Native.Nat.{◌-◌, ◌≤◌}
-use lib.ListN.{length}
 use borrow.Author.Rules.{rules}
 use Rattle.desk_explain.proofs.count_warned.Goals as goal
 

@@ -1,7 +1,6 @@
 -- Each turn comes further in the text, and no more are counted than bytes passed. Assumes nothing.
 use Prim.Native.Nat.{◌-◌, ◌≤◌}
 use lib.ListN.{length}
-use borrow.Author.Rules.{rules}
 use Rattle.desk_explain.proofs.count_warned.Given as goal
 
 abbrev pub invariant-loop-at : goal.invariant-loop-at

@@ -1,6 +1,5 @@
 -- A number is looked for, and a blank is not. Assumes nothing.
 use mathlib.Core.Path.{◌∙◌}
-use borrow.Author.Rules.{rules}
 use Rattle.desk_explain.proofs.first_of.Goals as goal
 
 pub returns-in-Number : goal.returns-in-Number

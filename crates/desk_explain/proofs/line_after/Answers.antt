@@ -1,5 +1,4 @@
 -- A line has a byte at least, and lies within the text. Assumes nothing.
-use borrow.Author.Rules.{rules}
 use Rattle.desk_explain.proofs.line_after.Goals as goal
 
 pub returns : goal.returns

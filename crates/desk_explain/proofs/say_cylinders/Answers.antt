@@ -1,8 +1,5 @@
 -- Each turn comes further in the text, and no more lines are counted than bytes passed. Assumes nothing.
-use Prim.Native.Nat.{◌-◌, ◌≤◌}
 use native.Mathlib.Omega.{arith}
-use lib.ListN.{length}
-use borrow.Author.Rules.{rules}
 use Rattle.desk_explain.proofs.say_cylinders.Goals as goal
 
 pub loop-at-init : goal.loop-at-init

@@ -1,8 +1,6 @@
 -- Each turn comes further in the text, and no more lines are counted than bytes passed. Assumes nothing.
 use Prim.Native.Nat.{◌-◌, ◌≤◌}
-use native.Mathlib.Omega.{arith}
 use lib.ListN.{length}
-use borrow.Author.Rules.{rules}
 use Rattle.desk_explain.proofs.say_cylinders.Given as goal
 
 abbrev pub invariant-loop-at : goal.invariant-loop-at

@@ -1,8 +1,5 @@
 -- Each pair stands within the list. The measure is what is left of it. Assumes nothing.
-use Prim.Native.Nat.{◌+◌, ◌-◌, ◌≤◌}
 use native.Mathlib.Omega.{arith}
-use lib.ListN.{length}
-use borrow.Author.Rules.{rules}
 use Rattle.run_readings.proofs.doors.each.Goals as goal
 
 pub loop-i-init : goal.loop-i-init

@@ -1,8 +1,6 @@
 -- Each pair stands within the list. The measure is what is left of it. Assumes nothing.
 use Prim.Native.Nat.{◌+◌, ◌-◌, ◌≤◌}
-use native.Mathlib.Omega.{arith}
 use lib.ListN.{length}
-use borrow.Author.Rules.{rules}
 use Rattle.run_readings.proofs.doors.each.Given as goal
 
 abbrev pub invariant-loop-i : goal.invariant-loop-i

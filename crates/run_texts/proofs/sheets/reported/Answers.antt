@@ -1,8 +1,5 @@
 -- A report that was written lies within the output. Assumes nothing.
-use mathlib.Core.Path.{sym}
-use lib.Seq.{length-take-le}
 use Rattle.sheet_write.proofs.Writings.{inside}
-use borrow.Author.Rules.{rules}
 use Rattle.run_texts.proofs.sheets.reported.Goals as goal
 
 pub slice_bounds-out-end : goal.slice_bounds-out-end

@@ -1,9 +1,7 @@
 -- The space keeps its length, and each addition ends within it. The measure is how many times are left. Assumes nothing.
 use Prim.Native.Nat.{◌-◌, ◌≤◌}
-use mathlib.Core.Path.{◌≡◌, sym}
+use mathlib.Core.Path.{◌≡◌}
 use lib.ListN.{length}
-use lib.Seq.{length-take-le}
-use borrow.Author.Rules.{rules}
 use Rattle.run_texts.proofs.texts.fill.Given as goal
 
 abbrev pub invariant-loop-i : goal.invariant-loop-i

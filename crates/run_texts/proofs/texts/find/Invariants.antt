@@ -1,7 +1,6 @@
 -- The place lies between where the search starts and the end. The measure is what is left of the text. Assumes nothing.
 use Prim.Native.Nat.{◌-◌, ◌≤◌}
 use lib.ListN.{length}
-use borrow.Author.Rules.{rules}
 use Rattle.run_texts.proofs.texts.find.Given as goal
 
 abbrev pub invariant-loop-i : goal.invariant-loop-i

@@ -1,5 +1,4 @@
 -- What the door answers is handed on. Assumes nothing.
-use borrow.Author.Rules.{rules}
 use Rattle.interface.proofs.makhroeng_from_density.Goals as goal
 
 pub returns : goal.returns

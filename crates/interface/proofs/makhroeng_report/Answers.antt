@@ -1,5 +1,4 @@
 -- The report's length as it was written, or 0 for 15. Assumes nothing.
-use borrow.Author.Rules.{rules}
 use Rattle.interface.proofs.Reports.{reported_in}
 use Rattle.interface.proofs.makhroeng_report.Goals as goal
 

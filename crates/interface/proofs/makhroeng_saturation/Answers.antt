@@ -1,5 +1,4 @@
 -- What saturation comes to is handed on. Assumes nothing.
-use borrow.Author.Rules.{rules}
 use Rattle.interface.proofs.makhroeng_saturation.Goals as goal
 
 pub returns : goal.returns

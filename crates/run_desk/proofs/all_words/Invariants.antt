@@ -1,6 +1,5 @@
 -- The number goes up to 32. Assumes nothing.
 use Prim.Native.Nat.{◌-◌}
-use borrow.Author.Rules.{rules}
 use Rattle.run_desk.proofs.all_words.Given as goal
 
 abbrev pub invariant-loop-number : goal.invariant-loop-number

@@ -1,7 +1,6 @@
 -- A title ends after it starts, and its text ends no sooner. The measure is what is left of the list. Assumes nothing.
 use Prim.Native.Nat.{◌-◌, ◌≤◌}
 use lib.ListN.{length}
-use borrow.Author.Rules.{rules}
 use Rattle.run_desk.proofs.each.Given as goal
 
 abbrev pub invariant-loop-at : goal.invariant-loop-at

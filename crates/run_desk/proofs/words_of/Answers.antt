@@ -1,7 +1,4 @@
 -- What was put lies within the space. Assumes nothing.
-use mathlib.Core.Path.{sym}
-use lib.Seq.{length-take-le}
-use borrow.Author.Rules.{rules}
 use Rattle.sheet_write.proofs.Writings.{within}
 use Rattle.run_desk.proofs.words_of.Goals as goal
 

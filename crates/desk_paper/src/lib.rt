@@ -2,5 +2,6 @@
 // bytes are written to a file; the numbers that are shown, and what they are of, are promised where they come from.
 #![tactic(auto)]
 
+pub mod files;
 pub mod help;
 pub mod paper;

@@ -6,11 +6,12 @@ use desk_words::put_words;
 use num_whole::Below;
 use std::io::{Cursor, Error, Print, Stderr, Stdout, Write};
 
-// The stream that a paper lies on.
+// What a paper lies on: a stream of the program's own, or an open file by its number.
 #[derive(Clone, Copy)]
 pub enum Stream {
     Output(Stdout),
     Complaints(Stderr),
+    Number(i32),
 }
 
 // The failure is of the first write that failed.
@@ -20,14 +21,30 @@ pub struct Paper {
     pub failure: Option<Error>,
 }
 
-pub fn paper_on(on: Stream) -> Paper {
+pub fn paper_of(on: Stream) -> Paper {
     Paper { on, failure: None }
+}
+
+pub fn paper_on(fd: i32) -> Paper {
+    paper_of(Stream::Number(fd))
+}
+
+// Linux's number of an input or output error.
+const IO: i32 = 5;
+
+// Why a write by a number failed is not told.
+fn write_by(fd: i32, text: &[u8]) -> Result<(), Error> {
+    if io::write_all(fd, text) {
+        return Ok(());
+    }
+    Err(Error::from_raw_os_error(IO))
 }
 
 fn write_on(on: Stream, text: &[u8]) -> Result<(), Error> {
     match on {
         Stream::Output(out) => Print::write_all(&out, text),
         Stream::Complaints(out) => Print::write_all(&out, text),
+        Stream::Number(fd) => write_by(fd, text),
     }
 }
 

@@ -4,7 +4,7 @@
 
 use desk_explain::{explain, warn};
 use desk_paper::help::say_help;
-use desk_paper::paper::{Paper, Stream, paper_on};
+use desk_paper::paper::{Paper, Stream, paper_of};
 use desk_words::put_words;
 use door_limits::document_01;
 use run_print::bits::{STDOUT, say};
@@ -60,10 +60,10 @@ fn all_words() {
 }
 
 fn main(rt: HostRuntime) {
-    let p = paper_on(Stream::Output(rt.stdout()));
-    let complaints = paper_on(Stream::Complaints(rt.stderr()));
+    let p = paper_of(Stream::Output(rt.stdout()));
+    let complaints = paper_of(Stream::Complaints(rt.stderr()));
     let mut space = io::large_buffer();
-    let n = load(&rt, complaints, "sheets.txt", &mut space);
+    let n = load(&rt, complaints, b"sheets.txt", &mut space);
     say(b"= help\n");
     say_help(p);
     each(p, &space[..n]);

@@ -9,7 +9,7 @@ mod saturated;
 
 ghost use Rattle.std.specs.Prelude.{◌≡◌, length};
 
-use desk_paper::paper::{Paper, Stream, paper_on, say_failure};
+use desk_paper::paper::{Paper, Stream, paper_of, say_failure};
 use run_print::bits::say;
 use run_print::counts::tell_counts;
 use run_print::files::read_full;
@@ -166,7 +166,7 @@ fn compare_saturations<R: Files>(files: &R, complaints: Paper) {
 }
 
 fn main(rt: HostRuntime) {
-    let complaints = paper_on(Stream::Complaints(rt.stderr()));
+    let complaints = paper_of(Stream::Complaints(rt.stderr()));
     wrong_row();
     wrong_cells();
     wrong_melting();

@@ -3,7 +3,7 @@
 // elsewhere too (crosscheck/sheets.py).
 #![tactic(auto)]
 
-use desk_paper::paper::{Paper, Stream, paper_on};
+use desk_paper::paper::{Paper, Stream, paper_of};
 use door_limits::document_01;
 use run_print::bits::{STDOUT, say};
 use run_texts::sheets::{each, reported};
@@ -46,7 +46,7 @@ fn lent(out: &mut [u8]) {
 // critical box.
 fn banks<R: Files>(files: &R, complaints: Paper) {
     let mut space = io::buffer();
-    let n = load(files, complaints, "bank.txt", &mut space);
+    let n = load(files, complaints, b"bank.txt", &mut space);
     let bank = &space[..n];
     built(
         b"= 32 good lines, the need their total",
@@ -85,9 +85,9 @@ fn long() {
 }
 
 fn main(rt: HostRuntime) {
-    let complaints = paper_on(Stream::Complaints(rt.stderr()));
+    let complaints = paper_of(Stream::Complaints(rt.stderr()));
     let mut space = io::large_buffer();
-    let n = load(&rt, complaints, "sheets.txt", &mut space);
+    let n = load(&rt, complaints, b"sheets.txt", &mut space);
     each(&space[..n]);
     each(
         b"= CR LF in the first line\nN 1\r\nC 7 3000000 P 5000000 1\n\

@@ -2,20 +2,20 @@
 ghost use Rattle.std.specs.Prelude.{◌<◌, ◌≤◌, length};
 ghost use Rattle.io.specs.Counts.{IsPrefixLen};
 
+use desk_paper::files::open;
 use desk_paper::paper::{Paper, say_failure};
 use run_print::files::read_full;
 use sheet_write::put;
-use std::fs;
 use std::rt::Files;
 
 // What a file has, as far as there is space. Where it can't be opened, that is said.
-pub fn load<R: Files>(files: &R, complaints: Paper, file: &str, space: &mut [u8]) -> usize
+pub fn load<R: Files>(files: &R, complaints: Paper, file: &[u8], space: &mut [u8]) -> usize
     ensures { IsPrefixLen result space.new }
 {
-    match fs::open(files, file) {
+    match open(files, file) {
         Ok(mut from) => read_full(&mut from, space),
         Err(e) => {
-            say_failure(complaints, file.as_bytes(), e);
+            say_failure(complaints, file, e);
             0
         }
     }

@@ -6,17 +6,16 @@ ghost use Rattle.scorer.specs.Scorer.{ReadInto, Reports, Scores};
 
 use desk_arguments::{Asked, Named, Wish, Word, nothing_asked, take_word, word_of};
 use desk_explain::{explain, warn};
+use desk_paper::files::open;
 use desk_paper::help::{say_help, say_usage};
-use desk_paper::paper::{Paper, Stream, paper_on, say, say_failure, say_number};
+use desk_paper::paper::{Paper, Stream, paper_of, say, say_failure, say_number};
 use desk_words::version;
 use door_limits::document_01;
 use sheet_report::Written;
 use sheet_score::score;
 use std::env::FillError;
-use std::fs::File;
 use std::io::{Error, IsTerminal};
 use std::rt::{Env, Stderr, Stdout};
-use std::{fs, str};
 
 // How many bytes were read.
 #[derive(Clone, Copy)]
@@ -68,11 +67,11 @@ fn score_from<R: std::io::Read>(from: &mut R, space: &mut [u8], out: &mut [u8; 1
 }
 
 fn output(to: Stdout) -> Paper {
-    paper_on(Stream::Output(to))
+    paper_of(Stream::Output(to))
 }
 
 fn complaints(to: Stderr) -> Paper {
-    paper_on(Stream::Complaints(to))
+    paper_of(Stream::Complaints(to))
 }
 
 // Whether all was written; what wasn't is said.
@@ -143,8 +142,6 @@ const INVALID: i32 = 22;
 
 const NAME_TOO_LONG: i32 = 36;
 
-const NOT_TEXT: i32 = 84;
-
 fn error_of(e: FillError) -> Error {
     match e {
         FillError::NotPresent => Error::from_raw_os_error(INVALID),
@@ -152,17 +149,9 @@ fn error_of(e: FillError) -> Error {
     }
 }
 
-// A file's name is text in UTF-8.
-fn open(rt: HostRuntime, name: &[u8]) -> Result<File, Error> {
-    match str::from_utf8(name) {
-        Ok(path) => fs::open(&rt, path),
-        Err(_) => Err(Error::from_raw_os_error(NOT_TEXT)),
-    }
-}
-
 // The file of this name.
 fn answer_file(rt: HostRuntime, name: &[u8], a: Asked) -> bool {
-    match open(rt, name) {
+    match open(&rt, name) {
         Ok(mut from) => answer(rt, &mut from, name, a),
         Err(e) => {
             say_failure(complaints(rt.stderr()), name, e);

@@ -27,7 +27,7 @@ def run(name, args, files=None, stdin=None, folder=None, to=None, raw=None):
     place = OUT / name
     place.mkdir(parents=True)
     if args:
-        (place / "args").write_text("".join(a + "\n" for a in args))
+        (place / "args").write_bytes("".join(a + "\n" for a in args).encode(errors="surrogateescape"))
     files = files or {}
     for f, text in files.items():
         (place / f).write_bytes(text)
@@ -65,7 +65,7 @@ def run(name, args, files=None, stdin=None, folder=None, to=None, raw=None):
         (place / "stdout_is").write_text(HELP + "\n")
     elif not to:
         (place / "stdout").write_text(stdout)
-    (place / "stderr").write_text(stderr)
+    (place / "stderr").write_bytes(stderr.encode(errors="surrogateescape"))
 
 
 def bank(pressure, volume=67500):
@@ -213,6 +213,9 @@ run("two_dashes_twice", ["--", "--"])
 run("two_unknown_flags", ["--one", "--two"], raw=("", "--one: no such flag\n" + USAGE))
 run("version_before_an_unknown_flag", ["--version", "--two"], raw=("makhroeng 1.7.0\n", ""))
 run("a_word_too_long", ["a" * 5000, "sheet.txt"], {"sheet.txt": EXAMPLE}, raw=("== sheet.txt\n" + sheets.report(EXAMPLE), "FILE: File name too long\n"))
+# a byte that is no text in UTF-8
+run("a_name_that_is_no_text", ["\udcff.txt", "sheet.txt"], {"sheet.txt": EXAMPLE},
+    raw=("== sheet.txt\n" + sheets.report(EXAMPLE), "\udcff.txt: Invalid or incomplete multibyte or wide character\n"))
 # a sheet that comes in pieces: the first two lines, then the rest
 run("standard_input_in_pieces", [], stdin=LIQUID)
 place = OUT / "standard_input_in_pieces"

@@ -1,13 +1,12 @@
 -- With the melting line every answer is what it was, or 19, or 7 where there is no melting pressure, which within the limits of RULES 2.2 there is: both
 -- doors take the same steps, and the check of the line is one of them. Assumes nothing.
+use Rattle.std.specs.Prelude.{Some, None}
 use mathlib.Core.Path.{◌≡◌, refl}
 use mathlib.Core.Bool.{Bool, true, false, cond, ◌&&◌, not, true≢false}
 use lib.Ieee.{Float, nan, inf, fin, lt, le}
 use lib.Ieee.Scale.{finite}
 use Rattle.num_working.specs.Number.{decimal, whole}
-use Rattle.num_working.specs.Working.{or_else}
-use Rattle.num_working.specs.declared.Worked.{Worked}
-use Rattle.num_working.specs.declared.Worked.TheVariants.{Number, Failed}
+use Rattle.num_working.specs.Working.{or_else, Worked}
 use Rattle.num_working.proofs.Cases.{never}
 use Rattle.eos_melting.proofs.Meltings.{Melts, never_fails}
 use Rattle.eos_state.specs.declared.Phase.{Phase}
@@ -28,12 +27,11 @@ use Rattle.door_pressure.proofs.from_pressure.Reads as from_pressure
 use Rattle.door_density.specs.DensityDoor as density
 use Rattle.door_density.proofs.from_density.Reads as from_density
 use Rattle.demands.specs.Demands.{Whatever, InRange}
-use Rattle.demands.specs.Before.{never_solid, Kept, same, solid, no_melting, AsBefore, unchanged, now_solid}
-use Rattle.demands.specs.Before.{PressureDoorBefore, InPhaseBefore, PressureKept, DensityKept, PressureAsBefore, DensityAsBefore}
+use Rattle.demands.specs.Before.{never_solid, Kept, same, solid, no_melting, AsBefore, unchanged, now_solid, PressureDoorBefore, InPhaseBefore, PressureKept, DensityKept, PressureAsBefore, DensityAsBefore}
 use Rattle.demands.proofs.Checks.{stops, passes, finds, melts, first}
 
 -- no pressure is above the infinity
-unreached : (p : Float) → check.solid (Number (inf false)) p ≡ Passed
+unreached : (p : Float) → check.solid (Some (inf false)) p ≡ Passed
 unfolding check.solid lt
 unreached nan = refl
 unreached (inf true) = refl
@@ -51,12 +49,12 @@ module _ {w : Worked} where
   after_test false h k = k
 
   after_working : (v : Worked) (z : Answer) (f g : Float → Answer) → ((x : Float) → Kept w (f x) (g x)) → Kept w (or_else v z f) (or_else v z g)
-  after_working Failed z f g h = same refl
-  after_working (Number x) z f g h = h x
+  after_working None z f g h = same refl
+  after_working (Some x) z f g h = h x
 
 module _ (E : Equation) (L : Limits) where
   -- the check of the line, and then what is the same
-  after_line : (t p : Float) (a : Answer) → Kept (E.melting_pressure t) (passed (check.solid (E.melting_pressure t) p) a) (passed (check.solid (Number (inf false)) p) a)
+  after_line : (t p : Float) (a : Answer) → Kept (E.melting_pressure t) (passed (check.solid (E.melting_pressure t) p) a) (passed (check.solid (Some (inf false)) p) a)
   after_line t p a =
       rw (unreached p) (melts E t p (λ (n : Answer). Kept (E.melting_pressure t) n a) a (λ e. no_melting e refl) (λ m e h. solid refl) (λ f. same refl))
 
@@ -74,10 +72,10 @@ module _ (E : Equation) (L : Limits) where
   pressure_kept t p = after_check (ranged L.asked.temperature L.asked.pressure t p) (thawed_kept t p)
 
   -- ---- the density door
-  by_pressure : (v : Worked) (q : Float → Bool) (a : Answer) → or_else v (answer.Refused 7) (λ p. cond (q p) (answer.Refused 5) (passed (check.solid (Number (inf false)) p) a))
+  by_pressure : (v : Worked) (q : Float → Bool) (a : Answer) → or_else v (answer.Refused 7) (λ p. cond (q p) (answer.Refused 5) (passed (check.solid (Some (inf false)) p) a))
       ≡ or_else v (answer.Refused 7) (λ p. cond (q p) (answer.Refused 5) a)
-  by_pressure Failed q a = refl
-  by_pressure (Number p) q a = rw (unreached p) refl
+  by_pressure None q a = refl
+  by_pressure (Some p) q a = rw (unreached p) refl
 
   pub in_phase_before : InPhaseBefore E L
   unfolding density.in_phase

@@ -1,11 +1,11 @@
 -- The checks on the inputs and that of the melting line, by what they find. Assumes nothing.
+use Rattle.std.specs.Prelude.{Some, None}
 use Prim.Native.Nat.{ℕ}
 use mathlib.Core.Path.{◌≡◌, refl, sym}
 use mathlib.Core.Bool.{Bool, true, false, ◌&&◌, not, true≢false}
 use borrow.Author.Tests.{not-true, not-false}
 use lib.Ieee.{Float, lt}
 use lib.Ieee.Scale.{finite}
-use Rattle.num_working.specs.declared.Worked.TheVariants.{Number, Failed}
 use Rattle.num_working.proofs.Cases.{by_test, by_working}
 use Rattle.equation.specs.Equation.{Equation}
 use Rattle.door_limits.specs.Limits.{outside}
@@ -54,8 +54,8 @@ module _ (temperature value : Range) (t x : Float) where
 -- ---- 19
 module _ (E : Equation) (t p : Float) where
   -- what holds of 7, of 19 and of the answer a where p is fluid, holds of what comes of the check
-  pub melts : (P : Answer → Type 0) (a : Answer) → (E.melting_pressure t ≡ Failed → P (answer.Refused 7))
-      → ((m : Float) → E.melting_pressure t ≡ Number m → lt m p ≡ true → P (answer.Refused 19)) → (Fluid E t p → P a)
+  pub melts : (P : Answer → Type 0) (a : Answer) → (E.melting_pressure t ≡ None → P (answer.Refused 7))
+      → ((m : Float) → E.melting_pressure t ≡ Some m → lt m p ≡ true → P (answer.Refused 19)) → (Fluid E t p → P a)
       → P (passed (solid (E.melting_pressure t) p) a)
   unfolding solid
   melts P a f s h =

@@ -1,13 +1,12 @@
 -- What is worked on request is worked of the door's answer and after it, so that nothing else of an answer hangs on it. Over any equation, of 1996, and of
 -- the public functions. Assumes nothing.
+use Rattle.std.specs.Prelude.{Some, None}
 use Prim.Native.Nat.{ℕ}
 use mathlib.Core.Path.{◌≡◌, refl, sym, ap, ◌∙◌}
 use mathlib.Core.Bool.{Bool, true, false}
 use native.Mathlib.Omega.{arith}
 use lib.Ieee.{Float}
-use Rattle.num_working.specs.Working.{or_else}
-use Rattle.num_working.specs.declared.Worked.{Worked}
-use Rattle.num_working.specs.declared.Worked.TheVariants.{Number, Failed}
+use Rattle.num_working.specs.Working.{or_else, Worked}
 use Rattle.num_working.proofs.Cases.{never}
 use Rattle.eos_conductivity.specs.Conductivity.{conductivity_at}
 use Rattle.eos_state.specs.declared.State.{State}
@@ -22,15 +21,12 @@ use Rattle.door_pressure.proofs.from_pressure.Reads as from_pressure
 use Rattle.door_density.specs.DensityDoor as density
 use Rattle.door_density.specs.DensityDoor.{density_door}
 use Rattle.door_density.proofs.from_density.Reads as from_density
-use Rattle.door_conductivity.specs.Conducted.{carrying, conducting, with_conductivity}
+use Rattle.door_conductivity.specs.Conducted.{carrying, conducting, with_conductivity, Conductivity}
 use Rattle.door_conductivity.specs.declared.Carried.{Carried}
-use Rattle.door_conductivity.specs.declared.Conductivity.{Conductivity}
-use Rattle.door_conductivity.specs.declared.Conductivity.TheVariants.{NotAsked, Is}
 use Rattle.door_conductivity.specs.declared.Conducted.TheVariants as conducted
 use Rattle.door_conductivity.proofs.with_conductivity.Reads as with_conductivity_reads
 use Rattle.demands.specs.Demands.{Whatever, Exactly, Settled, given, not_given, to_9}
-use Rattle.demands.specs.Conductivities.{without_conductivity, Unasked, PressureByAny, DensityByAny, RefusesAsked, by_door, no_conductivity, AnswersAsked, AskedRefusals, AskedAnswers}
-use Rattle.demands.specs.Conductivities.{SettledAsked, given_with, given_none, SameConductivity}
+use Rattle.demands.specs.Conductivities.{without_conductivity, Unasked, PressureByAny, DensityByAny, RefusesAsked, by_door, no_conductivity, AnswersAsked, AskedRefusals, AskedAnswers, SettledAsked, given_with, given_none, SameConductivity}
 use Rattle.demands.proofs.PressureDoors.{pressure_answers}
 use Rattle.demands.proofs.DensityDoors.{density_answers}
 
@@ -53,15 +49,15 @@ module _ (E : Equation) (L : Limits) where
 module _ (E : Equation) where
   -- of a state, by what its conductivity was worked to
   refused_back : (s : State) (w : Worked) → E.conductivity s.t s.rho ≡ w → (n : ℕ) → RefusesAsked E (answer.State s) n
-      → or_else w (conducted.Refused 7) (λ x. carrying s (Is x)) ≡ conducted.Refused n
+      → or_else w (conducted.Refused 7) (λ x. carrying s (Some x)) ≡ conducted.Refused n
   refused_back s w e n (by_door h) = never (cc)
-  refused_back s Failed e n (no_conductivity h k) = refl
-  refused_back s (Number x) e n (no_conductivity h k) = never (cc)
+  refused_back s None e n (no_conductivity h k) = refl
+  refused_back s (Some x) e n (no_conductivity h k) = never (cc)
 
   refused_of : (s : State) (w : Worked) → E.conductivity s.t s.rho ≡ w → (n : ℕ)
-      → or_else w (conducted.Refused 7) (λ x. carrying s (Is x)) ≡ conducted.Refused n → RefusesAsked E (answer.State s) n
-  refused_of s Failed e n h = let m : 7 ≡ n = cc in rw (← m) (no_conductivity refl e)
-  refused_of s (Number x) e n h = never (cc)
+      → or_else w (conducted.Refused 7) (λ x. carrying s (Some x)) ≡ conducted.Refused n → RefusesAsked E (answer.State s) n
+  refused_of s None e n h = let m : 7 ≡ n = cc in rw (← m) (no_conductivity refl e)
+  refused_of s (Some x) e n h = never (cc)
 
   door_back : (m n : ℕ) → RefusesAsked E (answer.Refused m) n → conducted.Refused m ≡ conducted.Refused n
   door_back m n (by_door h) = cc
@@ -74,12 +70,12 @@ module _ (E : Equation) where
       (refused_of s (E.conductivity s.t s.rho) refl n, refused_back s (E.conductivity s.t s.rho) refl n)
 
   answered_of : (s : State) (w : Worked) → E.conductivity s.t s.rho ≡ w → (c : Carried)
-      → or_else w (conducted.Refused 7) (λ x. carrying s (Is x)) ≡ conducted.State c → AnswersAsked E (answer.State s) c
-  answered_of s Failed e c h = never (cc)
-  answered_of s (Number x) e c h = let i : s ≡ c.state = cc in record { number = x; state = cc; worked = rw (← i) e; carried = cc }
+      → or_else w (conducted.Refused 7) (λ x. carrying s (Some x)) ≡ conducted.State c → AnswersAsked E (answer.State s) c
+  answered_of s None e c h = never (cc)
+  answered_of s (Some x) e c h = let i : s ≡ c.state = cc in record { number = x; state = cc; worked = rw (← i) e; carried = cc }
 
   answered_back : (s : State) (c : Carried) → AnswersAsked E (answer.State s) c
-      → or_else (E.conductivity s.t s.rho) (conducted.Refused 7) (λ x. carrying s (Is x)) ≡ conducted.State c
+      → or_else (E.conductivity s.t s.rho) (conducted.Refused 7) (λ x. carrying s (Some x)) ≡ conducted.State c
   answered_back s c p =
       let h = p.state in
       let i : s ≡ c.state = cc in
@@ -94,12 +90,12 @@ module _ (E : Equation) where
 settles : (a : Answer) → Settled a → (asked : Bool) → SettledAsked (with_conductivity of1996 asked a)
 unfolding conducting
 settles a (not_given n e h) asked = given_none n (rw e refl) h
-settles a (given x e) false = given_with (record { state = x; conductivity = NotAsked }) (rw e refl)
+settles a (given x e) false = given_with (record { state = x; conductivity = None }) (rw e refl)
 settles a (given x e) true = rw e (worked (of1996.conductivity x.t x.rho))
   where
-    worked : (w : Worked) → SettledAsked (or_else w (conducted.Refused 7) (λ k. carrying x (Is k)))
-    worked Failed = given_none 7 refl (to_9 7 (omega arith) (omega arith))
-    worked (Number k) = given_with _ refl
+    worked : (w : Worked) → SettledAsked (or_else w (conducted.Refused 7) (λ k. carrying x (Some k)))
+    worked None = given_none 7 refl (to_9 7 (omega arith) (omega arith))
+    worked (Some k) = given_with _ refl
 
 -- ---- both doors give the same
 module _ (E : Equation) (L : Limits) (lawful : Lawful E) where
@@ -115,7 +111,7 @@ module _ (E : Equation) (L : Limits) (lawful : Lawful E) where
       let k = d.temperature in
       let l = d.density in
       let m : a.number ≡ b.number = cc in
-      b.carried ∙ ap (λ (n : Float). Is n) (sym m) ∙ sym a.carried
+      b.carried ∙ ap (λ (n : Float). Some n) (sym m) ∙ sym a.carried
 
 -- ---- of what the function promises: asked for, not asked for, and what a conductivity is that is carried
 pub with_conductivity_asked : Whatever (with_conductivity_reads.Post tt) (λ a r. a.0 ≡ true
@@ -127,17 +123,17 @@ with_conductivity_asked a r s h k =
 pub with_conductivity_unasked : Whatever (with_conductivity_reads.Post tt) (λ a r. a.0 ≡ false → without_conductivity r ≡ a.1.0)
 with_conductivity_unasked a r s h k = rw (h, k) (not_asked of1996 a.1.0).same
 
-carries : (asked : Bool) (a : Answer) (c : Carried) (x : Float) → with_conductivity of1996 asked a ≡ conducted.State c → c.conductivity ≡ Is x
-    → of1996.conductivity c.state.t c.state.rho ≡ Number x
+carries : (asked : Bool) (a : Answer) (c : Carried) (x : Float) → with_conductivity of1996 asked a ≡ conducted.State c → c.conductivity ≡ Some x
+    → of1996.conductivity c.state.t c.state.rho ≡ Some x
 carries false a c x e k = let n = (not_asked of1996 a).none c e in never (cc)
 carries true a c x e k =
     let p = (asked_answers of1996 a c).0 e in
     let q = p.carried in
     let i : p.number ≡ x = cc in
-    p.worked ∙ ap Number i
+    p.worked ∙ ap Some i
 
-pub with_conductivity_carries : Whatever (with_conductivity_reads.Post tt) (λ a r. (c : Carried) (x : Float) → r ≡ conducted.State c → c.conductivity ≡ Is x
-    → conductivity_at c.state.t c.state.rho ≡ Number x)
+pub with_conductivity_carries : Whatever (with_conductivity_reads.Post tt) (λ a r. (c : Carried) (x : Float) → r ≡ conducted.State c → c.conductivity ≡ Some x
+    → conductivity_at c.state.t c.state.rho ≡ Some x)
 unfolding of1996
 with_conductivity_carries a r s h c x e k = carries a.0 a.1.0 c x (sym h ∙ e) k
 

@@ -1,12 +1,11 @@
 -- An answer's state was worked at its temperature and density, so its count is the equation's there, of any equation that is lawful; and no step of a door
 -- looks at a count, of any equation. Over any limits, of 1996, and of the public functions. Assumes nothing.
+use Rattle.std.specs.Prelude.{Some, None}
 use Prim.Native.Nat.{ℕ}
 use mathlib.Core.Path.{◌≡◌, refl, sym, ap, ◌∙◌}
 use mathlib.Core.Bool.{Bool, true, false, cond, ◌&&◌, not}
 use lib.Ieee.{Float, binary64, eq, lt, le, of_bits, to_bits}
-use Rattle.num_working.specs.Working.{or_else}
-use Rattle.num_working.specs.declared.Worked.{Worked}
-use Rattle.num_working.specs.declared.Worked.TheVariants.{Number, Failed}
+use Rattle.num_working.specs.Working.{or_else, Worked}
 use Rattle.num_halving.specs.Halving.{halve}
 use Rattle.num_halving.specs.declared.Crossing.{Crossing}
 use Rattle.num_halving.specs.declared.Crossing.TheVariants.{At, Nowhere, Broke}
@@ -16,18 +15,14 @@ use Rattle.eos_isotherm.specs.Isotherm.{isotherm}
 use Rattle.eos_isotherm.specs.declared.Isotherm.{Isotherm}
 use Rattle.eos_brackets.specs.declared.Five.{Five}
 use Rattle.eos_terms.specs.Fallen.{fallen_at, fallen_terms}
-use Rattle.eos_residual.specs.Sum.{five_sums}
-use Rattle.eos_residual.specs.declared.sum.Sums.{Sums}
-use Rattle.eos_residual.specs.declared.sum.Sums.TheVariants.{Summed, Broken}
+use Rattle.eos_residual.specs.Sum.{five_sums, Sums}
 use Rattle.eos_ideal.specs.Ideal.{ideal_part}
 use Rattle.eos_pressure.specs.Pressure.{pressure_formula}
 use Rattle.eos_state.specs.State as state
-use Rattle.eos_state.specs.State.{state_of, state_ideal, then_sums}
+use Rattle.eos_state.specs.State.{state_of, state_ideal, then_sums, Stated}
 use Rattle.eos_state.specs.declared.Phase.{Phase}
 use Rattle.eos_state.specs.declared.Phase.TheVariants.{Vapour, Liquid, Supercritical}
 use Rattle.eos_state.specs.declared.State.{State}
-use Rattle.eos_state.specs.declared.Stated.{Stated}
-use Rattle.eos_state.specs.declared.Stated.TheVariants.{Known, Unknown}
 use Rattle.equation.specs.Equation.{Equation, Lawful, of1996, curve, state_on}
 use Rattle.equation.proofs.Laws.{lawful}
 use Rattle.door_limits.specs.Limits.{outside, search_ends}
@@ -84,17 +79,17 @@ from_density_same_count a r s h x e b q u k o f g y l =
     same_count of1996 a.0 lawful a.1.0 a.1.1.0 x y (sym h ∙ e) (rw (← o, ← f, ← g) (sym k ∙ l))
 
 -- ---- but for the count
-stated_else : (w : Worked) (f g : Float → Stated) → ((x : Float) → forgotten_in (f x) ≡ g x) → forgotten_in (or_else w Unknown f) ≡ or_else w Unknown g
-stated_else Failed f g h = refl
-stated_else (Number x) f g h = h x
+stated_else : (w : Worked) (f g : Float → Stated) → ((x : Float) → forgotten_in (f x) ≡ g x) → forgotten_in (or_else w None f) ≡ or_else w None g
+stated_else None f g h = refl
+stated_else (Some x) f g h = h x
 
 after_sums : (v : Sums) (f g : Five → Stated) → ((s : Five) → forgotten_in (f s) ≡ g s) → forgotten_in (then_sums v f) ≡ then_sums v g
-after_sums Broken f g h = refl
-after_sums (Summed s) f g h = h s
+after_sums None f g h = refl
+after_sums (Some s) f g h = h s
 
 of_state : (s : Stated) → forgotten_of (answer_with s) ≡ answer_with (forgotten_in s)
-of_state Unknown = refl
-of_state (Known x) = refl
+of_state None = refl
+of_state (Some x) = refl
 
 -- an answer that was, but for its count, that one
 record Was (before now : Answer) : Type 0 where
@@ -109,8 +104,8 @@ after_test true h k = h
 after_test false h k = k
 
 after_working : (w : Worked) (n : ℕ) (f g : Float → Answer) → ((x : Float) → Was (g x) (f x)) → Was (or_else w (answer.Refused n) g) (or_else w (answer.Refused n) f)
-after_working Failed n f g h = record { is = refl }
-after_working (Number x) n f g h = h x
+after_working None n f g h = record { is = refl }
+after_working (Some x) n f g h = h x
 
 refuses : (n : ℕ) → Was (answer.Refused n) (answer.Refused n)
 refuses n = record { is = refl }

@@ -1,4 +1,5 @@
 -- RULES 10.1, over any lawful equation and any limits, of 1996, and of the public functions: whatever meets a door's promise has them. Assumes nothing.
+use Rattle.std.specs.Prelude.{Some}
 use Prim.Native.Nat.{ℕ, ◌+◌}
 use mathlib.Core.Path.{◌≡◌, refl, sym, subst, ◌∙◌}
 use native.Mathlib.Omega.{arith}
@@ -10,7 +11,6 @@ use Rattle.num_laws.proofs.Orders.{bits_mono}
 use Rattle.eos_state.specs.State.{eight}
 use Rattle.eos_state.specs.declared.Phase.{Phase}
 use Rattle.eos_state.specs.declared.State.{State}
-use Rattle.eos_state.specs.declared.Stated.TheVariants.{Known}
 use Rattle.equation.specs.Equation.{Equation, Lawful, of1996}
 use Rattle.equation.proofs.Laws.{lawful}
 use Rattle.door_limits.specs.declared.Range.{Range}
@@ -24,12 +24,7 @@ use Rattle.door_pressure.proofs.Searches.{bits_below}
 use Rattle.door_density.specs.DensityDoor.{density_door}
 use Rattle.door_density.proofs.from_density.Reads as from_density
 use Rattle.demands.specs.Demands as demands
-use Rattle.demands.specs.Demands.{Whatever, Exactly, OutOfRange, no_number, no_temperature, no_value, PastP, Ranged}
-use Rattle.demands.specs.Demands.{RefusesP, out_of_range, melting_fails, in_critical_box, line_fails, on_line, vapour_fails}
-use Rattle.demands.specs.Demands.{liquid_fails, no_crossing, probe_fails, state_fails, Answered, RefusesD, out_of_ranges}
-use Rattle.demands.specs.Demands.{in_the_box, no_vapour, no_liquid, between, no_pressure}
-use Rattle.demands.specs.Demands.{pressure_outside, no_melting, solid_there, no_state, AnsweredD}
-use Rattle.demands.specs.Demands.{Numbered, to_9, is_19, Settled, given, not_given, SameEight, LiesInRange}
+use Rattle.demands.specs.Demands.{Whatever, Exactly, OutOfRange, no_number, no_temperature, no_value, PastP, Ranged, RefusesP, out_of_range, melting_fails, in_critical_box, line_fails, on_line, vapour_fails, liquid_fails, no_crossing, probe_fails, state_fails, Answered, RefusesD, out_of_ranges, in_the_box, no_vapour, no_liquid, between, no_pressure, pressure_outside, no_melting, solid_there, no_state, AnsweredD, Numbered, to_9, is_19, Settled, given, not_given, SameEight, LiesInRange}
 use Rattle.demands.proofs.PressureDoors.{ends, pressure_refusals, pressure_answers, no_crossing_exactly}
 use Rattle.demands.proofs.DensityDoors.{density_refusals, density_answers}
 
@@ -129,7 +124,7 @@ module _ (E : Equation) (L : Limits) (lawful : Lawful E) where
       let a = pressure_answers E L lawful t p x e in
       let b = density_answers E L lawful t x.rho y f in
       let r = lawful.density t x.phase (of_bits binary64 a.bits) x a.worked in
-      lawful.same t x.phase y.phase x.rho x y (subst (λ (d : Float). E.state t x.phase d ≡ Known x) (sym r) a.worked) b.stated
+      lawful.same t x.phase y.phase x.rho x y (subst (λ (d : Float). E.state t x.phase d ≡ Some x) (sym r) a.worked) b.stated
 
 pub from_density_agrees : Whatever (from_pressure.Post tt) (λ a r. (x : State) → r ≡ answer.State x
     → Whatever (from_density.Post tt) (λ b q. b.0 ≡ a.0 → b.1.0 ≡ a.1.0 → b.1.1.0 ≡ x.rho → (y : State) → q ≡ answer.State y → eight y ≡ eight x))

@@ -1,16 +1,15 @@
 -- The density door, over any equation and any limits: each refusal exactly under its condition, and what an answer means. Assumes nothing.
+use Rattle.std.specs.Prelude.{Some, None}
 use Prim.Native.Nat.{ℕ}
 use mathlib.Core.Path.{◌≡◌, refl, sym, ap, subst, ◌∙◌}
 use mathlib.Core.Bool.{Bool, true, false, cond, ◌&&◌, not}
 use native.Mathlib.Omega.{arith}
 use lib.Ieee.{Float, lt, le}
-use Rattle.num_working.specs.declared.Worked.TheVariants.{Number}
 use Rattle.num_working.proofs.Cases.{by_test, by_working}
 use Rattle.eos_state.specs.declared.Phase.{Phase}
 use Rattle.eos_state.specs.declared.Phase.TheVariants.{Vapour, Liquid, Supercritical}
 use Rattle.eos_state.specs.declared.State.{State}
-use Rattle.eos_state.specs.declared.Stated.{Stated}
-use Rattle.eos_state.specs.declared.Stated.TheVariants.{Known, Unknown}
+use Rattle.eos_state.specs.State.{Stated}
 use Rattle.equation.specs.Equation.{Equation, Lawful}
 use Rattle.door_limits.specs.Limits.{outside}
 use Rattle.door_limits.specs.declared.Limits.{Limits}
@@ -21,10 +20,7 @@ use Rattle.door_answers.specs.Answer.{passed, answer_with}
 use Rattle.door_answers.specs.declared.Answer.{Answer}
 use Rattle.door_answers.specs.declared.Answer.TheVariants as answer
 use Rattle.door_density.specs.DensityDoor.{in_phase, beneath, entered, unboxed, density_door}
-use Rattle.demands.specs.Demands.{Fluid, InRangeD, in_box_d, PastD, Phased, above_critical, as_vapour, as_liquid}
-use Rattle.demands.specs.Demands.{RefusesD, out_of_ranges, in_the_box, no_vapour, no_liquid}
-use Rattle.demands.specs.Demands.{between, no_pressure, pressure_outside, no_melting, solid_there, no_state, AnsweredD}
-use Rattle.demands.specs.Demands.{DensityRefusals, DensityAnswers}
+use Rattle.demands.specs.Demands.{Fluid, InRangeD, in_box_d, PastD, Phased, above_critical, as_vapour, as_liquid, RefusesD, out_of_ranges, in_the_box, no_vapour, no_liquid, between, no_pressure, pressure_outside, no_melting, solid_there, no_state, AnsweredD, DensityRefusals, DensityAnswers}
 use Rattle.demands.proofs.Checks.{stops, passes, finds, stops_back, passes_back, melts}
 
 module _ (E : Equation) (L : Limits) (lawful : Lawful E) (t rho : Float) where
@@ -34,10 +30,10 @@ module _ (E : Equation) (L : Limits) (lawful : Lawful E) (t rho : Float) where
     answers : (x : State) → a ≡ answer.State x → AnsweredD E L t rho x → Explains a
 
   module _ (past : PastD E L t rho) where
-    of_state : (phase : Phase) → Phased E L t rho phase → (p : Float) → E.pressure t rho ≡ Number p → outside L.asked.pressure p ≡ false → Fluid E t p
+    of_state : (phase : Phase) → Phased E L t rho phase → (p : Float) → E.pressure t rho ≡ Some p → outside L.asked.pressure p ≡ false → Fluid E t p
         → (s : Stated) → E.state t phase rho ≡ s → Explains (answer_with s)
-    of_state phase phased p e o fluid Unknown q = refuses 7 refl (no_state past phased e o fluid q)
-    of_state phase phased p e o fluid (Known y) q =
+    of_state phase phased p e o fluid None q = refuses 7 refl (no_state past phased e o fluid q)
+    of_state phase phased p e o fluid (Some y) q =
         let k = sym (lawful.phase t phase rho y q) in
         let f = lawful.pressure t phase rho y q in
         let same : p ≡ y.p = cc in
@@ -50,7 +46,7 @@ module _ (E : Equation) (L : Limits) (lawful : Lawful E) (t rho : Float) where
           pressure = lawful.pressure t phase rho y q;
           within = subst (λ (z : Float). outside L.asked.pressure z ≡ false) same o;
           fluid = subst (Fluid E t) same fluid;
-          stated = subst (λ (h : Phase). E.state t h rho ≡ Known y) k q;
+          stated = subst (λ (h : Phase). E.state t h rho ≡ Some y) k q;
         })
 
     of_phase : (phase : Phase) → Phased E L t rho phase → Explains (in_phase E L phase t rho)
@@ -61,7 +57,7 @@ module _ (E : Equation) (L : Limits) (lawful : Lawful E) (t rho : Float) where
         (λ o. melts E t p Explains (answer_with (E.state t phase rho)) (λ m. refuses 7 refl (no_melting past phased e o m))
         (λ m w h. refuses 19 refl (solid_there past phased e o w h)) (λ fluid. of_state phase phased p e o fluid (E.state t phase rho) refl)))
 
-    sides : le E.critical t ≡ false → (v l : Float) → E.vapour_density t ≡ Number v → E.liquid_density t ≡ Number l
+    sides : le E.critical t ≡ false → (v l : Float) → E.vapour_density t ≡ Some v → E.liquid_density t ≡ Some l
         → (a b : Bool) → lt v rho ≡ a → lt rho l ≡ b
         → Explains (cond (a && b) (answer.Refused 8) (cond (not a) (in_phase E L Vapour t rho) (in_phase E L Liquid t rho)))
     sides cold v l e f true true g h = refuses 8 refl (between past cold e f g h)

@@ -1,12 +1,12 @@
 -- What the pressure door answers, the density door never calls solid: the pressure worked at the density found is not above the one asked, and that is not
 -- above the melting pressure. Over any lawful equation and any limits, and of the public functions. Assumes nothing.
+use Rattle.std.specs.Prelude.{Some}
 use Prim.Native.Nat.{ℕ}
 use mathlib.Core.Path.{◌≡◌, refl, sym, ap, ◌∙◌}
 use mathlib.Core.Bool.{true, true≢false}
 use native.Mathlib.Omega.{arith}
 use lib.Ieee.{Float, binary64, lt, of_bits}
 use lib.Ieee.Scale.{finite}
-use Rattle.num_working.specs.declared.Worked.TheVariants.{Number}
 use Rattle.num_laws.proofs.Comparisons.{not_above_through}
 use Rattle.eos_state.specs.declared.State.{State}
 use Rattle.equation.specs.Equation.{Equation, Lawful, of1996}
@@ -16,9 +16,7 @@ use Rattle.door_limits.specs.declared.Limits.{Limits}
 use Rattle.door_answers.specs.declared.Answer.TheVariants as answer
 use Rattle.door_pressure.proofs.from_pressure.Reads as from_pressure
 use Rattle.door_density.proofs.from_density.Reads as from_density
-use Rattle.demands.specs.Demands.{Whatever, OutOfRange, no_number, no_temperature, no_value, Answered, FluidBothWays}
-use Rattle.demands.specs.Demands.{RefusesD, out_of_ranges, in_the_box, no_vapour, no_liquid, between, no_pressure}
-use Rattle.demands.specs.Demands.{pressure_outside, no_melting, solid_there, no_state}
+use Rattle.demands.specs.Demands.{Whatever, OutOfRange, no_number, no_temperature, no_value, Answered, FluidBothWays, RefusesD, out_of_ranges, in_the_box, no_vapour, no_liquid, between, no_pressure, pressure_outside, no_melting, solid_there, no_state}
 use Rattle.demands.proofs.Checks.{second}
 use Rattle.demands.proofs.PressureDoors.{pressure_answers}
 use Rattle.demands.proofs.DensityDoors.{density_refusals}
@@ -27,8 +25,8 @@ use Rattle.demands.proofs.DensityDoors.{density_refusals}
 pub record SolidThere (E : Equation) (t rho : Float) : Type 0 where
   pub pressure : Float
   pub melting : Float
-  pub there : E.pressure t rho ≡ Number pressure
-  pub line : E.melting_pressure t ≡ Number melting
+  pub there : E.pressure t rho ≡ Some pressure
+  pub line : E.melting_pressure t ≡ Some melting
   pub above : lt melting pressure ≡ true
 
 no_check : {ts xs : Range} {t x : Float} {n : ℕ} → OutOfRange ts xs t x n → n ≡ 19 → ⊥
@@ -54,7 +52,7 @@ module _ (E : Equation) (L : Limits) (lawful : Lawful E) where
       let f = a.past.fluid in
       let n = a.found.here in
       let r = lawful.density t x.phase (of_bits binary64 a.bits) x a.worked in
-      let w : E.pressure t x.rho ≡ Number n.number = rw r n.worked in
+      let w : E.pressure t x.rho ≡ Some n.number = rw r n.worked in
       let same : s.pressure ≡ n.number = cc in
       let line : s.melting ≡ f.melting = cc in
       let asked = second (finite t) (finite p) a.past.ranged.numbers in

@@ -1,26 +1,24 @@
 -- A line: each refusal exactly under its condition, and what its milligrams are. Assumes nothing.
+use Rattle.std.specs.Prelude.{Some, None}
 use Prim.Native.Nat.{ℕ, ◌*◌}
 use mathlib.Core.Path.{◌≡◌, refl, ap, subst, ◌∙◌}
 use mathlib.Core.Bool.{true, false, cond}
 use native.Mathlib.Omega.{arith}
 use lib.Ieee.{Float, binary64, div}
 use Rattle.num_working.specs.Number.{whole}
-use Rattle.sheet_text.specs.declared.Field.{Field}
-use Rattle.sheet_mass.specs.Mass.{as_grams, as_milligrams, is_mass, milligrams_of, from_scale}
-use Rattle.sheet_mass.specs.declared.Scaled.{Scaled}
+use Rattle.sheet_text.specs.Field.{Field}
+use Rattle.sheet_mass.specs.Mass.{as_grams, as_milligrams, is_mass, milligrams_of, from_scale, Scaled}
 use Rattle.sheet_line.specs.Record.{recorded_of}
-use Rattle.sheet_line.specs.Line.{temperature_of, reading_of, line_of}
+use Rattle.sheet_line.specs.Line.{temperature_of, reading_of, line_of, Temperature}
 use Rattle.sheet_line.specs.declared.cylinder.Kind.{Kind}
 use Rattle.sheet_line.specs.declared.cylinder.Cylinder.{Cylinder}
-use Rattle.sheet_line.specs.declared.line.Temperature.{Temperature}
 use Rattle.eos_state.specs.declared.State.{State}
 use Rattle.equation.specs.Equation.{of1996}
 use Rattle.door_limits.specs.declared.Limits.{Limits}
 use Rattle.door_answers.specs.declared.Answer.{Answer}
 use Rattle.door_pressure.specs.PressureDoor.{pressure_door}
 use Rattle.door_density.specs.DensityDoor.{density_door}
-use Rattle.num_whole.specs.Whole.{whole_below}
-use Rattle.num_whole.specs.declared.Below.{Below}
+use Rattle.num_whole.specs.Whole.{whole_below, Below}
 use Rattle.num_working.proofs.Cases.{by_test}
 use Rattle.sheet_weigh.specs.Weighing.{if_number, is_volume, filled, on_scale, mass, milligrams, by_answer, by_reading, weighed}
 use Rattle.sheet_outcome.specs.declared.Weighed.{Weighed}
@@ -28,9 +26,7 @@ use Rattle.sheet_report.proofs.Reports.{number_of}
 use Rattle.demands.specs.Demands.{Exactly}
 use Rattle.demands.proofs.Ranges.{Outside, below_one, above_top, inside, outside, is_inside, is_outside}
 use Rattle.demands.specs.Lines as lines
-use Rattle.demands.specs.Lines.{AtDoor, for_pressure, for_density, Dashed, in_number, in_temperature, in_value, in_volume, Asked, by_pressure}
-use Rattle.demands.specs.Lines.{by_density, Figures, Volume, NoVolume, none, too_large, Mass, NoMass, no_grams, too_heavy, OnScale}
-use Rattle.demands.specs.Lines.{product, RefusesLine, no_volume, no_volume_weighed, no_mass, by_door, no_product, Weighs, by_product, by_scale}
+use Rattle.demands.specs.Lines.{AtDoor, for_pressure, for_density, Dashed, in_number, in_temperature, in_value, in_volume, Asked, by_pressure, by_density, Figures, Volume, NoVolume, none, too_large, Mass, NoMass, no_grams, too_heavy, OnScale, product, RefusesLine, no_volume, no_volume_weighed, no_mass, by_door, no_product, Weighs, by_product, by_scale}
 
 -- ---- the volume
 
@@ -77,8 +73,8 @@ module _ (L : Limits) where
 
   module _ (c : Cylinder) where
     of_product : {v : ℕ} (s : State) (b : Below) → Figures L c v (Answer.State s) → Volume v → whole_below (product s v) ≡ b → Comes c (mass b)
-    of_product s (Below.At mg) f r e = weighs (by_product f r e)
-    of_product s Below.Out f r e = refused (no_product f r e)
+    of_product s (Some mg) f r e = weighs (by_product f r e)
+    of_product s None f r e = refused (no_product f r e)
 
     of_answer : {v : ℕ} (a : Answer) → Figures L c v a → Volume v → Comes c (by_answer a v)
     unfolding milligrams
@@ -88,7 +84,7 @@ module _ (L : Limits) where
     of_scale : {v : ℕ} (g : ℕ) → OnScale c v g → Volume v → Comes c (on_scale (from_scale (as_grams g)))
     unfolding from_scale milligrams_of
     of_scale g f r =
-        by_test (λ (s : Scaled). Comes c (on_scale s)) (is_mass g) (Scaled.At (as_milligrams (1000 * g))) Scaled.Out
+        by_test (λ (s : Scaled). Comes c (on_scale s)) (is_mass g) (Some (as_milligrams (1000 * g))) None
         (λ e. weighs (by_scale f r (in_mass_range g e))) (λ e. refused (no_mass f r (out_of_mass_range (outside 9_999_999_999 g e))))
 
     of_volume : {v : ℕ} (w : Weighed) → (Volume v → Comes c w) → (NoVolume v → RefusesLine L c 2) → Comes c (filled v w)
@@ -103,20 +99,20 @@ module _ (L : Limits) where
     of_parts : (n : Field) → c.number ≡ n → (g : Field) → c.volume ≡ g → (k : Field) → c.temperature ≡ k → (d : Kind) → c.kind ≡ d
         → (x : Field) → c.value ≡ x → Comes c (if_number n (λ _. if_number g (λ v. by_reading L (temperature_of k) v (reading_of (recorded_of d x)))))
     unfolding by_reading
-    of_parts Field.Blank e g h k f d p x q = refused (lines.blank (in_number e))
-    of_parts (Field.Number n) e Field.Blank h k f d p x q = refused (lines.blank (in_volume h))
-    of_parts (Field.Number n) e (Field.Number v) h k f d p Field.Blank q = refused (lines.blank (in_value q))
-    of_parts (Field.Number n) e (Field.Number v) h Field.Blank f Kind.Pressure p (Field.Number x) q = refused (lines.blank (in_temperature (rw p for_pressure) f))
-    of_parts (Field.Number n) e (Field.Number v) h Field.Blank f Kind.Density p (Field.Number x) q = refused (lines.blank (in_temperature (rw p for_density) f))
-    of_parts (Field.Number n) e (Field.Number v) h (Field.Number k) f Kind.Pressure p (Field.Number x) q =
+    of_parts None e g h k f d p x q = refused (lines.blank (in_number e))
+    of_parts (Some n) e None h k f d p x q = refused (lines.blank (in_volume h))
+    of_parts (Some n) e (Some v) h k f d p None q = refused (lines.blank (in_value q))
+    of_parts (Some n) e (Some v) h None f Kind.Pressure p (Some x) q = refused (lines.blank (in_temperature (rw p for_pressure) f))
+    of_parts (Some n) e (Some v) h None f Kind.Density p (Some x) q = refused (lines.blank (in_temperature (rw p for_density) f))
+    of_parts (Some n) e (Some v) h (Some k) f Kind.Pressure p (Some x) q =
         let t = div binary64 (whole k) (whole 10000) in
         let a = pressure_door of1996 L t (whole x) in
         at_door a (record { cylinder = n; degrees = k; number = e; temperature = f; volume = h; asked = rw (p, q) (by_pressure x) })
-    of_parts (Field.Number n) e (Field.Number v) h (Field.Number k) f Kind.Density p (Field.Number x) q =
+    of_parts (Some n) e (Some v) h (Some k) f Kind.Density p (Some x) q =
         let t = div binary64 (whole k) (whole 10000) in
         let a = density_door of1996 L t (div binary64 (whole x) (whole 1000)) in
         at_door a (record { cylinder = n; degrees = k; number = e; temperature = f; volume = h; asked = rw (p, q) (by_density x) })
-    of_parts (Field.Number n) e (Field.Number v) h k f Kind.Weighed p (Field.Number x) q =
+    of_parts (Some n) e (Some v) h k f Kind.Weighed p (Some x) q =
         let s : OnScale c v x = record { cylinder = n; number = e; kind = p; value = q; volume = h } in
         of_volume (on_scale (from_scale (as_grams x))) (of_scale x s) (no_volume_weighed s)
 
@@ -127,15 +123,15 @@ module _ (L : Limits) where
     -- ---- DEMAND 2: a blank is refused by 1, whatever the other fields are, and never read as a number
 
     of_number : (n : Field) (f : ℕ → Weighed) → ((k : ℕ) → f k ≡ Weighed.Refused 1) → if_number n f ≡ Weighed.Refused 1
-    of_number Field.Blank f h = refl
-    of_number (Field.Number n) f h = h n
+    of_number None f h = refl
+    of_number (Some n) f h = h n
 
-    no_temperature : (v : ℕ) (d : Kind) (x : Field) → AtDoor d → by_reading L Temperature.Blank v (reading_of (recorded_of d x)) ≡ Weighed.Refused 1
+    no_temperature : (v : ℕ) (d : Kind) (x : Field) → AtDoor d → by_reading L None v (reading_of (recorded_of d x)) ≡ Weighed.Refused 1
     unfolding by_reading
-    no_temperature v d Field.Blank a = refl
-    no_temperature v Kind.Pressure (Field.Number x) a = refl
-    no_temperature v Kind.Density (Field.Number x) a = refl
-    no_temperature v Kind.Weighed (Field.Number x) a = absurd (not_weighed a refl)
+    no_temperature v d None a = refl
+    no_temperature v Kind.Pressure (Some x) a = refl
+    no_temperature v Kind.Density (Some x) a = refl
+    no_temperature v Kind.Weighed (Some x) a = absurd (not_weighed a refl)
 
     pub dash_refused : Dashed c → weighed L (line_of c) ≡ Weighed.Refused 1
     unfolding weighed by_reading
@@ -147,7 +143,7 @@ module _ (L : Limits) where
     -- ---- and where none is, the door is asked, or the scale
 
     at_the_door : (t : Float) (d : Kind) (x : Field) (a : Answer) (v : ℕ) → Asked L t d x a
-        → by_reading L (Temperature.Kelvin t) v (reading_of (recorded_of d x)) ≡ filled v (by_answer a v)
+        → by_reading L (Some t) v (reading_of (recorded_of d x)) ≡ filled v (by_answer a v)
     unfolding by_reading
     at_the_door t d x a v (by_pressure n) = refl
     at_the_door t d x a v (by_density n) = refl

@@ -1,4 +1,5 @@
 -- By the limits of RULES 2.2 no door answers a density above 1,400 kg/m³, and so a door's line has no more than 1,400,000,000 mg. Assumes nothing.
+use Rattle.std.specs.Prelude.{Some, None}
 use Prim.Native.Nat.{ℕ, ◌+◌, ◌*◌, ◌^◌, ◌≤◌, ◌<◌}
 use mathlib.Core.Path.{◌≡◌, refl, sym, subst}
 use mathlib.Core.Bool.{Bool, true, false, cond, ◌||◌, true≢false}
@@ -15,10 +16,8 @@ use lib.Ieee.Positive as Positive
 use lib.Ieee.Positive.{den, den_pos, positive, value→cross}
 use lib.Ieee.Scale.{finite}
 use Rattle.num_working.specs.Number.{whole, decimal, fraction, nonneg}
-use Rattle.num_working.specs.declared.Worked.{Worked}
-use Rattle.num_working.specs.declared.Worked.TheVariants.{Number, Failed}
-use Rattle.num_whole.specs.Whole.{whole_below}
-use Rattle.num_whole.specs.declared.Below.{Below}
+use Rattle.num_working.specs.Working.{Worked}
+use Rattle.num_whole.specs.Whole.{whole_below, Below}
 use Rattle.num_whole.proofs.Wholes.{is_at_or_below}
 use Rattle.num_laws.proofs.Orders.{cross, under, round_unsigned, bits_mono, Ordered}
 use Rattle.num_laws.proofs.Sums.{Ranked, ordered, not_below, onward, mul_keeps}
@@ -40,7 +39,7 @@ use Rattle.door_answers.specs.declared.Answer.TheVariants as answer
 use Rattle.door_pressure.specs.PressureDoor.{scaled, pressure_door}
 use Rattle.door_pressure.proofs.Searches.{bits_below}
 use Rattle.door_density.specs.DensityDoor.{density_door}
-use Rattle.sheet_text.specs.declared.Field.{Field}
+use Rattle.sheet_text.specs.Field.{Field}
 use Rattle.sheet_line.specs.declared.cylinder.Kind.{Kind}
 use Rattle.sheet_line.specs.declared.cylinder.Cylinder.{Cylinder}
 use Rattle.demands.specs.Demands as demands
@@ -89,8 +88,8 @@ below_critical t p r (lower cold e f g) =
 
 scaled_most : (w : Worked) → UpTo span_wagner.density w → UpTo (whole 1400) (scaled search_ends.vapour w)
 unfolding work search_ends span_wagner decimal fraction mul le whole of_int round
-scaled_most Failed u = tt
-scaled_most (Number d) u =
+scaled_most None u = tt
+scaled_most (Some d) u =
     let a = search_ends.vapour in
     let c = span_wagner.density in
     further (mul binary64 a c) (whole 1400) (work (num a ⊗ num d)) (in_order tt)
@@ -152,7 +151,7 @@ whole_back m n h k o =
     let l = cross x y o.first o.second o.order in
     omega (arith, transfer m n 1 1 (Positive.num x) (Positive.num y) (den x) (den y) (den_pos x) (den_pos y) (sym a) (sym b) l)
 
-below_most : (x : Float) (n top : ℕ) → top < 2 ^ 53 → Ordered x (whole top) → whole_below x ≡ Below.At n → n ≤ top
+below_most : (x : Float) (n top : ℕ) → top < 2 ^ 53 → Ordered x (whole top) → whole_below x ≡ Some n → n ≤ top
 unfolding whole of_int
 below_most x n top h o e =
     let b = is_at_or_below x n e in
@@ -161,7 +160,7 @@ below_most x n top h o e =
     whole_back n top b.2 h (onward r o)
 
 -- ---- the milligrams of such a density in a volume of RULES 2.4
-pub milligrams_most : (rho : Float) (v mg : ℕ) → Ordered rho (whole 1400) → v ≤ 1_000_000 → whole_below (mul binary64 rho (whole v)) ≡ Below.At mg
+pub milligrams_most : (rho : Float) (v mg : ℕ) → Ordered rho (whole 1400) → v ≤ 1_000_000 → whole_below (mul binary64 rho (whole v)) ≡ Some mg
     → mg ≤ 1_400_000_000
 unfolding mul le whole of_int round
 milligrams_most rho v mg o h e =
@@ -173,6 +172,6 @@ answer_most : (t : Float) (k : Kind) (f : Field) (a : Answer) (x : State) → As
 answer_most t k f a x (by_pressure n) e = pressure_door_most t (whole n) x e
 answer_most t k f a x (by_density n) e = density_door_most t (div binary64 (whole n) (whole 1000)) x e
 
-pub line_most : (c : Cylinder) (v mg : ℕ) (s : State) → Figures document01 c v (answer.State s) → Volume v → whole_below (product s v) ≡ Below.At mg
+pub line_most : (c : Cylinder) (v mg : ℕ) (s : State) → Figures document01 c v (answer.State s) → Volume v → whole_below (product s v) ≡ Some mg
     → mg ≤ 1_400_000_000
 line_most c v mg s f r e = milligrams_most s.rho v mg (answer_most _ _ _ _ s f.asked refl) r.at_most e

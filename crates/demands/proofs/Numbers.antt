@@ -1,4 +1,5 @@
 -- The number of a line's refusal: from 1 to 9, 19 or 23; on its sheet also 30, and that only of a number that stands there twice. Assumes nothing.
+use Rattle.std.specs.Prelude.{Some}
 use Prim.Native.Nat.{ℕ, ◌≤◌, ◌<◌}
 use mathlib.Core.Path.{◌≡◌, refl, subst}
 use mathlib.Core.List.{List, map}
@@ -6,7 +7,7 @@ use native.Mathlib.Omega.{arith}
 use lib.ListN.{length}
 use lib.Ieee.{Float, binary64, div}
 use Rattle.num_working.specs.Number.{whole}
-use Rattle.sheet_text.specs.declared.Field.{Field}
+use Rattle.sheet_text.specs.Field.{Field}
 use Rattle.sheet_line.specs.Line.{line_of}
 use Rattle.sheet_line.specs.declared.cylinder.Kind.{Kind}
 use Rattle.sheet_line.specs.declared.cylinder.Cylinder.{Cylinder}
@@ -72,7 +73,7 @@ refused_by_30 L cs i h = (λ e. go 30 refl ((refusals_at L cs i h 30).0 e), λ p
 
 -- and then the line that is named first has that number, stands before it, and none before that one has the number
 pub first_named : (L : Limits) (cs : List Cylinder) (i : ℕ) → i < length cs → came L cs i ≡ Weighed.Refused 30
-    → (n : ℕ) × ((at cs i).number ≡ Field.Number n) × First (map line_of cs) i n (first_with 1 (map line_of cs) n)
+    → (n : ℕ) × ((at cs i).number ≡ Some n) × First (map line_of cs) i n (first_with 1 (map line_of cs) n)
 first_named L cs i h e =
     let p = (refused_by_30 L cs i h).0 e in
     first_of_again (map line_of cs) i (line_of (at cs i)) (stands_again cs i p.0 p.1)

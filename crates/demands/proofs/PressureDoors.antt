@@ -1,10 +1,11 @@
 -- The pressure door, over any equation and any limits: each refusal exactly under its condition, and what an answer means. Assumes nothing.
+use Rattle.std.specs.Prelude.{Some, None}
 use Prim.Native.Nat.{ℕ, ◌^◌, ◌≤◌}
 use mathlib.Core.Path.{◌≡◌, refl, sym, ap, subst, ◌∙◌}
 use mathlib.Core.Bool.{false}
 use native.Mathlib.Omega.{arith}
 use lib.Ieee.{Float, binary64, eq, lt, le, of_bits, to_bits}
-use Rattle.num_working.specs.declared.Worked.{Worked}
+use Rattle.num_working.specs.Working.{Worked}
 use Rattle.num_working.proofs.Cases.{by_test, by_working}
 use Rattle.num_halving.specs.Halving.{NoCrossing, halve}
 use Rattle.num_halving.specs.declared.Crossing.{Crossing}
@@ -13,8 +14,7 @@ use Rattle.num_halving.proofs.Halvings.{answer, nowhere, nowhere_back, breaks, b
 use Rattle.eos_state.specs.declared.Phase.{Phase}
 use Rattle.eos_state.specs.declared.Phase.TheVariants.{Vapour, Liquid, Supercritical}
 use Rattle.eos_state.specs.declared.State.{State}
-use Rattle.eos_state.specs.declared.Stated.{Stated}
-use Rattle.eos_state.specs.declared.Stated.TheVariants.{Known, Unknown}
+use Rattle.eos_state.specs.State.{Stated}
 use Rattle.equation.specs.Equation.{Equation, Lawful}
 use Rattle.door_limits.specs.Limits.{search_ends}
 use Rattle.door_limits.specs.declared.Limits.{Limits}
@@ -29,10 +29,7 @@ use Rattle.door_pressure.specs.PressureDoor.{scaled, vapour, liquid, beneath, en
 use Rattle.door_pressure.proofs.Doors.{Reached, searchable, scaled_reached}
 use Rattle.door_pressure.proofs.Searches.{bits_below}
 use Rattle.demands.specs.Demands as demands
-use Rattle.demands.specs.Demands.{Fluid, InRangeP, in_box_p, PastP, Beside, lower, higher, Ranged}
-use Rattle.demands.specs.Demands.{supercritical, RefusesP, out_of_range, melting_fails, in_critical_box, line_fails, on_line}
-use Rattle.demands.specs.Demands.{vapour_fails, liquid_fails, no_crossing, probe_fails, state_fails}
-use Rattle.demands.specs.Demands.{Answered, PressureRefusals, PressureAnswers, NoCrossingExactly}
+use Rattle.demands.specs.Demands.{Fluid, InRangeP, in_box_p, PastP, Beside, lower, higher, Ranged, supercritical, RefusesP, out_of_range, melting_fails, in_critical_box, line_fails, on_line, vapour_fails, liquid_fails, no_crossing, probe_fails, state_fails, Answered, PressureRefusals, PressureAnswers, NoCrossingExactly}
 use Rattle.demands.proofs.Checks.{stops, passes, finds, stops_back, passes_back, melts, thawed_back}
 
 -- ---- the ends of a range have no minus sign, and are numbers that an f64 holds
@@ -69,8 +66,8 @@ module _ (E : Equation) (L : Limits) (lawful : Lawful E) (t p : Float) where
       hi = to_bits binary64 to
 
       of_state : (r : ℕ) → halve f p lo hi ≡ At r → (s : Stated) → E.state t phase (of_bits binary64 r) ≡ s → Explains (answer_with s)
-      of_state r e Unknown q = refuses 7 refl (state_fails past ranged e q)
-      of_state r e (Known y) q =
+      of_state r e None q = refuses 7 refl (state_fails past ranged e q)
+      of_state r e (Some y) q =
           let k = sym (lawful.phase t phase (of_bits binary64 r) y q) in
           answers y refl
           (record {
@@ -80,7 +77,7 @@ module _ (E : Equation) (L : Limits) (lawful : Lawful E) (t p : Float) where
             past = past;
             ranged = subst (λ (h : Phase). Ranged E L t p h from to) k ranged;
             found = answer f p lo hi r (top ranged) e;
-            worked = subst (λ (h : Phase). E.state t h (of_bits binary64 r) ≡ Known y) k q;
+            worked = subst (λ (h : Phase). E.state t h (of_bits binary64 r) ≡ Some y) k q;
             temperature = lawful.temperature t phase (of_bits binary64 r) y q;
             pressure = lawful.pressure t phase (of_bits binary64 r) y q;
           })
@@ -192,8 +189,8 @@ module _ (E : Equation) (L : Limits) (lawful : Lawful E) where
       (λ e. is_nowhere (sym (searches E L lawful t p past ranged) ∙ e), λ n. refuses_back E L lawful t p (no_crossing past ranged n))
     where
       of_state : (s : Stated) → answer_with s ≡ answer.Refused 9 → ⊥
-      of_state Unknown e = let z : ◌≡◌ {A = ℕ} 7 9 = cc in omega arith
-      of_state (Known y) e = let z : ◌≡◌ {A = ℕ} 0 1 = cc in omega arith
+      of_state None e = let z : ◌≡◌ {A = ℕ} 7 9 = cc in omega arith
+      of_state (Some y) e = let z : ◌≡◌ {A = ℕ} 0 1 = cc in omega arith
 
       of_crossing : (c : Crossing) → halve (figure (E.pressure t)) p (to_bits binary64 from) (to_bits binary64 to) ≡ c
           → found (E.state t phase) c ≡ answer.Refused 9 → NoCrossing (figure (E.pressure t)) p (to_bits binary64 from) (to_bits binary64 to)

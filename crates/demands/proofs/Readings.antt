@@ -3,8 +3,7 @@ use mathlib.Core.Path.{◌≡◌, refl, ap, ◌∙◌}
 use mathlib.Core.List.{List, ◌++◌, map}
 use lib.Ieee.{of_int, round, add, sub, mul, div, lt}
 use Rattle.num_working.specs.Number.{whole, decimal, fraction}
-use Rattle.num_working.specs.Working.{◌+ᵂ◌, ◌-ᵂ◌, ◌*ᵂ◌, ◌/ᵂ◌}
-use Rattle.num_working.specs.declared.Worked.{Worked}
+use Rattle.num_working.specs.Working.{◌+ᵂ◌, ◌-ᵂ◌, ◌*ᵂ◌, ◌/ᵂ◌, Worked}
 use Rattle.num_powers.specs.Power.{power, ◌^ᵂ◌}
 use Rattle.num_formulas.specs.Formula.{work}
 use Rattle.num_formulas.specs.Readings as numerics

@@ -1,5 +1,6 @@
 -- A line's record, and a weighed line: by what it is refused and with what it is answered, that its temperature is not used, the largest total, and what is as
 -- it was. Assumes nothing.
+use Rattle.std.specs.Prelude.{Some, None}
 use Prim.Native.Nat.{ℕ, ◌*◌, ◌≤◌}
 use mathlib.Core.Path.{◌≡◌, refl, ap, subst, ◌∙◌}
 use mathlib.Core.Bool.{true}
@@ -11,8 +12,7 @@ use lib.Ieee.{Float}
 use Rattle.door_limits.specs.Limits.{document01}
 use Rattle.door_limits.specs.declared.Limits.{Limits}
 use Rattle.door_answers.specs.declared.Answer.{Answer}
-use Rattle.sheet_text.specs.Field.{field_text}
-use Rattle.sheet_text.specs.declared.Field.{Field}
+use Rattle.sheet_text.specs.Field.{field_text, Field}
 use Rattle.sheet_text.proofs.Parses.{none_or_some}
 use Rattle.sheet_mass.specs.Mass.{milligrams_of, from_scale}
 use Rattle.sheet_line.specs.Cylinder.{kind_letter, cylinder_text}
@@ -25,38 +25,33 @@ use Rattle.sheet_line.proofs.Printed.{opened}
 use Rattle.sheet_read.specs.Form.{Bank, cylinders_text, text, in_form}
 use Rattle.sheet_read.proofs.Inverse.{the_form}
 use Rattle.sheet_standing.specs.Standing.{lacking, is_on, numbers, standing}
-use Rattle.sheet_outcome.specs.Outcome.{admitted, total}
-use Rattle.sheet_outcome.specs.declared.Summed.{Summed}
+use Rattle.sheet_outcome.specs.Outcome.{admitted, total, Summed}
 use Rattle.sheet_outcome.specs.declared.Weighed.{Weighed}
 use Rattle.sheet_outcome.specs.declared.Mark.{Mark}
 use Rattle.sheet_weigh.specs.Weighing.{if_passed, filled, by_reading, weighed, weighed_after}
 use Rattle.sheet_weigh.specs.Sheet.{mark, marked_after, marked}
 use Rattle.sheet_score.specs.Score.{listed, report}
 use Rattle.demands.specs.Lines as lines
-use Rattle.demands.specs.Lines.{AtDoor, for_pressure, for_density, Dashed, in_number, in_temperature, in_value, in_volume, Asked, by_pressure, by_density}
-use Rattle.demands.specs.Lines.{OnScale, RefusesLine, no_volume, no_volume_weighed, no_mass, by_door, no_product, Weighs, by_product, by_scale}
+use Rattle.demands.specs.Lines.{AtDoor, for_pressure, for_density, Dashed, in_number, in_temperature, in_value, in_volume, Asked, by_pressure, by_density, OnScale, RefusesLine, no_volume, no_volume_weighed, no_mass, by_door, no_product, Weighs, by_product, by_scale}
 use Rattle.demands.specs.Twice.{at, Again, RefusesAt, lacks, is_again, alone, WeighsAt}
-use Rattle.demands.specs.Scales.{Lacks, lacks_number, lacks_value, lacks_volume, RefusesScale, by_1, by_30, by_2, by_23, AnswersScale, thousandfold}
-use Rattle.demands.specs.Scales.{ScaleRefusals, ScaleAnswers, with_temperature, ButForTemperatures, no_more, alike, other, TemperatureNotUsed}
+use Rattle.demands.specs.Scales.{Lacks, lacks_number, lacks_value, lacks_volume, RefusesScale, by_1, by_30, by_2, by_23, AnswersScale, thousandfold, ScaleRefusals, ScaleAnswers, with_temperature, ButForTemperatures, no_more, alike, other, TemperatureNotUsed, largest, LargestTotal, heaviest, LargestReached, NoneOnScale, not_one, not_this, line_then, standing_then, weighed_then, marked_then, report_then, AsThen, TextAsThen, KeepsReading, keeps_none, keeps_pressure, keeps_density, keeps_grams, Keeps, Without, ReportedThen, was_in_form, was_not}
 use Rattle.demands.specs.Sheets.{sum, AllWeighed, none_left, one_more}
-use Rattle.demands.specs.Scales.{largest, LargestTotal, heaviest, LargestReached, NoneOnScale, not_one, not_this, line_then, standing_then, weighed_then, marked_then, report_then, AsThen, TextAsThen}
-use Rattle.demands.specs.Scales.{KeepsReading, keeps_none, keeps_pressure, keeps_density, keeps_grams, Keeps, Without, ReportedThen, was_in_form, was_not}
 use Rattle.demands.proofs.Mosts.{line_most}
 use Rattle.demands.proofs.Lines.{not_weighed, line_answers}
 use Rattle.demands.proofs.Twice.{refusals_at, answers_at}
 use Rattle.demands.proofs.Sheets.{Tally, refused, summed, tally, each_alone}
 
 abbrev held : Summed → ℕ
-held (Summed.Sum mg) = mg.0
-held Summed.Refused = 0
+held (Some mg) = mg.0
+held None = 0
 
 -- ---- A LINE'S RECORD KEEPS ALL THAT THE LINE SAYS
 
 keeps_reading : (c : Cylinder) (k : Kind) (x : Field) → c.kind ≡ k → c.value ≡ x → KeepsReading c (recorded_of k x)
-keeps_reading c k Field.Blank p q = keeps_none q
-keeps_reading c Kind.Pressure (Field.Number n) p q = keeps_pressure p q
-keeps_reading c Kind.Density (Field.Number n) p q = keeps_density p q
-keeps_reading c Kind.Weighed (Field.Number n) p q = keeps_grams p q
+keeps_reading c k None p q = keeps_none q
+keeps_reading c Kind.Pressure (Some n) p q = keeps_pressure p q
+keeps_reading c Kind.Density (Some n) p q = keeps_density p q
+keeps_reading c Kind.Weighed (Some n) p q = keeps_grams p q
 
 pub record_keeps : (c : Cylinder) → Keeps c (record_of c)
 record_keeps c = record { number = refl; temperature = refl; volume = refl; reading = keeps_reading c c.kind c.value refl refl }
@@ -102,7 +97,7 @@ lacked k (in_temperature a e) = absurd (not_weighed a k)
 lacked k (in_value e) = lacks_value e
 lacked k (in_volume e) = lacks_volume e
 
-apart : {A : Type 0} {n : ℕ} {f : Field} → f ≡ Field.Blank → f ≡ Field.Number n → A
+apart : {A : Type 0} {n : ℕ} {f : Field} → f ≡ None → f ≡ Some n → A
 apart p q = let z : ◌≡◌ {A = ℕ} 0 1 = cc in absurd (omega arith)
 
 whole_line : {c : Cylinder} {v g : ℕ} → OnScale c v g → Dashed c → ⊥
@@ -128,7 +123,7 @@ sum_most (c ∷ cs) (one_more {mg = mg} e a) = omega (arith, weighs_most ((line_
 pub largest_total_of_all : LargestTotal
 largest_total_of_all cs mg h e = go (total (marked document01 (map line_of cs))) (tally (marked document01 (map line_of cs))) e
   where
-    go : (s : Summed) → Tally (marked document01 (map line_of cs)) s → s ≡ Summed.Sum mg → mg.0 ≤ largest
+    go : (s : Summed) → Tally (marked document01 (map line_of cs)) s → s ≡ Some mg → mg.0 ≤ largest
     go s (refused i n k r) p = let z : ◌≡◌ {A = ℕ} 0 1 = cc in absurd (omega arith)
     go s (summed mgs a) p =
         let m : sum mgs ≡ mg.0 = ap held p in
@@ -178,8 +173,8 @@ module _ (L : Limits) where
   any_temperature : (before : List ℕ) (n s t x v : Field)
       → weighed_after L before (line_of (weighed_line n s x v)) ≡ weighed_after L before (line_of (weighed_line n t x v))
   unfolding weighed_after standing lacking weighed by_reading
-  any_temperature before n s t Field.Blank v = refl
-  any_temperature before n s t (Field.Number g) v = refl
+  any_temperature before n s t None v = refl
+  any_temperature before n s t (Some g) v = refl
 
   other_mark : (before : List ℕ) (c : Cylinder) (t : Field) → c.kind ≡ Kind.Weighed
       → mark L before (line_of c) ≡ mark L before (line_of (with_temperature t c))
@@ -221,16 +216,16 @@ module _ (L : Limits) where
   by_fields : (before : List ℕ) (n t : Field) (k : Kind) (x v : Field) → AtDoor k
       → (let c : Cylinder = record { number = n; temperature = t; kind = k; value = x; volume = v } in weighed_after L before (line_of c) ≡ came_then before (line_then c))
   unfolding weighed_after standing lacking weighed by_reading filled
-  by_fields before Field.Blank t k x v a = refl
-  by_fields before (Field.Number n) Field.Blank k x Field.Blank a = refl
-  by_fields before (Field.Number n) Field.Blank k Field.Blank (Field.Number v) a = refl
-  by_fields before (Field.Number n) Field.Blank Kind.Pressure (Field.Number x) (Field.Number v) a = refl
-  by_fields before (Field.Number n) Field.Blank Kind.Density (Field.Number x) (Field.Number v) a = refl
-  by_fields before (Field.Number n) (Field.Number t) k x Field.Blank a = refl
-  by_fields before (Field.Number n) (Field.Number t) k Field.Blank (Field.Number v) a = refl
-  by_fields before (Field.Number n) (Field.Number t) Kind.Pressure (Field.Number x) (Field.Number v) a = refl
-  by_fields before (Field.Number n) (Field.Number t) Kind.Density (Field.Number x) (Field.Number v) a = refl
-  by_fields before (Field.Number n) t Kind.Weighed (Field.Number x) (Field.Number v) a = absurd (not_weighed a refl)
+  by_fields before None t k x v a = refl
+  by_fields before (Some n) None k x None a = refl
+  by_fields before (Some n) None k None (Some v) a = refl
+  by_fields before (Some n) None Kind.Pressure (Some x) (Some v) a = refl
+  by_fields before (Some n) None Kind.Density (Some x) (Some v) a = refl
+  by_fields before (Some n) (Some t) k x None a = refl
+  by_fields before (Some n) (Some t) k None (Some v) a = refl
+  by_fields before (Some n) (Some t) Kind.Pressure (Some x) (Some v) a = refl
+  by_fields before (Some n) (Some t) Kind.Density (Some x) (Some v) a = refl
+  by_fields before (Some n) t Kind.Weighed (Some x) (Some v) a = absurd (not_weighed a refl)
 
   marks_as_then : (before : List ℕ) {cs : List Cylinder} → NoneOnScale cs → marked_after L before (map line_of cs) ≡ marked_then L before (map line_then cs)
   unfolding marked_after marked_then numbers

@@ -1,4 +1,5 @@
 -- A sheet: its report, for every byte string, and every byte of the lent output. Assumes nothing.
+use Rattle.std.specs.Prelude.{Some, None}
 use Prim.Native.Nat.{ℕ, zero, suc, ◌+◌, ◌-◌, ◌*◌, ◌^◌, ◌≤◌, ◌<◌}
 use mathlib.Core.Path.{◌≡◌, refl, sym, ap, subst, ◌∙◌}
 use mathlib.Core.Bool.{true}
@@ -13,7 +14,7 @@ use Rattle.door_limits.specs.declared.Limits.{Limits}
 use lib.ListN.{length, drop, get_or, length-map}
 use lib.Seq.{get_or-append-add, get_or-drop}
 use borrow.Author.Tests.{eqb-true, eqb-false, ltb-true, ltb-false, leb-true, leb-false, ne_eqb, lt-ltb, le-ltb, le-leb, lt-leb}
-use Rattle.sheet_text.specs.declared.Field.{Field}
+use Rattle.sheet_text.specs.Field.{Field}
 use Rattle.sheet_mass.specs.Mass.{as_milligrams}
 use Rattle.sheet_mass.specs.declared.Milligrams.{Milligrams}
 use Rattle.sheet_line.specs.Line.{line_of, blank_line}
@@ -30,17 +31,15 @@ use Rattle.sheet_report.specs.Report.{lines_bytes, ending_bytes, ReportIs}
 use Rattle.sheet_outcome.specs.declared.Mark.{Mark}
 use Rattle.sheet_outcome.specs.declared.Weighed.{Weighed}
 use Rattle.sheet_report.specs.declared.Written.{Written}
-use Rattle.sheet_outcome.specs.Outcome.{is_need, needed, admitted, plus, total, ending}
+use Rattle.sheet_outcome.specs.Outcome.{is_need, needed, admitted, plus, total, ending, Summed}
 use Rattle.sheet_score.specs.Score.{sent_back, listed, report}
 use Rattle.sheet_outcome.specs.declared.Admitted.{Admitted}
 use Rattle.sheet_outcome.specs.declared.Ending.{Ending}
-use Rattle.sheet_outcome.specs.declared.Summed.{Summed}
 use Rattle.sheet_score.proofs.score.Reads as score
 use Rattle.demands.specs.Demands.{Exactly}
 use Rattle.demands.proofs.Ranges.{Outside, below_one, above_top, inside, outside, is_inside, is_outside}
 use Rattle.demands.specs.Sheets as sheets
-use Rattle.demands.specs.Sheets.{lines, OneRefused, here, there, AllWeighed, none_left, one_more, sum, NoNeed, no_agent, too_much, Lined, Needs, Reported}
-use Rattle.demands.specs.Sheets.{not_in_form, no_lines, many_lines, no_need, one_refused, named_twice, covered, short, Delivered, fits, too_long, Delivers}
+use Rattle.demands.specs.Sheets.{lines, OneRefused, here, there, AllWeighed, none_left, one_more, sum, NoNeed, no_agent, too_much, Lined, Needs, Reported, not_in_form, no_lines, many_lines, no_need, one_refused, named_twice, covered, short, Delivered, fits, too_long, Delivers}
 use Rattle.demands.specs.Twice.{at, Twice, no_mark, RefusesAt, lacks, is_again, alone, marked_before}
 use Rattle.demands.proofs.Lines.{dash_refused, line_refusals}
 use Rattle.demands.proofs.Twice.{no_mass, line_at, SomeRefused, some_alone, some_twice, refusals_at, marked_as_before}
@@ -51,8 +50,8 @@ abbrev massed : List ℕ → List Mark
 massed mgs = map (λ (mg : ℕ). record { weighed = Weighed.Mass (as_milligrams mg) }) mgs
 
 pub data Tally (ms : List Mark) : Summed → Type 0 where
-  refused : (i n : ℕ) → i < length ms → (get_or ms i no_mark).weighed ≡ Weighed.Refused n → Tally ms Summed.Refused
-  summed : (mgs : List ℕ) → ms ≡ massed mgs → Tally ms (Summed.Sum (as_milligrams (sum mgs)))
+  refused : (i n : ℕ) → i < length ms → (get_or ms i no_mark).weighed ≡ Weighed.Refused n → Tally ms None
+  summed : (mgs : List ℕ) → ms ≡ massed mgs → Tally ms (Some (as_milligrams (sum mgs)))
 
 one_mark : (m : Mark) (ms : List Mark) (w : Weighed) → m.weighed ≡ w → (t : Summed) → Tally ms t → Tally (m ∷ ms) (plus w t)
 one_mark m ms (Weighed.Refused n) e t r = refused 0 n (omega arith) e
@@ -65,13 +64,13 @@ unfolding total
 tally [] = summed [] refl
 tally (m ∷ ms) = one_mark m ms m.weighed refl (total ms) (tally ms)
 
-pub refused_total : (ms : List Mark) (i n : ℕ) → i < length ms → (get_or ms i no_mark).weighed ≡ Weighed.Refused n → total ms ≡ Summed.Refused
+pub refused_total : (ms : List Mark) (i n : ℕ) → i < length ms → (get_or ms i no_mark).weighed ≡ Weighed.Refused n → total ms ≡ None
 unfolding total
 refused_total [] i n h e = absurd (omega arith)
 refused_total (m ∷ ms) zero n h e = rw e
 refused_total (m ∷ ms) (suc i) n h e = rw (refused_total ms i n (le_of_suc-le-suc h) e) (any m.weighed)
   where
-    any : (w : Weighed) → plus w Summed.Refused ≡ Summed.Refused
+    any : (w : Weighed) → plus w None ≡ None
     any (Weighed.Mass mg) = refl
     any (Weighed.Refused k) = refl
 
@@ -106,7 +105,7 @@ module _ (L : Limits) where
   all_weighed (l ∷ ls) [] e = let z : suc (length (marked_before L ls)) ≡ 0 = ap length e in absurd (omega arith)
   all_weighed (l ∷ ls) (mg ∷ mgs) e = one_more (ap (λ (ms : List Mark). (get_or ms 0 no_mark).weighed) e) (all_weighed ls mgs (ap (drop 1) e))
 
-  weighed_total : {ls : List Line} {mgs : List ℕ} → AllWeighed L ls mgs → total (marked_before L ls) ≡ Summed.Sum (as_milligrams (sum mgs))
+  weighed_total : {ls : List Line} {mgs : List ℕ} → AllWeighed L ls mgs → total (marked_before L ls) ≡ Some (as_milligrams (sum mgs))
   unfolding total
   weighed_total none_left = refl
   weighed_total (one_more e a) = rw (e, weighed_total a)
@@ -118,22 +117,22 @@ module _ (L : Limits) where
     pub marks_many : length marks ≡ length cs
     marks_many = marked_length L (map line_of cs) ∙ length-map cs line_of
 
-    some_total : SomeRefused L cs → total marks ≡ Summed.Refused
+    some_total : SomeRefused L cs → total marks ≡ None
     some_total r = refused_total marks r.place r.number (omega (arith, r.within, marks_many)) r.refused
 
-    one_total : OneRefused L (map line_of cs) → total marks ≡ Summed.Refused
+    one_total : OneRefused L (map line_of cs) → total marks ≡ None
     one_total r =
         let p = placed r in
         some_total (some_alone L cs p.place p.number (omega (arith, p.within, length-map cs line_of)) (rw (← line_at cs p.place) p.refused))
 
     -- A SHEET THAT NAMES A NUMBER TWICE HAS NO TOTAL, and one that has a total names none twice
-    pub twice_total : Twice cs → total marks ≡ Summed.Refused
+    pub twice_total : Twice cs → total marks ≡ None
     twice_total t = some_total (some_twice L cs t)
 
-    pub total_once : (mg : Milligrams) → total marks ≡ Summed.Sum mg → Twice cs → ⊥
+    pub total_once : (mg : Milligrams) → total marks ≡ Some mg → Twice cs → ⊥
     total_once mg e t = let f = twice_total t in let z : ◌≡◌ {A = ℕ} 0 1 = cc in omega arith
 
-    once_total : {mgs : List ℕ} → (Twice cs → ⊥) → AllWeighed L (map line_of cs) mgs → total marks ≡ Summed.Sum (as_milligrams (sum mgs))
+    once_total : {mgs : List ℕ} → (Twice cs → ⊥) → AllWeighed L (map line_of cs) mgs → total marks ≡ Some (as_milligrams (sum mgs))
     once_total once a = ap total (marked_as_before L cs once) ∙ weighed_total a
 
     -- no mark is refused: so no number stands twice, and each line is answered by itself
@@ -167,7 +166,7 @@ module _ (L : Limits) where
 
 -- ---- the need
 
-out_of_need : {mg : ℕ} → Outside 9_999_999_999 mg → NoNeed (Field.Number mg)
+out_of_need : {mg : ℕ} → Outside 9_999_999_999 mg → NoNeed (Some mg)
 out_of_need (below_one e) = rw e no_agent
 out_of_need (above_top h) = too_much h
 
@@ -198,8 +197,8 @@ module _ (L : Limits) (t : List ℕ) where
     ListedAs a = Reported L t (listed a bank)
 
     of_need : Lined t b → (f : Field) → b.need ≡ f → Reported L t (listed (needed f) bank)
-    of_need l Field.Blank e = no_need l (subst NoNeed (sym e) sheets.blank)
-    of_need l (Field.Number mg) e =
+    of_need l None e = no_need l (subst NoNeed (sym e) sheets.blank)
+    of_need l (Some mg) e =
         by_test ListedAs (is_need mg) (Admitted.Need mg) (Admitted.SentBack 12)
         (λ r. let i = inside 9_999_999_999 mg r in
         of_total mg (record { lined = l; need = e; at_least = i.0; at_most = i.1 }) (total bank) (tally bank))
@@ -228,13 +227,13 @@ module _ (L : Limits) (t : List ℕ) where
       rw (l.read, ne_eqb (length b.cylinders) 0 (omega (arith, l.some_line)), le-ltb 32 (length b.cylinders) l.at_most, e)
 
   without_need : (b : Bank) → Lined t b → (f : Field) → b.need ≡ f → NoNeed f → report L (in_form t) ≡ sent_back 12
-  without_need b l f e sheets.blank = past_count b Field.Blank l e
-  without_need b l f e no_agent = past_count b (Field.Number 0) l e
-  without_need b l f e (too_much {mg} h) = past_count b (Field.Number mg) l e ∙ rw (is_outside 9_999_999_999 mg (above_top h))
+  without_need b l f e sheets.blank = past_count b None l e
+  without_need b l f e no_agent = past_count b (Some 0) l e
+  without_need b l f e (too_much {mg} h) = past_count b (Some mg) l e ∙ rw (is_outside 9_999_999_999 mg (above_top h))
 
   needing : {b : Bank} {need : ℕ} → Needs t b need
       → report L (in_form t) ≡ lines_bytes 1 (marked L (lines b)) ++ ending_bytes (ending need (total (marked L (lines b))))
-  needing {b} {need} n = past_count b (Field.Number need) n.lined n.need ∙ rw (is_inside 9_999_999_999 need n.at_least n.at_most)
+  needing {b} {need} n = past_count b (Some need) n.lined n.need ∙ rw (is_inside 9_999_999_999 need n.at_least n.at_most)
 
   pub only : {bs : List ℕ} → Reported L t bs → report L (in_form t) ≡ bs
   unfolding report admitted ending

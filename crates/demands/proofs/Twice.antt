@@ -1,4 +1,5 @@
 -- A line on its sheet: each refusal exactly under its condition, 30 among them; and where no number stands twice, all as it was. Assumes nothing.
+use Rattle.std.specs.Prelude.{Some, None}
 use Prim.Native.Nat.{ℕ, zero, suc, ◌<◌}
 use mathlib.Core.Path.{◌≡◌, refl, sym, ap, subst, ◌∙◌}
 use mathlib.Core.Bool.{Bool, true, false, cond, ◌||◌, true≢false}
@@ -10,14 +11,13 @@ use native.Mathlib.Omega.{arith}
 use lib.ListN.{length, take, get_or, length-map, length-take}
 use lib.Seq.{get_or-take, ext_get_or}
 use Rattle.door_limits.specs.declared.Limits.{Limits}
-use Rattle.sheet_text.specs.declared.Field.{Field}
+use Rattle.sheet_text.specs.Field.{Field}
 use Rattle.sheet_mass.specs.Mass.{as_milligrams}
 use Rattle.sheet_mass.specs.declared.Milligrams.{Milligrams}
 use Rattle.sheet_line.specs.Record.{recorded_of}
-use Rattle.sheet_line.specs.Line.{temperature_of, reading_of, line_of, blank_line}
+use Rattle.sheet_line.specs.Line.{temperature_of, reading_of, line_of, blank_line, Temperature}
 use Rattle.sheet_line.specs.declared.cylinder.Kind.{Kind}
 use Rattle.sheet_line.specs.declared.cylinder.Cylinder.{Cylinder}
-use Rattle.sheet_line.specs.declared.line.Temperature.{Temperature}
 use Rattle.sheet_line.specs.declared.line.Line.{Line}
 use Rattle.sheet_read.specs.Form.{Bank}
 use Rattle.door_checks.specs.declared.Check.{Check}
@@ -46,27 +46,27 @@ module _ (c : Cylinder) where
     where
       go : (t : Field) → c.temperature ≡ t → (v : Field) → c.volume ≡ v → (x : Field) → c.value ≡ x → (k : Kind) → c.kind ≡ k
           → no_volume v || no_reading (temperature_of t) (reading_of (recorded_of k x)) ≡ true → Dashed c
-      go t q Field.Blank r x s k p e = in_volume r
-      go t q (Field.Number v) r Field.Blank s k p e = in_value s
-      go Field.Blank q (Field.Number v) r (Field.Number x) s Kind.Pressure p e = in_temperature (rw p for_pressure) q
-      go Field.Blank q (Field.Number v) r (Field.Number x) s Kind.Density p e = in_temperature (rw p for_density) q
-      go (Field.Number t) q (Field.Number v) r (Field.Number x) s Kind.Pressure p e = absurd (true≢false (sym e))
-      go (Field.Number t) q (Field.Number v) r (Field.Number x) s Kind.Density p e = absurd (true≢false (sym e))
-      go t q (Field.Number v) r (Field.Number x) s Kind.Weighed p e = absurd (true≢false (sym e))
+      go t q None r x s k p e = in_volume r
+      go t q (Some v) r None s k p e = in_value s
+      go None q (Some v) r (Some x) s Kind.Pressure p e = in_temperature (rw p for_pressure) q
+      go None q (Some v) r (Some x) s Kind.Density p e = in_temperature (rw p for_density) q
+      go (Some t) q (Some v) r (Some x) s Kind.Pressure p e = absurd (true≢false (sym e))
+      go (Some t) q (Some v) r (Some x) s Kind.Density p e = absurd (true≢false (sym e))
+      go t q (Some v) r (Some x) s Kind.Weighed p e = absurd (true≢false (sym e))
 
   second : (a b : Bool) → b ≡ true → a || b ≡ true
   second true b e = refl
   second false b e = e
 
   -- without a temperature that its kind asks for there is no reading
-  no_door : (k : Kind) (x : Field) → AtDoor k → no_reading Temperature.Blank (reading_of (recorded_of k x)) ≡ true
-  no_door k Field.Blank a = refl
-  no_door Kind.Pressure (Field.Number x) a = refl
-  no_door Kind.Density (Field.Number x) a = refl
-  no_door Kind.Weighed (Field.Number x) a = absurd (not_weighed a refl)
+  no_door : (k : Kind) (x : Field) → AtDoor k → no_reading None (reading_of (recorded_of k x)) ≡ true
+  no_door k None a = refl
+  no_door Kind.Pressure (Some x) a = refl
+  no_door Kind.Density (Some x) a = refl
+  no_door Kind.Weighed (Some x) a = absurd (not_weighed a refl)
 
   -- its number, or another of its fields
-  lacks_one : Dashed c → (c.number ≡ Field.Blank) ⊎ (lacking (line_of c) ≡ true)
+  lacks_one : Dashed c → (c.number ≡ None) ⊎ (lacking (line_of c) ≡ true)
   unfolding lacking
   lacks_one (in_number e) = inl e
   lacks_one (in_temperature a e) = inr (rw e (second (no_volume c.volume) _ (no_door c.kind c.value a)))
@@ -88,7 +88,7 @@ line_at (c ∷ cs) zero = refl
 line_at (c ∷ cs) (suc i) = line_at cs i
 
 -- a line that has a number is one of the sheet's
-on_sheet : (cs : List Cylinder) (i n : ℕ) → (at cs i).number ≡ Field.Number n → i < length cs
+on_sheet : (cs : List Cylinder) (i n : ℕ) → (at cs i).number ≡ Some n → i < length cs
 on_sheet [] i n e = let z : ◌≡◌ {A = ℕ} 0 1 = cc in absurd (omega arith)
 on_sheet (c ∷ cs) zero n e = omega arith
 on_sheet (c ∷ cs) (suc i) n e = omega (arith, on_sheet cs i n e)
@@ -100,7 +100,7 @@ module _ (cs : List Cylinder) (i : ℕ) where
   above_at : (j : ℕ) → j < i → get_or above j blank_line ≡ line_of (at cs j)
   above_at j h = get_or-take i (map line_of cs) j blank_line h ∙ line_at cs j
 
-  module _ (n : ℕ) (here : (at cs i).number ≡ Field.Number n) where
+  module _ (n : ℕ) (here : (at cs i).number ≡ Some n) where
     on_again : is_on (numbers above) n ≡ true → Again cs i
     on_again e =
         let a = named blank_line above n e in
@@ -118,7 +118,7 @@ module _ (cs : List Cylinder) (i : ℕ) where
         let same : a.cylinder ≡ n = cc in
         let h = on_sheet cs a.earlier a.cylinder a.there in
         is_named blank_line above n a.earlier (omega (arith, h, a.before, length-take i (map line_of cs), length-map cs line_of))
-        (ap (λ (l : Line). l.number) (above_at a.earlier a.before) ∙ a.there ∙ ap Field.Number same)
+        (ap (λ (l : Line). l.number) (above_at a.earlier a.before) ∙ a.there ∙ ap Some same)
 
   -- ---- so each line passes its first checks, or doesn't, as its condition says
 
@@ -130,17 +130,17 @@ module _ (cs : List Cylinder) (i : ℕ) where
   stands_lacking d = ⊎_elim (λ e. rw e) (λ e. rw e (go (at cs i).number)) (lacks_one (at cs i) d)
     where
       go : (f : Field) → if_numbered f (λ n. No 1) ≡ No 1
-      go Field.Blank = refl
-      go (Field.Number n) = refl
+      go None = refl
+      go (Some n) = refl
 
   -- none is blank, and so there is a number
-  by_number : (Dashed (at cs i) → ⊥) → (c : Check) → ((n : ℕ) → (at cs i).number ≡ Field.Number n → cond (is_on (numbers above) n) (No 30) Passed ≡ c) → stands ≡ c
+  by_number : (Dashed (at cs i) → ⊥) → (c : Check) → ((n : ℕ) → (at cs i).number ≡ Some n → cond (is_on (numbers above) n) (No 30) Passed ≡ c) → stands ≡ c
   unfolding standing
   by_number h c f = rw (lacks_none (at cs i) h) (go (at cs i).number refl)
     where
       go : (g : Field) → (at cs i).number ≡ g → if_numbered g (λ n. cond (is_on (numbers above) n) (No 30) Passed) ≡ c
-      go Field.Blank e = absurd (h (in_number e))
-      go (Field.Number n) e = f n e
+      go None e = absurd (h (in_number e))
+      go (Some n) e = f n e
 
   pub stands_again : (Dashed (at cs i) → ⊥) → Again cs i → stands ≡ No 30
   stands_again h a = by_number h (No 30) (λ n e. rw (again_on n e a))
@@ -148,7 +148,7 @@ module _ (cs : List Cylinder) (i : ℕ) where
   stands_ready : (Dashed (at cs i) → ⊥) → (Again cs i → ⊥) → stands ≡ Passed
   stands_ready h a = by_number h Passed (λ n e. go n e (is_on (numbers above) n) refl)
     where
-      go : (n : ℕ) → (at cs i).number ≡ Field.Number n → (b : Bool) → is_on (numbers above) n ≡ b → cond b (No 30) Passed ≡ Passed
+      go : (n : ℕ) → (at cs i).number ≡ Some n → (b : Bool) → is_on (numbers above) n ≡ b → cond b (No 30) Passed ≡ Passed
       go n e true p = absurd (a (on_again n e p))
       go n e false p = refl
 
@@ -161,18 +161,18 @@ module _ (cs : List Cylinder) (i : ℕ) where
   pub how : Stands
   how = by_field (at cs i).number refl (lacking (line_of (at cs i))) refl
     where
-      not_dashed : {n : ℕ} → (at cs i).number ≡ Field.Number n → lacking (line_of (at cs i)) ≡ false → Dashed (at cs i) → ⊥
+      not_dashed : {n : ℕ} → (at cs i).number ≡ Some n → lacking (line_of (at cs i)) ≡ false → Dashed (at cs i) → ⊥
       not_dashed e f d =
           ⊎_elim (λ p. let z : ◌≡◌ {A = ℕ} 0 1 = cc in omega arith) (λ p. true≢false (sym p ∙ f)) (lacks_one (at cs i) d)
 
-      by_on : (Dashed (at cs i) → ⊥) → (n : ℕ) → (at cs i).number ≡ Field.Number n → (b : Bool) → is_on (numbers above) n ≡ b → Stands
+      by_on : (Dashed (at cs i) → ⊥) → (n : ℕ) → (at cs i).number ≡ Some n → (b : Bool) → is_on (numbers above) n ≡ b → Stands
       by_on h n e true p = standing_again h (on_again n e p)
       by_on h n e false p = standing_ready h (λ a. true≢false (sym (again_on n e a) ∙ p))
 
       by_field : (f : Field) → (at cs i).number ≡ f → (b : Bool) → lacking (line_of (at cs i)) ≡ b → Stands
-      by_field Field.Blank e b p = lacking_one (in_number e)
-      by_field (Field.Number n) e true p = lacking_one (is_dashed (at cs i) p)
-      by_field (Field.Number n) e false p = by_on (not_dashed e p) n e (is_on (numbers above) n) refl
+      by_field None e b p = lacking_one (in_number e)
+      by_field (Some n) e true p = lacking_one (is_dashed (at cs i) p)
+      by_field (Some n) e false p = by_on (not_dashed e p) n e (is_on (numbers above) n) refl
 
 -- ---- what came of it
 

@@ -1,10 +1,8 @@
 -- RULES 5.4: what the melting line leaves as it was. The doors of an equation with no solid are those that stood before there was a refusal 19.
 -- Definitions only.
-use Rattle.std.specs.Prelude.{◌≡◌, false, cond, Float}
+use Rattle.std.specs.Prelude.{◌≡◌, false, cond, Float, Some, None}
 use Rattle.std.specs.Float.{inf}
-use Rattle.num_working.specs.Working.{or_else}
-use Rattle.num_working.specs.declared.Worked.{Worked}
-use Rattle.num_working.specs.declared.Worked.TheVariants.{Number, Failed}
+use Rattle.num_working.specs.Working.{or_else, Worked}
 use Rattle.eos_state.specs.declared.Phase.{Phase}
 use Rattle.equation.specs.Equation.{Equation, of1996}
 use Rattle.door_limits.specs.Limits.{document01, outside}
@@ -23,7 +21,7 @@ never_solid E = record {
   vapour_pressure = E.vapour_pressure;
   vapour_density = E.vapour_density;
   liquid_density = E.liquid_density;
-  melting_pressure = λ t. Number (inf false);
+  melting_pressure = λ t. Some (inf false);
   pressure = E.pressure;
   state = E.state;
   fallen = E.fallen;
@@ -34,7 +32,7 @@ never_solid E = record {
 pub data Kept (w : Worked) (now before : Answer) : Type 0 where
   same : now ≡ before → Kept w now before
   solid : now ≡ answer.Refused 19 → Kept w now before
-  no_melting : w ≡ Failed → now ≡ answer.Refused 7 → Kept w now before
+  no_melting : w ≡ None → now ≡ answer.Refused 7 → Kept w now before
 
 -- and where the melting pressure is always worked: the same, or solid
 pub data AsBefore (now before : Answer) : Type 0 where

@@ -1,7 +1,6 @@
 -- RULES 5.5: the thermal conductivity, on request, of whatever a door answered, over any equation. Definitions only.
-use Rattle.std.specs.Prelude.{ℕ, ◌≡◌, true, false, Float}
-use Rattle.num_working.specs.declared.Worked.{Worked}
-use Rattle.num_working.specs.declared.Worked.TheVariants.{Number, Failed}
+use Rattle.std.specs.Prelude.{ℕ, ◌≡◌, true, false, Float, Some, None}
+use Rattle.num_working.specs.Working.{Worked}
 use Rattle.eos_state.specs.declared.State.{State}
 use Rattle.equation.specs.Equation.{Equation}
 use Rattle.door_limits.specs.declared.Limits.{Limits}
@@ -11,7 +10,6 @@ use Rattle.door_pressure.specs.PressureDoor.{pressure_door}
 use Rattle.door_density.specs.DensityDoor.{density_door}
 use Rattle.door_conductivity.specs.Conducted.{with_conductivity}
 use Rattle.door_conductivity.specs.declared.Carried.{Carried}
-use Rattle.door_conductivity.specs.declared.Conductivity.TheVariants.{NotAsked, Is}
 use Rattle.door_conductivity.specs.declared.Conducted.{Conducted}
 use Rattle.door_conductivity.specs.declared.Conducted.TheVariants as conducted
 use Rattle.demands.specs.Demands.{Exactly, Numbered}
@@ -24,7 +22,7 @@ without_conductivity (conducted.State c) = answer.State c.state
 -- not asked for: the door's own answer, bit for bit; no conductivity is carried; and nothing hangs on the equation by which it would be worked
 pub record Unasked (E : Equation) (a : Answer) : Type 0 where
   pub same : without_conductivity (with_conductivity E false a) ≡ a
-  pub none : (c : Carried) → with_conductivity E false a ≡ conducted.State c → c.conductivity ≡ NotAsked
+  pub none : (c : Carried) → with_conductivity E false a ≡ conducted.State c → c.conductivity ≡ None
   pub by_any : (F : Equation) → with_conductivity F false a ≡ with_conductivity E false a
 
 -- nor does the door's own answer hang on it: the same equation with any other conductivity
@@ -51,14 +49,14 @@ module _ (E : Equation) (L : Limits) where
 -- asked for: the door's own refusal, or 7 where the working fails at the T and ρ of its state
 pub data RefusesAsked (E : Equation) (a : Answer) : ℕ → Type 0 where
   by_door : {n : ℕ} → a ≡ answer.Refused n → RefusesAsked E a n
-  no_conductivity : {s : State} → a ≡ answer.State s → E.conductivity s.t s.rho ≡ Failed → RefusesAsked E a 7
+  no_conductivity : {s : State} → a ≡ answer.State s → E.conductivity s.t s.rho ≡ None → RefusesAsked E a 7
 
 -- and answered: the door's own state, bit for bit, with the conductivity at its T and ρ
 pub record AnswersAsked (E : Equation) (a : Answer) (c : Carried) : Type 0 where
   pub number : Float
   pub state : a ≡ answer.State c.state
-  pub worked : E.conductivity c.state.t c.state.rho ≡ Number number
-  pub carried : c.conductivity ≡ Is number
+  pub worked : E.conductivity c.state.t c.state.rho ≡ Some number
+  pub carried : c.conductivity ≡ Some number
 
 abbrev pub AskedRefusals : Equation → Type 0
 AskedRefusals E = (a : Answer) (n : ℕ) → Exactly (with_conductivity E true a ≡ conducted.Refused n) (RefusesAsked E a n)

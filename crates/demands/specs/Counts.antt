@@ -1,16 +1,14 @@
 -- RULES 4.9 and 5.3: how many terms fell away. An answer's count is the definition's at its temperature and density, whichever door gave it; and but for the
 -- count every answer is what it was. Definitions only.
-use Rattle.std.specs.Prelude.{◌≡◌, Float}
+use Rattle.std.specs.Prelude.{◌≡◌, Float, Some, None}
 use Rattle.num_working.specs.Working.{or_else}
 use Rattle.num_formulas.specs.Formula.{work}
 use Rattle.eos_constants.specs.Reduced.{delta}
 use Rattle.eos_isotherm.specs.Isotherm.{isotherm}
 use Rattle.eos_residual.specs.Sum.{five_sums}
-use Rattle.eos_state.specs.State.{state_ideal, then_sums}
+use Rattle.eos_state.specs.State.{state_ideal, then_sums, Stated}
 use Rattle.eos_state.specs.declared.Phase.{Phase}
 use Rattle.eos_state.specs.declared.State.{State}
-use Rattle.eos_state.specs.declared.Stated.{Stated}
-use Rattle.eos_state.specs.declared.Stated.TheVariants.{Known, Unknown}
 use Rattle.equation.specs.Equation.{Equation, of1996}
 use Rattle.door_limits.specs.declared.Limits.{Limits}
 use Rattle.door_answers.specs.declared.Answer.{Answer}
@@ -34,8 +32,8 @@ abbrev pub forgotten : State → State
 forgotten x = record { t = x.t; p = x.p; rho = x.rho; u = x.u; h = x.h; cv = x.cv; cp = x.cp; w = x.w; phase = x.phase; fallen = 0 }
 
 abbrev pub forgotten_in : Stated → Stated
-forgotten_in Unknown = Unknown
-forgotten_in (Known x) = Known (forgotten x)
+forgotten_in None = None
+forgotten_in (Some x) = Some (forgotten x)
 
 abbrev pub forgotten_of : Answer → Answer
 forgotten_of (answer.Refused n) = answer.Refused n
@@ -60,7 +58,7 @@ uncounted E = record {
 abbrev pub StateBefore : Type 0
 StateBefore = (t : Float) (phase : Phase) (rho : Float)
     → (uncounted of1996).state t phase rho
-    ≡ or_else (work (delta rho)) Unknown (λ δ. then_sums (five_sums (isotherm t) δ) (state_ideal phase 0 t (isotherm t) rho))
+    ≡ or_else (work (delta rho)) None (λ δ. then_sums (five_sums (isotherm t) δ) (state_ideal phase 0 t (isotherm t) rho))
 
 -- and the doors look at no count: whatever is asked, the eight numbers and the phase, or the refusal, are those of the doors with no count
 module _ (E : Equation) (L : Limits) where

@@ -1,16 +1,14 @@
 -- RULES 10.1: what is demanded of the doors, over any equation and any limits: when each refusal is given, and what an answer means. Definitions only.
-use Rattle.std.specs.Prelude.{ℕ, ◌+◌, ◌<◌, ◌≤◌, ◌≡◌, Bool, true, false, ◌&&◌, not, T, Float}
+use Rattle.std.specs.Prelude.{ℕ, ◌+◌, ◌<◌, ◌≤◌, ◌≡◌, Bool, true, false, ◌&&◌, not, T, Float, Some, None}
 use Rattle.std.specs.Float.{binary64}
 use Rattle.std.specs.Float.Ieee.{eq, lt, le, of_bits, to_bits}
 use Rattle.std.specs.Float.Ieee.Scale.{finite}
-use Rattle.num_working.specs.declared.Worked.TheVariants.{Number, Failed}
 use Rattle.num_halving.specs.Halving.{Found, NoCrossing, Breaks, halve}
 use Rattle.num_halving.specs.declared.Crossing.TheVariants.{At}
 use Rattle.eos_state.specs.State.{eight}
 use Rattle.eos_state.specs.declared.Phase.{Phase}
 use Rattle.eos_state.specs.declared.Phase.TheVariants.{Vapour, Liquid, Supercritical}
 use Rattle.eos_state.specs.declared.State.{State}
-use Rattle.eos_state.specs.declared.Stated.TheVariants.{Known, Unknown}
 use Rattle.equation.specs.Equation.{Equation}
 use Rattle.door_limits.specs.Limits.{outside, search_ends}
 use Rattle.door_limits.specs.declared.Range.{Range}
@@ -39,7 +37,7 @@ module _ (ts xs : Range) (t x : Float) where
 -- ---- RULES 5.4: not solid, which is at the melting pressure or below it
 pub record Fluid (E : Equation) (t p : Float) : Type 0 where
   pub melting : Float
-  pub worked : E.melting_pressure t ≡ Number melting
+  pub worked : E.melting_pressure t ≡ Some melting
   pub not_above : lt melting p ≡ false
 
 module _ (E : Equation) (L : Limits) where
@@ -58,32 +56,32 @@ module _ (E : Equation) (L : Limits) where
 
     -- below the critical temperature: p lower than the vapour pressure there, or higher
     pub data Beside : Phase → Type 0 where
-      lower : {s : Float} → le E.critical t ≡ false → E.vapour_pressure t ≡ Number s → eq p s ≡ false → lt p s ≡ true → Beside Vapour
-      higher : {s : Float} → le E.critical t ≡ false → E.vapour_pressure t ≡ Number s → eq p s ≡ false → lt p s ≡ false → Beside Liquid
+      lower : {s : Float} → le E.critical t ≡ false → E.vapour_pressure t ≡ Some s → eq p s ≡ false → lt p s ≡ true → Beside Vapour
+      higher : {s : Float} → le E.critical t ≡ false → E.vapour_pressure t ≡ Some s → eq p s ≡ false → lt p s ≡ false → Beside Liquid
 
     -- the range for the phase
     pub data Ranged : Phase → Float → Float → Type 0 where
       supercritical : le E.critical t ≡ true → Ranged Supercritical search_ends.from search_ends.to
-      vapour : {to : Float} → Beside Vapour → scaled search_ends.vapour (E.vapour_density t) ≡ Number to → Ranged Vapour search_ends.from to
-      liquid : {from : Float} → Beside Liquid → scaled search_ends.liquid (E.liquid_density t) ≡ Number from → Ranged Liquid from search_ends.to
+      vapour : {to : Float} → Beside Vapour → scaled search_ends.vapour (E.vapour_density t) ≡ Some to → Ranged Vapour search_ends.from to
+      liquid : {from : Float} → Beside Liquid → scaled search_ends.liquid (E.liquid_density t) ≡ Some from → Ranged Liquid from search_ends.to
 
     -- when the door refuses, and by which number
     pub data RefusesP : ℕ → Type 0 where
       out_of_range : {n : ℕ} → OutOfRange L.asked.temperature L.asked.pressure t p n → RefusesP n
-      melting_fails : InRangeP → E.melting_pressure t ≡ Failed → RefusesP 7
-      solid : {m : Float} → InRangeP → E.melting_pressure t ≡ Number m → lt m p ≡ true → RefusesP 19
+      melting_fails : InRangeP → E.melting_pressure t ≡ None → RefusesP 7
+      solid : {m : Float} → InRangeP → E.melting_pressure t ≡ Some m → lt m p ≡ true → RefusesP 19
       in_critical_box : InRangeP → Fluid E t p → in_box_p ≡ true → RefusesP 6
-      line_fails : PastP → le E.critical t ≡ false → E.vapour_pressure t ≡ Failed → RefusesP 7
-      on_line : {s : Float} → PastP → le E.critical t ≡ false → E.vapour_pressure t ≡ Number s → eq p s ≡ true → RefusesP 8
-      vapour_fails : PastP → Beside Vapour → scaled search_ends.vapour (E.vapour_density t) ≡ Failed → RefusesP 7
-      liquid_fails : PastP → Beside Liquid → scaled search_ends.liquid (E.liquid_density t) ≡ Failed → RefusesP 7
+      line_fails : PastP → le E.critical t ≡ false → E.vapour_pressure t ≡ None → RefusesP 7
+      on_line : {s : Float} → PastP → le E.critical t ≡ false → E.vapour_pressure t ≡ Some s → eq p s ≡ true → RefusesP 8
+      vapour_fails : PastP → Beside Vapour → scaled search_ends.vapour (E.vapour_density t) ≡ None → RefusesP 7
+      liquid_fails : PastP → Beside Liquid → scaled search_ends.liquid (E.liquid_density t) ≡ None → RefusesP 7
       -- demand 3: 9 where the range holds fewer than two floats, or the pressures at both ends are finite and the lower end's is above the one asked or the
       -- upper end's is not
       no_crossing : {phase : Phase} {from to : Float} → PastP → Ranged phase from to → NoCrossing (figure (E.pressure t)) p (to_bits binary64 from) (to_bits binary64 to) → RefusesP 9
       probe_fails : {phase : Phase} {from to : Float} → PastP → Ranged phase from to → to_bits binary64 from < to_bits binary64 to
           → Breaks (figure (E.pressure t)) p (to_bits binary64 from) (to_bits binary64 to) → RefusesP 7
       state_fails : {phase : Phase} {from to : Float} {r : ℕ} → PastP → Ranged phase from to → halve (figure (E.pressure t)) p (to_bits binary64 from) (to_bits binary64 to) ≡ At r
-          → E.state t phase (of_bits binary64 r) ≡ Unknown → RefusesP 7
+          → E.state t phase (of_bits binary64 r) ≡ None → RefusesP 7
 
     -- what an answer means; Found is demand 3: the density and the next float above it lie in the range for the phase, and the pressure worked at the first is
     -- finite and not above the one asked, at the second finite and above it
@@ -94,9 +92,9 @@ module _ (E : Equation) (L : Limits) where
       pub past : PastP
       pub ranged : Ranged x.phase from to
       pub found : Found (figure (E.pressure t)) p (to_bits binary64 from) (to_bits binary64 to) bits
-      pub worked : E.state t x.phase (of_bits binary64 bits) ≡ Known x
+      pub worked : E.state t x.phase (of_bits binary64 bits) ≡ Some x
       pub temperature : x.t ≡ t
-      pub pressure : E.pressure t (of_bits binary64 bits) ≡ Number x.p
+      pub pressure : E.pressure t (of_bits binary64 bits) ≡ Some x.p
 
   -- ---- RULES 5.2: the density door
   module _ (t rho : Float) where
@@ -113,31 +111,31 @@ module _ (E : Equation) (L : Limits) where
     -- the phase of a density that is none between the saturated ones
     pub data Phased : Phase → Type 0 where
       above_critical : le E.critical t ≡ true → Phased Supercritical
-      as_vapour : {v l : Float} → le E.critical t ≡ false → E.vapour_density t ≡ Number v → E.liquid_density t ≡ Number l → lt v rho ≡ false → Phased Vapour
-      as_liquid : {v l : Float} → le E.critical t ≡ false → E.vapour_density t ≡ Number v → E.liquid_density t ≡ Number l → lt v rho ≡ true → lt rho l ≡ false → Phased Liquid
+      as_vapour : {v l : Float} → le E.critical t ≡ false → E.vapour_density t ≡ Some v → E.liquid_density t ≡ Some l → lt v rho ≡ false → Phased Vapour
+      as_liquid : {v l : Float} → le E.critical t ≡ false → E.vapour_density t ≡ Some v → E.liquid_density t ≡ Some l → lt v rho ≡ true → lt rho l ≡ false → Phased Liquid
 
     pub data RefusesD : ℕ → Type 0 where
       out_of_ranges : {n : ℕ} → OutOfRange L.asked.temperature L.asked.density t rho n → RefusesD n
       in_the_box : InRangeD → in_box_d ≡ true → RefusesD 6
-      no_vapour : PastD → le E.critical t ≡ false → E.vapour_density t ≡ Failed → RefusesD 7
-      no_liquid : {v : Float} → PastD → le E.critical t ≡ false → E.vapour_density t ≡ Number v → E.liquid_density t ≡ Failed → RefusesD 7
-      between : {v l : Float} → PastD → le E.critical t ≡ false → E.vapour_density t ≡ Number v → E.liquid_density t ≡ Number l → lt v rho ≡ true → lt rho l ≡ true → RefusesD 8
-      no_pressure : {phase : Phase} → PastD → Phased phase → E.pressure t rho ≡ Failed → RefusesD 7
-      pressure_outside : {phase : Phase} {p : Float} → PastD → Phased phase → E.pressure t rho ≡ Number p → outside L.asked.pressure p ≡ true → RefusesD 5
-      no_melting : {phase : Phase} {p : Float} → PastD → Phased phase → E.pressure t rho ≡ Number p → outside L.asked.pressure p ≡ false → E.melting_pressure t ≡ Failed → RefusesD 7
-      solid_there : {phase : Phase} {p m : Float} → PastD → Phased phase → E.pressure t rho ≡ Number p → outside L.asked.pressure p ≡ false
-          → E.melting_pressure t ≡ Number m → lt m p ≡ true → RefusesD 19
-      no_state : {phase : Phase} {p : Float} → PastD → Phased phase → E.pressure t rho ≡ Number p → outside L.asked.pressure p ≡ false → Fluid E t p → E.state t phase rho ≡ Unknown → RefusesD 7
+      no_vapour : PastD → le E.critical t ≡ false → E.vapour_density t ≡ None → RefusesD 7
+      no_liquid : {v : Float} → PastD → le E.critical t ≡ false → E.vapour_density t ≡ Some v → E.liquid_density t ≡ None → RefusesD 7
+      between : {v l : Float} → PastD → le E.critical t ≡ false → E.vapour_density t ≡ Some v → E.liquid_density t ≡ Some l → lt v rho ≡ true → lt rho l ≡ true → RefusesD 8
+      no_pressure : {phase : Phase} → PastD → Phased phase → E.pressure t rho ≡ None → RefusesD 7
+      pressure_outside : {phase : Phase} {p : Float} → PastD → Phased phase → E.pressure t rho ≡ Some p → outside L.asked.pressure p ≡ true → RefusesD 5
+      no_melting : {phase : Phase} {p : Float} → PastD → Phased phase → E.pressure t rho ≡ Some p → outside L.asked.pressure p ≡ false → E.melting_pressure t ≡ None → RefusesD 7
+      solid_there : {phase : Phase} {p m : Float} → PastD → Phased phase → E.pressure t rho ≡ Some p → outside L.asked.pressure p ≡ false
+          → E.melting_pressure t ≡ Some m → lt m p ≡ true → RefusesD 19
+      no_state : {phase : Phase} {p : Float} → PastD → Phased phase → E.pressure t rho ≡ Some p → outside L.asked.pressure p ≡ false → Fluid E t p → E.state t phase rho ≡ None → RefusesD 7
 
     pub record AnsweredD (x : State) : Type 0 where
       pub past : PastD
       pub phased : Phased x.phase
       pub temperature : x.t ≡ t
       pub density : x.rho ≡ rho
-      pub pressure : E.pressure t rho ≡ Number x.p
+      pub pressure : E.pressure t rho ≡ Some x.p
       pub within : outside L.asked.pressure x.p ≡ false
       pub fluid : Fluid E t x.p
-      pub stated : E.state t x.phase rho ≡ Known x
+      pub stated : E.state t x.phase rho ≡ Some x
 
 -- ---- the demands
 

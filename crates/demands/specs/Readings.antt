@@ -1,16 +1,15 @@
 -- RULES 8.1: the readings that are proved, of the numerics, of the checks on what a door is asked and of a sheet's line, as one table. Definitions only.
-use Rattle.std.specs.Prelude.{ℕ, List, [], ◌∷◌, ◌++◌, map}
+use Rattle.std.specs.Prelude.{ℕ, List, [], ◌∷◌, ◌++◌, map, Some}
 use Rattle.std.specs.Float.{binary64}
 use Rattle.std.specs.Float.Ieee.{div}
 use Rattle.num_working.specs.Number.{whole}
-use Rattle.num_working.specs.declared.Worked.{Worked}
+use Rattle.num_working.specs.Working.{Worked}
 use Rattle.num_formulas.specs.Readings as numerics
 use Rattle.equation.specs.Equation.{of1996}
 use Rattle.door_limits.specs.Limits.{document01}
 use Rattle.door_checks.specs.Check.{ranged, solid, boxed}
 use Rattle.door_checks.specs.declared.Check.{Check}
 use Rattle.door_checks.specs.declared.Check.TheVariants.{Passed}
-use Rattle.sheet_text.specs.declared.Field.TheVariants.{Number}
 use Rattle.sheet_line.specs.Line.{line_of}
 use Rattle.sheet_line.specs.declared.cylinder.Cylinder.{Cylinder}
 use Rattle.sheet_line.specs.declared.cylinder.Kind.TheVariants.{Pressure}
@@ -50,7 +49,7 @@ of_checks =
 
 -- a reading that is refused: a cylinder's line with a pressure, as it is written, is refused by this number
 abbrev pub written : ℕ → ℕ → ℕ → Cylinder
-written t p v = record { number = Number 1; temperature = Number t; kind = Pressure; value = Number p; volume = Number v }
+written t p v = record { number = Some 1; temperature = Some t; kind = Pressure; value = Some p; volume = Some v }
 
 abbrev pub gives : Cylinder → ℕ → Starred
 gives c n = record { worked = line (weighed document01 (line_of c)); reads = line (Refused n) }

@@ -1,6 +1,6 @@
 -- RULES 3.2, 6.4, 6.7 and 10.1: what is demanded of a line's record, of a weighed line on its sheet and of the largest total, and what is as it was before a
 -- cylinder could be weighed. Definitions only.
-use Rattle.std.specs.Prelude.{ℕ, zero, suc, ◌+◌, ◌*◌, ◌≤◌, ◌<◌, ◌≡◌, Bool, true, false, cond, ◌||◌, List, [], ◌∷◌, ◌++◌, map, length}
+use Rattle.std.specs.Prelude.{ℕ, zero, suc, ◌+◌, ◌*◌, ◌≤◌, ◌<◌, ◌≡◌, Bool, true, false, cond, ◌||◌, List, [], ◌∷◌, ◌++◌, map, length, Some, None}
 use Rattle.std.proofs.Math.Option.{Option, none, some}
 use Rattle.std.specs.Float.{binary64}
 use Rattle.std.specs.Float.Ieee.{div}
@@ -13,21 +13,19 @@ use Rattle.door_checks.specs.declared.Check.TheVariants.{Passed, No}
 use Rattle.door_answers.specs.declared.Answer.{Answer}
 use Rattle.door_pressure.specs.PressureDoor.{pressure_door}
 use Rattle.door_density.specs.DensityDoor.{density_door}
-use Rattle.sheet_text.specs.declared.Field.{Field}
+use Rattle.sheet_text.specs.Field.{Field}
 use Rattle.sheet_mass.specs.Mass.{as_grams, as_milligrams}
 use Rattle.sheet_mass.specs.declared.Milligrams.{Milligrams}
-use Rattle.sheet_line.specs.Line.{temperature_of, line_of}
+use Rattle.sheet_line.specs.Line.{temperature_of, line_of, Temperature}
 use Rattle.sheet_line.specs.declared.cylinder.Kind.{Kind}
 use Rattle.sheet_line.specs.declared.cylinder.Cylinder.{Cylinder}
 use Rattle.sheet_line.specs.declared.record.Recorded.{Recorded}
 use Rattle.sheet_line.specs.declared.record.Record.{Record}
-use Rattle.sheet_line.specs.declared.line.Temperature.{Temperature}
 use Rattle.sheet_line.specs.declared.line.Reading.{Reading}
 use Rattle.sheet_line.specs.declared.line.Line.{Line}
 use Rattle.sheet_read.specs.Form.{Bank, Fair, text, in_form}
 use Rattle.sheet_standing.specs.Standing.{if_numbered, no_temperature, no_volume, is_on, numbers}
-use Rattle.sheet_outcome.specs.Outcome.{admitted, total}
-use Rattle.sheet_outcome.specs.declared.Summed.{Summed}
+use Rattle.sheet_outcome.specs.Outcome.{admitted, total, Summed}
 use Rattle.sheet_outcome.specs.declared.Weighed.{Weighed}
 use Rattle.sheet_outcome.specs.declared.Mark.{Mark}
 use Rattle.sheet_weigh.specs.Weighing.{if_passed, if_number, if_kelvin, is_volume, by_answer}
@@ -40,10 +38,10 @@ use Rattle.demands.specs.Twice.{at, Again, came}
 -- ---- a line's record keeps all that the line says: its number, temperature and volume, whatever they are, and its value with its kind, unless it is blank
 
 pub data KeepsReading (c : Cylinder) : Recorded → Type 0 where
-  keeps_none : c.value ≡ Field.Blank → KeepsReading c Recorded.Blank
-  keeps_pressure : {n : ℕ} → c.kind ≡ Kind.Pressure → c.value ≡ Field.Number n → KeepsReading c (Recorded.Pressure n)
-  keeps_density : {n : ℕ} → c.kind ≡ Kind.Density → c.value ≡ Field.Number n → KeepsReading c (Recorded.Density n)
-  keeps_grams : {n : ℕ} → c.kind ≡ Kind.Weighed → c.value ≡ Field.Number n → KeepsReading c (Recorded.Weighed (as_grams n))
+  keeps_none : c.value ≡ None → KeepsReading c Recorded.Blank
+  keeps_pressure : {n : ℕ} → c.kind ≡ Kind.Pressure → c.value ≡ Some n → KeepsReading c (Recorded.Pressure n)
+  keeps_density : {n : ℕ} → c.kind ≡ Kind.Density → c.value ≡ Some n → KeepsReading c (Recorded.Density n)
+  keeps_grams : {n : ℕ} → c.kind ≡ Kind.Weighed → c.value ≡ Some n → KeepsReading c (Recorded.Weighed (as_grams n))
 
 pub record Keeps (c : Cylinder) (r : Record) : Type 0 where
   pub number : r.number ≡ c.number
@@ -55,9 +53,9 @@ pub record Keeps (c : Cylinder) (r : Record) : Type 0 where
 
 -- its number, its value or its volume is blank: its temperature may be
 pub data Lacks (c : Cylinder) : Type 0 where
-  lacks_number : c.number ≡ Field.Blank → Lacks c
-  lacks_value : c.value ≡ Field.Blank → Lacks c
-  lacks_volume : c.volume ≡ Field.Blank → Lacks c
+  lacks_number : c.number ≡ None → Lacks c
+  lacks_value : c.value ≡ None → Lacks c
+  lacks_volume : c.volume ≡ None → Lacks c
 
 -- refused by 1, 30, 2 or 23, in this order, and by nothing else
 pub data RefusesScale (cs : List Cylinder) (i : ℕ) : ℕ → Type 0 where
@@ -106,17 +104,17 @@ largest = 319_999_999_968_000
 -- by the limits of RULES 2.2 and 2.3 no sheet has a larger one
 abbrev pub LargestTotal : Type 0
 LargestTotal =
-    (cs : List Cylinder) (mg : Milligrams) → length cs ≤ 32 → total (marked document01 (map line_of cs)) ≡ Summed.Sum mg → mg.0 ≤ largest
+    (cs : List Cylinder) (mg : Milligrams) → length cs ≤ 32 → total (marked document01 (map line_of cs)) ≡ Some mg → mg.0 ≤ largest
 
 -- and a sheet has it, by any limits: n such lines, numbered from a number on
 unfoldable pub heaviest : ℕ → ℕ → List Cylinder
 heaviest zero number = []
 heaviest (suc n) number =
-    record { number = Field.Number number; temperature = Field.Blank; kind = Kind.Weighed; value = Field.Number 9_999_999_999; volume = Field.Number 1 }
+    record { number = Some number; temperature = None; kind = Kind.Weighed; value = Some 9_999_999_999; volume = Some 1 }
     ∷ heaviest n (number + 1)
 
 abbrev pub LargestReached : Limits → Type 0
-LargestReached L = total (marked L (map line_of (heaviest 32 1))) ≡ Summed.Sum (as_milligrams largest)
+LargestReached L = total (marked L (map line_of (heaviest 32 1))) ≡ Some (as_milligrams largest)
 
 -- ---- as it was before: no line was weighed, each line required its temperature, and after the volume came its door
 
@@ -131,10 +129,10 @@ Without w (b ∷ t) = (b ≡ w → ⊥) × Without w t
 
 -- the line as it said then; a kind that there was not is none
 abbrev pub reading_then : Kind → Field → Reading
-reading_then k Field.Blank = Reading.Blank
-reading_then Kind.Pressure (Field.Number n) = Reading.Pressure (whole n)
-reading_then Kind.Density (Field.Number n) = Reading.Density (div binary64 (whole n) (whole 1000))
-reading_then Kind.Weighed (Field.Number n) = Reading.Blank
+reading_then k None = Reading.Blank
+reading_then Kind.Pressure (Some n) = Reading.Pressure (whole n)
+reading_then Kind.Density (Some n) = Reading.Density (div binary64 (whole n) (whole 1000))
+reading_then Kind.Weighed (Some n) = Reading.Blank
 
 abbrev pub line_then : Cylinder → Line
 line_then c = record { number = c.number; temperature = temperature_of c.temperature; reading = reading_then c.kind c.value; volume = c.volume }

@@ -1,9 +1,9 @@
 -- RULES 10.1: what is demanded of a sheet: its report, for every byte string, in the order of RULES 3.4. Definitions only.
-use Rattle.std.specs.Prelude.{ℕ, ◌+◌, ◌≤◌, ◌<◌, ◌≡◌, List, [], ◌∷◌, ◌++◌, map, length, get_or}
+use Rattle.std.specs.Prelude.{ℕ, ◌+◌, ◌≤◌, ◌<◌, ◌≡◌, List, [], ◌∷◌, ◌++◌, map, length, get_or, Some, None}
 use Rattle.std.proofs.Math.Option.{none, some}
 use Rattle.std.specs.Borrow.{Bor, MutBor}
 use Rattle.door_limits.specs.declared.Limits.{Limits}
-use Rattle.sheet_text.specs.declared.Field.{Field}
+use Rattle.sheet_text.specs.Field.{Field}
 use Rattle.sheet_mass.specs.Mass.{as_milligrams}
 use Rattle.sheet_line.specs.Line.{line_of}
 use Rattle.sheet_line.specs.declared.line.Line.{Line}
@@ -27,9 +27,9 @@ sum (mg ∷ mgs) = mg + sum mgs
 
 -- the agent needed is blank or out of its range (RULES 2.4)
 pub data NoNeed : Field → Type 0 where
-  blank : NoNeed Field.Blank
-  no_agent : NoNeed (Field.Number 0)
-  too_much : {mg : ℕ} → 9_999_999_999 < mg → NoNeed (Field.Number mg)
+  blank : NoNeed None
+  no_agent : NoNeed (Some 0)
+  too_much : {mg : ℕ} → 9_999_999_999 < mg → NoNeed (Some mg)
 
 -- in the form, with 1 to 32 lines
 pub record Lined (t : List ℕ) (b : Bank) : Type 0 where
@@ -40,7 +40,7 @@ pub record Lined (t : List ℕ) (b : Bank) : Type 0 where
 -- and with a need
 pub record Needs (t : List ℕ) (b : Bank) (mg : ℕ) : Type 0 where
   pub lined : Lined t b
-  pub need : b.need ≡ Field.Number mg
+  pub need : b.need ≡ Some mg
   pub at_least : 1 ≤ mg
   pub at_most : mg ≤ 9_999_999_999
 

@@ -1,9 +1,9 @@
 -- RULES 3.2, 6.6 and 10.1: what is demanded of a line on its sheet: when a number stands there twice, what came of each line then, and what is as it was
 -- before there was a refusal 30. Definitions only.
-use Rattle.std.specs.Prelude.{ℕ, ◌<◌, ◌≡◌, true, List, map, length, get_or}
+use Rattle.std.specs.Prelude.{ℕ, ◌<◌, ◌≡◌, true, List, map, length, get_or, Some, None}
 use Rattle.std.proofs.Math.Option.{Option, none, some}
 use Rattle.door_limits.specs.declared.Limits.{Limits}
-use Rattle.sheet_text.specs.declared.Field.{Field}
+use Rattle.sheet_text.specs.Field.{Field}
 use Rattle.sheet_mass.specs.Mass.{as_milligrams}
 use Rattle.sheet_line.specs.Line.{line_of}
 use Rattle.sheet_line.specs.declared.cylinder.Kind.{Kind}
@@ -21,7 +21,7 @@ use Rattle.demands.specs.Lines.{Dashed, RefusesLine, Weighs}
 
 -- where a sheet has no line
 abbrev pub no_cylinder : Cylinder
-no_cylinder = record { number = Field.Blank; temperature = Field.Blank; kind = Kind.Pressure; value = Field.Blank; volume = Field.Blank }
+no_cylinder = record { number = None; temperature = None; kind = Kind.Pressure; value = None; volume = None }
 
 -- and where there is no mark
 abbrev pub no_mark : Mark
@@ -36,8 +36,8 @@ pub record Again (cs : List Cylinder) (i : ℕ) : Type 0 where
   pub earlier : ℕ
   pub cylinder : ℕ
   pub before : earlier < i
-  pub there : (at cs earlier).number ≡ Field.Number cylinder
-  pub here : (at cs i).number ≡ Field.Number cylinder
+  pub there : (at cs earlier).number ≡ Some cylinder
+  pub here : (at cs i).number ≡ Some cylinder
 
 -- a sheet that names a number twice
 pub record Twice (cs : List Cylinder) : Type 0 where

@@ -1,6 +1,6 @@
 -- RULES 14.3: what a line's explanation takes of the report and of the sheet. Definitions only.
-use Rattle.std.specs.Prelude.{ℕ, get_or}
-use Rattle.sheet_text.specs.declared.Field.{Field}
+use Rattle.std.specs.Prelude.{ℕ, get_or, Some, None}
+use Rattle.sheet_text.specs.Field.{Field}
 use Rattle.sheet_read.specs.declared.Sheet.{Sheet}
 use Rattle.sheet_outcome.specs.declared.Weighed.{Weighed}
 use Rattle.sheet_outcome.specs.declared.Marks.{Marks}
@@ -12,5 +12,5 @@ mark_at m i = (get_or m.marks i (record { weighed = Weighed.Refused 0 })).weighe
 
 -- the place of the first line that has the cylinder number; 0 for a blank, which is none
 abbrev pub first_of : Sheet → Field → ℕ
-first_of s Field.Blank = 0
-first_of s (Field.Number n) = first_with 1 s.lines n
+first_of s None = 0
+first_of s (Some n) = first_with 1 s.lines n

@@ -6,7 +6,7 @@ ghost use Rattle.std.specs.Prelude.{◌≡◌, ◌≤◌, ◌<◌, length};
 ghost use Rattle.desk_explain.specs.Explain.{mark_at, first_of};
 
 use desk_lines::{say_line, say_warnings};
-use desk_look::gauge::{Gauge, gauge_of};
+use desk_look::gauge::{gauge_of};
 use desk_look::held::{Margin, is_heavy, look_at, margin_of};
 use desk_paper::paper::{Paper, say, say_number, say_refusal, say_shown};
 use desk_units::{kilograms_down, kilograms_up};
@@ -17,7 +17,7 @@ use sheet_line::line::{LineAt, read_line};
 use sheet_outcome::{Ending, Marks, Weighed};
 use sheet_read::{Sheet, read_sheet};
 use sheet_standing::first_with;
-use sheet_text::{Field, FieldAt, read_field_after};
+use sheet_text::{FieldAt, read_field_after};
 use sheet_weigh::weigh_sheet;
 
 // How many gauges can't tell, and how many lines hold more than a cylinder is filled with.
@@ -39,12 +39,12 @@ fn mark_at(m: Marks, i: usize) -> Weighed
 }
 
 // The first line that has the cylinder number; a blank is none.
-fn first_of(sheet: Sheet, number: Field) -> usize
+fn first_of(sheet: Sheet, number: Option<u64>) -> usize
     ensures { result ≡ first_of sheet number }
 {
     match number {
-        Field::Blank => 0,
-        Field::Number(n) => first_with(sheet, n),
+        None => 0,
+        Some(n) => first_with(sheet, n),
     }
 }
 
@@ -114,10 +114,10 @@ fn say_cylinders(
     out
 }
 
-fn say_need(p: Paper, need: Field) -> Paper {
+fn say_need(p: Paper, need: Option<u64>) -> Paper {
     match need {
-        Field::Blank => say(p, b"-"),
-        Field::Number(mg) => say_shown(p, kilograms_up(mg)),
+        None => say(p, b"-"),
+        Some(mg) => say_shown(p, kilograms_up(mg)),
     }
 }
 
@@ -129,8 +129,8 @@ fn doubt_at(limits: Limits, s: &[u8], at: usize) -> usize
         return 0;
     };
     match gauge_of(limits, l) {
-        Gauge::Tells => 0,
-        Gauge::Doubts(_) => 1,
+        None => 0,
+        Some(_) => 1,
     }
 }
 
@@ -180,8 +180,8 @@ fn say_count(p: Paper, words: &[u8], n: usize) -> Paper {
     say(say_number(say(p, words), n as u64), b".")
 }
 
-fn say_margin(p: Paper, mg: u64, need: Field, warned: Warned) -> Paper {
-    let Field::Number(needed) = need else {
+fn say_margin(p: Paper, mg: u64, need: Option<u64>, warned: Warned) -> Paper {
+    let Some(needed) = need else {
         return p;
     };
     let a = say_shown(say(p, b"Held "), kilograms_down(mg));
@@ -201,7 +201,7 @@ fn say_sent_back(p: Paper, s: &[u8], n: u8) -> Paper {
     if n == 14 { say_where(a, s) } else { a }
 }
 
-fn say_no_verdict(p: Paper, need: Field) -> Paper {
+fn say_no_verdict(p: Paper, need: Option<u64>) -> Paper {
     let a = say_need(say(p, b"Needed "), need);
     say_refusal(say(a, b" kg. Sent back by "), 13)
 }
@@ -214,7 +214,7 @@ fn has_lines(e: Ending) -> bool {
     }
 }
 
-fn say_ending(p: Paper, limits: Limits, s: &[u8], marks: Marks, need: Field, e: Ending) -> Paper {
+fn say_ending(p: Paper, limits: Limits, s: &[u8], marks: Marks, need: Option<u64>, e: Ending) -> Paper {
     match e {
         Ending::Covered(mg) => say_margin(p, mg.0, need, count_warned(limits, s, marks)),
         Ending::Short(mg) => say_margin(p, mg.0, need, count_warned(limits, s, marks)),

@@ -1,4 +1,5 @@
 -- A text that was cut is had back, and what is printed as one line is cut off as one. Assumes nothing.
+use Rattle.std.specs.Prelude.{Some, None}
 use mathlib.Core.Path.{◌≡◌, refl, sym, ap, ◌∙◌}
 use mathlib.Core.Bool.{Bool, true, false, cond}
 use mathlib.Core.List.{List, [], ◌∷◌, ◌++◌}
@@ -8,9 +9,7 @@ use native.Mathlib.Omega.{arith}
 use lib.Dec.{eqb}
 use borrow.Author.Tests.{ne_eqb}
 use Rattle.sheet_text.specs.Decimal.{decimal}
-use Rattle.sheet_text.specs.Field.{field_text}
-use Rattle.sheet_text.specs.declared.Field.{Field}
-use Rattle.sheet_text.specs.declared.Field.TheVariants.{Blank, Number}
+use Rattle.sheet_text.specs.Field.{field_text, Field}
 use Rattle.sheet_text.proofs.Decimals.{decimal_small, decimal_large}
 use Rattle.sheet_line.specs.Cylinder.{kind_letter, cylinder_text}
 use Rattle.sheet_line.specs.declared.cylinder.Kind.{Kind}
@@ -87,8 +86,8 @@ decimal_free (suc k) n h =
 
 field_free : (f : Field) → Free (field_text f)
 unfolding field_text
-field_free Blank = (refl, tt)
-field_free (Number n) = decimal_free n n (omega arith)
+field_free None = (refl, tt)
+field_free (Some n) = decimal_free n n (omega arith)
 
 -- a field and then a line
 field_line : (f : Field) (t : List ℕ) → OneLine t → OneLine (field_text f ++ t)

@@ -7,8 +7,7 @@ use Prim.Native.Nat.{ℕ, zero, suc, ◌+◌, ◌≤◌, ◌<◌}
 use native.Mathlib.Omega.{arith}
 use lib.ListN.{length, length-append}
 use borrow.Author.Tests.{le-leb}
-use Rattle.sheet_text.specs.Field.{field_text, field_after}
-use Rattle.sheet_text.specs.declared.Field.{Field}
+use Rattle.sheet_text.specs.Field.{field_text, field_after, Field}
 use Rattle.sheet_text.proofs.Parses.{Says}
 use Rattle.sheet_text.proofs.Printed.{after_says}
 use Rattle.sheet_line.specs.Cylinder.{cylinder_text, cylinder}

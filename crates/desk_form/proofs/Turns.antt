@@ -8,9 +8,8 @@ use native.Mathlib.Omega.{arith}
 use lib.Dec.{eqb}
 use lib.ListN.{length, drop, drop_of_length-le}
 use Rattle.sheet_text.specs.Parse.{byte}
-use Rattle.sheet_text.specs.Field.{Small, field_text, field_after}
+use Rattle.sheet_text.specs.Field.{Small, field_text, field_after, Field}
 use Rattle.sheet_text.specs.Place.{Leaves}
-use Rattle.sheet_text.specs.declared.Field.{Field}
 use Rattle.sheet_text.proofs.Parses.{front}
 use Rattle.sheet_text.proofs.Printed.{after_back, after_says, after_small}
 use Rattle.sheet_line.specs.Cylinder.{AllSmall, cylinder_text, cylinder}

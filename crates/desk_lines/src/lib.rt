@@ -1,45 +1,44 @@
 // RULES 14.3 and 14.4: a cylinder's line and its warnings.
 #![tactic(auto)]
 
-use desk_look::gauge::{Doubt, Gauge};
+use desk_look::gauge::{Doubt};
 use desk_look::held::{Held, Look, Weight, is_heavy};
 use desk_paper::paper::{Paper, say, say_figure, say_mass, say_number, say_refused, say_shown};
 use desk_units::{bar, celsius, density, kilograms_down, pressure, thousandth};
 use eos_state::Phase;
 use sheet_line::cylinder::{Cylinder, Kind};
-use sheet_text::Field;
 
-fn say_field(p: Paper, f: Field) -> Paper {
+fn say_field(p: Paper, f: Option<u64>) -> Paper {
     match f {
-        Field::Blank => say(p, b"-"),
-        Field::Number(n) => say_number(p, n),
+        None => say(p, b"-"),
+        Some(n) => say_number(p, n),
     }
 }
 
-fn say_temperature(p: Paper, f: Field) -> Paper {
+fn say_temperature(p: Paper, f: Option<u64>) -> Paper {
     let a = match f {
-        Field::Blank => say(p, b"-"),
-        Field::Number(n) => say_shown(p, celsius(n)),
+        None => say(p, b"-"),
+        Some(n) => say_shown(p, celsius(n)),
     };
     say(a, b" C")
 }
 
-fn say_thousandth(p: Paper, f: Field) -> Paper {
+fn say_thousandth(p: Paper, f: Option<u64>) -> Paper {
     match f {
-        Field::Blank => say(p, b"-"),
-        Field::Number(n) => say_shown(p, thousandth(n)),
+        None => say(p, b"-"),
+        Some(n) => say_shown(p, thousandth(n)),
     }
 }
 
-fn say_bar(p: Paper, f: Field) -> Paper {
+fn say_bar(p: Paper, f: Option<u64>) -> Paper {
     let a = match f {
-        Field::Blank => say(p, b"-"),
-        Field::Number(n) => say_shown(p, bar(n)),
+        None => say(p, b"-"),
+        Some(n) => say_shown(p, bar(n)),
     };
     say(a, b" bar")
 }
 
-fn say_value(p: Paper, kind: Kind, f: Field) -> Paper {
+fn say_value(p: Paper, kind: Kind, f: Option<u64>) -> Paper {
     match kind {
         Kind::Pressure => say_bar(p, f),
         Kind::Density => say(say_thousandth(p, f), b" kg/m3"),
@@ -56,7 +55,7 @@ fn say_phase(p: Paper, phase: Phase) -> Paper {
 }
 
 // Which line, and which cylinder.
-fn say_place(p: Paper, i: usize, number: Field) -> Paper {
+fn say_place(p: Paper, i: usize, number: Option<u64>) -> Paper {
     let a = say_number(say(p, b"L "), i as u64);
     let b = say_field(say(a, b", cylinder "), number);
     say(b, b": ")
@@ -109,7 +108,7 @@ pub fn say_line(p: Paper, i: usize, c: Cylinder, k: Look, first: usize) -> Paper
     }
 }
 
-fn say_doubt(p: Paper, d: Doubt, temperature: Field, value: Field) -> Paper {
+fn say_doubt(p: Paper, d: Doubt, temperature: Option<u64>, value: Option<u64>) -> Paper {
     let vapour = d.vapour;
     let liquid = d.liquid;
     let a = say_temperature(say(p, b"the gauge can't tell. At "), temperature);
@@ -136,7 +135,7 @@ fn say_dense(p: Paper, h: Held) -> Paper {
     )
 }
 
-fn say_overfull(p: Paper, value: Field, volume: Field) -> Paper {
+fn say_overfull(p: Paper, value: Option<u64>, volume: Option<u64>) -> Paper {
     let a = say_thousandth(p, value);
     let b = say_thousandth(say(a, b" kg in "), volume);
     say(
@@ -164,12 +163,12 @@ fn say_front(p: Paper, name: &[u8]) -> Paper {
 }
 
 // Each after the name.
-pub fn say_warnings(p: Paper, name: &[u8], i: usize, c: Cylinder, k: Look, g: Gauge) -> Paper {
+pub fn say_warnings(p: Paper, name: &[u8], i: usize, c: Cylinder, k: Look, g: Option<Doubt>) -> Paper {
     let number = c.number;
     let temperature = c.temperature;
     let value = c.value;
     let mut out = p;
-    if let Gauge::Doubts(d) = g {
+    if let Some(d) = g {
         out = say_doubt(
             say_place(say_front(out, name), i, number),
             d,

@@ -1,4 +1,5 @@
 -- What is explained of a line never differs from the report: its milligrams or its refusal are those that were weighed. Assumes nothing.
+use Rattle.std.specs.Prelude.{Some, None}
 use Prim.Native.Nat.{ℕ}
 use mathlib.Core.Path.{◌≡◌, refl, ap}
 use mathlib.Core.List.{List}
@@ -10,11 +11,11 @@ use Rattle.door_checks.specs.declared.Check.{Check}
 use Rattle.door_answers.specs.declared.Answer.{Answer}
 use Rattle.door_pressure.specs.PressureDoor.{pressure_door}
 use Rattle.door_density.specs.DensityDoor.{density_door}
-use Rattle.sheet_text.specs.declared.Field.{Field}
+use Rattle.sheet_text.specs.Field.{Field}
 use Rattle.sheet_mass.specs.Mass.{from_scale}
 use Rattle.sheet_mass.specs.declared.Grams.{Grams}
 use Rattle.sheet_mass.specs.declared.Milligrams.{Milligrams}
-use Rattle.sheet_line.specs.declared.line.Temperature.{Temperature}
+use Rattle.sheet_line.specs.Line.{Temperature}
 use Rattle.sheet_line.specs.declared.line.Reading.{Reading}
 use Rattle.sheet_line.specs.declared.line.Line.{Line}
 use Rattle.sheet_outcome.specs.declared.Weighed.{Weighed}
@@ -54,23 +55,23 @@ module _ (L : Limits) where
   of_reading : (v : ℕ) (k : Temperature) (volume : Field) (r : Reading) → weighs (looked L (by_reading L k v r) k volume r) ≡ by_reading L k v r
   unfolding by_reading
   of_reading v k volume Reading.Blank = refl
-  of_reading v Temperature.Blank volume (Reading.Pressure p) = refl
-  of_reading v Temperature.Blank volume (Reading.Density d) = refl
-  of_reading v (Temperature.Kelvin t) volume (Reading.Pressure p) =
-      let k = Temperature.Kelvin t in
+  of_reading v None volume (Reading.Pressure p) = refl
+  of_reading v None volume (Reading.Density d) = refl
+  of_reading v (Some t) volume (Reading.Pressure p) =
+      let k = Some t in
       let r = Reading.Pressure p in
       of_volume k volume r v _ (of_answer k volume r v (pressure_door of1996 L t p) (λ mg. refl))
-  of_reading v (Temperature.Kelvin t) volume (Reading.Density d) =
-      let k = Temperature.Kelvin t in
+  of_reading v (Some t) volume (Reading.Density d) =
+      let k = Some t in
       let r = Reading.Density d in
       of_volume k volume r v _ (of_answer k volume r v (density_door of1996 L t d) (λ mg. refl))
   of_reading v k volume (Reading.Weighed g) = of_scale k volume g (filled v (on_scale (from_scale g)))
 
   of_fields : (number volume : Field) (k : Temperature) (r : Reading)
       → (let w = if_number number (λ _. if_number volume (λ v. by_reading L k v r)) in weighs (looked L w k volume r) ≡ w)
-  of_fields Field.Blank volume k r = refl
-  of_fields (Field.Number n) Field.Blank k r = refl
-  of_fields (Field.Number n) (Field.Number v) k r = of_reading v k (Field.Number v) r
+  of_fields None volume k r = refl
+  of_fields (Some n) None k r = refl
+  of_fields (Some n) (Some v) k r = of_reading v k (Some v) r
 
   of_check : (c : Check) (l : Line) → weighs (look L (if_passed c (weighed L l)) l) ≡ if_passed c (weighed L l)
   unfolding look weighed

@@ -3,7 +3,7 @@ use mathlib.Core.Bool.{Bool}
 use Rattle.num_working.proofs.Unique.{OneAnswer, by_equation}
 use Rattle.desk_look.specs.declared.held.Look.{Look}
 use Rattle.desk_look.specs.declared.held.Margin.{Margin}
-use Rattle.desk_look.specs.declared.gauge.Gauge.{Gauge}
+use Rattle.desk_look.specs.Gauge.{Gauge}
 use Rattle.desk_look.proofs.held.look_at.Reads as look_at
 use Rattle.desk_look.proofs.held.is_heavy.Reads as is_heavy
 use Rattle.desk_look.proofs.held.margin_of.Reads as margin_of

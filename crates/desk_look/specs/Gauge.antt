@@ -1,23 +1,21 @@
 -- RULES 14.4: a gauge that can't tell how much a cylinder holds, since it stands by the vapour pressure. Definitions only.
-use Rattle.std.specs.Prelude.{ℕ, Bool, not, cond, Float}
+use Rattle.std.specs.Prelude.{ℕ, Bool, not, cond, Float, Some, None}
 use Rattle.std.specs.Float.{binary64}
 use Rattle.std.specs.Float.Ieee.{neg, sub, mul}
 use Rattle.num_working.specs.Number.{whole}
-use Rattle.num_whole.specs.Whole.{whole_below}
-use Rattle.num_whole.specs.declared.Below.{Below}
+use Rattle.num_whole.specs.Whole.{whole_below, Below}
 use Rattle.equation.specs.Equation.{of1996}
 use Rattle.door_limits.specs.Limits.{range, outside}
 use Rattle.door_limits.specs.declared.Limits.{Limits}
 use Rattle.door_saturation.specs.Saturation.{saturated}
 use Rattle.door_saturation.specs.declared.Saturation.{Saturation}
 use Rattle.door_saturation.specs.declared.Saturated.{Saturated}
-use Rattle.sheet_text.specs.declared.Field.{Field}
-use Rattle.sheet_line.specs.declared.line.Temperature.{Temperature}
+use Rattle.sheet_text.specs.Field.{Field}
+use Rattle.sheet_line.specs.Line.{Temperature}
 use Rattle.sheet_line.specs.declared.line.Reading.{Reading}
 use Rattle.sheet_line.specs.declared.line.Line.{Line}
 use Rattle.sheet_weigh.specs.Weighing.{is_volume}
 use Rattle.desk_look.specs.declared.gauge.Doubt.{Doubt}
-use Rattle.desk_look.specs.declared.gauge.Gauge.{Gauge}
 
 -- within 2 bar, in Pa, both ends inside: one difference
 unfoldable pub near : Float → Float → Bool
@@ -31,26 +29,26 @@ unfoldable pub doubt_of : Saturation → ℕ → Doubt
 doubt_of s v = record { pressure = s.pressure; vapour = product_of s.vapour v; liquid = product_of s.liquid v }
 
 abbrev pub gauge_by : Saturated → Float → ℕ → Gauge
-gauge_by (Saturated.Is s) p v = cond (near p s.pressure) (Gauge.Doubts (doubt_of s v)) Gauge.Tells
-gauge_by (Saturated.Refused n) p v = Gauge.Tells
+gauge_by (Saturated.Is s) p v = cond (near p s.pressure) (Some (doubt_of s v)) None
+gauge_by (Saturated.Refused n) p v = None
 
 -- where the volume is in its range
 unfoldable pub gauge_in : Limits → Float → Float → ℕ → Gauge
-gauge_in L t p v = cond (is_volume v) (gauge_by (saturated of1996 L t) p v) Gauge.Tells
+gauge_in L t p v = cond (is_volume v) (gauge_by (saturated of1996 L t) p v) None
 
 -- of a pressure at a temperature
 abbrev pub gauge_at : Limits → Temperature → Reading → ℕ → Gauge
-gauge_at L Temperature.Blank r v = Gauge.Tells
-gauge_at L (Temperature.Kelvin t) Reading.Blank v = Gauge.Tells
-gauge_at L (Temperature.Kelvin t) (Reading.Pressure p) v = gauge_in L t p v
-gauge_at L (Temperature.Kelvin t) (Reading.Density d) v = Gauge.Tells
-gauge_at L (Temperature.Kelvin t) (Reading.Weighed g) v = Gauge.Tells
+gauge_at L None r v = None
+gauge_at L (Some t) Reading.Blank v = None
+gauge_at L (Some t) (Reading.Pressure p) v = gauge_in L t p v
+gauge_at L (Some t) (Reading.Density d) v = None
+gauge_at L (Some t) (Reading.Weighed g) v = None
 
 -- none of the line's fields is blank
 abbrev pub gauge_of : Limits → Field → Field → Temperature → Reading → Gauge
-gauge_of L Field.Blank volume k r = Gauge.Tells
-gauge_of L (Field.Number n) Field.Blank k r = Gauge.Tells
-gauge_of L (Field.Number n) (Field.Number v) k r = gauge_at L k r v
+gauge_of L None volume k r = None
+gauge_of L (Some n) None k r = None
+gauge_of L (Some n) (Some v) k r = gauge_at L k r v
 
 unfoldable pub gauge : Limits → Line → Gauge
 gauge L l = gauge_of L l.number l.volume l.temperature l.reading

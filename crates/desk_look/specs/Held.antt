@@ -1,5 +1,5 @@
 -- RULES 14.3 and 14.4: a line's mass with the density and the phase of its state, or weighed, or its refusal; what is to spare or missing. Definitions only.
-use Rattle.std.specs.Prelude.{ℕ, ◌-◌, ◌*◌, Bool, false, cond, ◌&&◌, leb, ltb, Float}
+use Rattle.std.specs.Prelude.{ℕ, ◌-◌, ◌*◌, Bool, false, cond, ◌&&◌, leb, ltb, Float, Some, None}
 use Rattle.std.specs.Float.Ieee.{lt}
 use Rattle.num_working.specs.Number.{whole}
 use Rattle.equation.specs.Equation.{of1996}
@@ -7,9 +7,9 @@ use Rattle.door_limits.specs.declared.Limits.{Limits}
 use Rattle.door_answers.specs.declared.Answer.{Answer}
 use Rattle.door_pressure.specs.PressureDoor.{pressure_door}
 use Rattle.door_density.specs.DensityDoor.{density_door}
-use Rattle.sheet_text.specs.declared.Field.{Field}
+use Rattle.sheet_text.specs.Field.{Field}
 use Rattle.sheet_mass.specs.declared.Milligrams.{Milligrams}
-use Rattle.sheet_line.specs.declared.line.Temperature.{Temperature}
+use Rattle.sheet_line.specs.Line.{Temperature}
 use Rattle.sheet_line.specs.declared.line.Reading.{Reading}
 use Rattle.sheet_line.specs.declared.line.Line.{Line}
 use Rattle.sheet_outcome.specs.declared.Weighed.{Weighed}
@@ -24,13 +24,13 @@ held mg (Answer.Refused n) = Look.Refused n
 
 -- what the door says at the temperature; without one it is not asked
 abbrev pub at_door : Milligrams → Temperature → (Float → Answer) → Look
-at_door mg Temperature.Blank door = Look.Refused 1
-at_door mg (Temperature.Kelvin t) door = held mg (door t)
+at_door mg None door = Look.Refused 1
+at_door mg (Some t) door = held mg (door t)
 
 -- more than 750 mg a mL; a line that has milligrams has a volume in its range
 abbrev pub overfull : Milligrams → Field → Bool
-overfull mg Field.Blank = false
-overfull mg (Field.Number v) = is_volume v && ltb (750 * v) mg.0
+overfull mg None = false
+overfull mg (Some v) = is_volume v && ltb (750 * v) mg.0
 
 -- the door is that of the reading's kind; a blank has none, and what was weighed is of no state
 abbrev pub seen : Limits → Milligrams → Temperature → Field → Reading → Look

@@ -4,23 +4,16 @@ ghost use Rattle.desk_look.specs.Gauge.{near, product_of, doubt_of, gauge_by, ga
 
 use door_limits::{Limits, Range, is_outside};
 use door_saturation::{Saturated, Saturation, saturated_at};
-use num_whole::{Below, whole_below};
-use sheet_line::line::{Line, Reading, Temperature};
-use sheet_text::Field;
+use num_whole::{whole_below};
+use sheet_line::line::{Line, Reading};
 use sheet_weigh::is_volume;
 
 // The vapour pressure in Pa, and the milligrams of the cylinder full of vapour and full of liquid at it.
 #[derive(Clone, Copy)]
 pub struct Doubt {
     pub pressure: f64,
-    pub vapour: Below,
-    pub liquid: Below,
-}
-
-#[derive(Clone, Copy)]
-pub enum Gauge {
-    Tells,
-    Doubts(Doubt),
+    pub vapour: Option<u64>,
+    pub liquid: Option<u64>,
 }
 
 // Within 2 bar, in Pa, both ends inside.
@@ -37,7 +30,7 @@ fn is_near(p: f64, saturated: f64) -> bool
 }
 
 // RULES 6.5
-fn product_of(rho: f64, v: u64) -> Below
+fn product_of(rho: f64, v: u64) -> Option<u64>
     requires { v ≤ 1_000_000 }
     ensures { result ≡ product_of rho v }
 {
@@ -57,54 +50,54 @@ fn doubt_of(s: Saturation, v: u64) -> Doubt
     }
 }
 
-fn gauge_by(s: Saturated, p: f64, v: u64) -> Gauge
+fn gauge_by(s: Saturated, p: f64, v: u64) -> Option<Doubt>
     requires { v ≤ 1_000_000 }
     ensures { result ≡ gauge_by s p v }
 {
     let Saturated::Is(x) = s else {
-        return Gauge::Tells;
+        return None;
     };
     if is_near(p, x.pressure) {
-        return Gauge::Doubts(doubt_of(x, v));
+        return Some(doubt_of(x, v));
     }
-    Gauge::Tells
+    None
 }
 
-fn gauge_in(limits: Limits, t: f64, p: f64, v: u64) -> Gauge
+fn gauge_in(limits: Limits, t: f64, p: f64, v: u64) -> Option<Doubt>
     ensures { result ≡ gauge_in limits t p v }
 {
     if is_volume(v) {
         return gauge_by(saturated_at(limits, t), p, v);
     }
-    Gauge::Tells
+    None
 }
 
-fn gauge_at(limits: Limits, k: Temperature, r: Reading, v: u64) -> Gauge
+fn gauge_at(limits: Limits, k: Option<f64>, r: Reading, v: u64) -> Option<Doubt>
     ensures { result ≡ gauge_at limits k r v }
 {
-    let Temperature::Kelvin(t) = k else {
-        return Gauge::Tells;
+    let Some(t) = k else {
+        return None;
     };
     match r {
-        Reading::Blank => Gauge::Tells,
+        Reading::Blank => None,
         Reading::Pressure(p) => gauge_in(limits, t, p, v),
-        Reading::Density(_) => Gauge::Tells,
-        Reading::Weighed(_) => Gauge::Tells,
+        Reading::Density(_) => None,
+        Reading::Weighed(_) => None,
     }
 }
 
-pub fn gauge_of(limits: Limits, l: Line) -> Gauge
+pub fn gauge_of(limits: Limits, l: Line) -> Option<Doubt>
     ensures { result ≡ gauge limits l }
 {
     let number = l.number;
     let volume = l.volume;
     let temperature = l.temperature;
     let reading = l.reading;
-    let Field::Number(_) = number else {
-        return Gauge::Tells;
+    let Some(_) = number else {
+        return None;
     };
-    let Field::Number(v) = volume else {
-        return Gauge::Tells;
+    let Some(v) = volume else {
+        return None;
     };
     gauge_at(limits, temperature, reading, v)
 }

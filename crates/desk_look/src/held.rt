@@ -11,10 +11,9 @@ use door_density::from_density;
 use door_limits::Limits;
 use door_pressure::from_pressure;
 use eos_state::Phase;
-use sheet_line::line::{Line, Reading, Temperature};
+use sheet_line::line::{Line, Reading};
 use sheet_mass::Milligrams;
 use sheet_outcome::Weighed;
-use sheet_text::Field;
 use sheet_weigh::is_volume;
 
 // With the density in kg/m³.
@@ -62,29 +61,29 @@ fn held_with(mg: Milligrams, a: Answer) -> Look
     }
 }
 
-fn by_pressure(limits: Limits, mg: Milligrams, k: Temperature, p: f64) -> Look
+fn by_pressure(limits: Limits, mg: Milligrams, k: Option<f64>, p: f64) -> Look
     ensures { result ≡ at_door mg k (λ t. pressure_door of1996 limits t p) }
 {
-    let Temperature::Kelvin(t) = k else {
+    let Some(t) = k else {
         return Look::Refused(1);
     };
     held_with(mg, from_pressure(limits, t, p))
 }
 
-fn by_density(limits: Limits, mg: Milligrams, k: Temperature, d: f64) -> Look
+fn by_density(limits: Limits, mg: Milligrams, k: Option<f64>, d: f64) -> Look
     ensures { result ≡ at_door mg k (λ t. density_door of1996 limits t d) }
 {
-    let Temperature::Kelvin(t) = k else {
+    let Some(t) = k else {
         return Look::Refused(1);
     };
     held_with(mg, from_density(limits, t, d))
 }
 
 // Above 750 mg a mL.
-fn is_overfull(mg: Milligrams, volume: Field) -> bool
+fn is_overfull(mg: Milligrams, volume: Option<u64>) -> bool
     ensures { result ≡ overfull mg volume }
 {
-    let Field::Number(v) = volume else {
+    let Some(v) = volume else {
         return false;
     };
     if is_volume(v) {
@@ -94,7 +93,7 @@ fn is_overfull(mg: Milligrams, volume: Field) -> bool
 }
 
 // With the state that the milligrams are of, or that they were weighed.
-fn seen_by(limits: Limits, mg: Milligrams, k: Temperature, volume: Field, r: Reading) -> Look
+fn seen_by(limits: Limits, mg: Milligrams, k: Option<f64>, volume: Option<u64>, r: Reading) -> Look
     ensures { result ≡ seen limits mg k volume r }
 {
     match r {

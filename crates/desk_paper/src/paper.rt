@@ -1,9 +1,8 @@
 // What is written to, and whether all that was said so far could be written: after a failure nothing more is.
 ghost use Rattle.std.specs.Prelude.{◌≤◌};
 
-use desk_units::{Figure, Shown, kilograms_down, put_shown};
+use desk_units::{Shown, kilograms_down, put_shown};
 use desk_words::put_words;
-use num_whole::Below;
 use std::io::{Cursor, Error, Print, Stderr, Stdout, Write};
 
 // What a paper lies on: a stream of the program's own, or an open file by its number.
@@ -71,18 +70,18 @@ pub fn say_shown(p: Paper, s: Shown) -> Paper {
     say(p, &space[..n])
 }
 
-pub fn say_figure(p: Paper, f: Figure) -> Paper {
+pub fn say_figure(p: Paper, f: Option<Shown>) -> Paper {
     match f {
-        Figure::Is(s) => say_shown(p, s),
-        Figure::None => say(p, b"-"),
+        Some(s) => say_shown(p, s),
+        None => say(p, b"-"),
     }
 }
 
 // In kg, rounded down.
-pub fn say_mass(p: Paper, mg: Below) -> Paper {
+pub fn say_mass(p: Paper, mg: Option<u64>) -> Paper {
     match mg {
-        Below::At(n) => say_shown(p, kilograms_down(n)),
-        Below::Out => say(p, b"-"),
+        Some(n) => say_shown(p, kilograms_down(n)),
+        None => say(p, b"-"),
     }
 }
 

@@ -4,7 +4,7 @@ use contract.Lifetimes.{Lfts}
 use Rattle.num_working.proofs.Unique.{OneAnswer, by_equation}
 use Rattle.sheet_write.proofs.Unique.{OneWriting, one_fitted}
 use Rattle.desk_units.specs.declared.Shown.{Shown}
-use Rattle.desk_units.specs.declared.Figure.{Figure}
+use Rattle.desk_units.specs.Units.{Figure}
 use Rattle.desk_units.proofs.celsius.Reads as celsius
 use Rattle.desk_units.proofs.bar.Reads as bar
 use Rattle.desk_units.proofs.thousandth.Reads as thousandth

@@ -1,12 +1,10 @@
 -- RULES 14.2: the numbers of a sheet and of an answer in the units of a person, all by whole numbers. Definitions only.
-use Rattle.std.specs.Prelude.{ℕ, zero, suc, ◌+◌, ◌-◌, ◌/◌, ◌%◌, Bool, true, false, cond, ltb, eqb, Float}
+use Rattle.std.specs.Prelude.{ℕ, zero, suc, ◌+◌, ◌-◌, ◌/◌, ◌%◌, Bool, true, false, cond, ltb, eqb, Float, Some, None}
 use Rattle.std.specs.Float.{binary64}
 use Rattle.std.specs.Float.Ieee.{mul}
 use Rattle.num_working.specs.Number.{whole}
-use Rattle.num_whole.specs.Whole.{whole_below}
-use Rattle.num_whole.specs.declared.Below.{Below}
+use Rattle.num_whole.specs.Whole.{whole_below, Below}
 use Rattle.desk_units.specs.declared.Shown.{Shown}
-use Rattle.desk_units.specs.declared.Figure.{Figure}
 
 -- digits, so many of them behind the point
 abbrev pub with : Bool → ℕ → ℕ → Shown
@@ -53,8 +51,8 @@ kilograms_up mg = with false 3 (rounded_up 1000 mg)
 
 -- of the whole number at or below, to the nearest, with so many places; none where there is no such number
 abbrev pub figure : ℕ → ℕ → Below → Figure
-figure places by (Below.At n) = Figure.Is (with false places (nearest by n))
-figure places by Below.Out = Figure.None
+figure places by (Some n) = Some (with false places (nearest by n))
+figure places by None = None
 
 -- of a state, in kg/m³, by its g/m³
 unfoldable pub density : Float → Figure

@@ -6,7 +6,7 @@ ghost use Rattle.sheet_write.specs.Writing.{Wrote, Fitted};
 ghost use Rattle.desk_units.specs.Units.{rounded_up, nearest, shortest, celsius, bar, thousandth, kilograms_down, kilograms_up, density, pressure};
 ghost use Rattle.desk_units.specs.Shown.{front, last_digits, sign_text, shown_text};
 
-use num_whole::{Below, whole_below};
+use num_whole::{whole_below};
 use sheet_write::{number_len, put, put_number};
 
 // digits, with so many of them behind the point; `-` in front where it is below 0.
@@ -18,12 +18,6 @@ pub struct Shown {
 }
 
 // A number that could be had, or none.
-#[derive(Clone, Copy)]
-pub enum Figure {
-    Is(Shown),
-    None,
-}
-
 // ---- from a number of the sheet
 
 // With no 0 at its end, but one place stays.
@@ -117,23 +111,23 @@ pub fn kilograms_up(mg: u64) -> Shown
 }
 
 // Of a state, in kg/m³.
-pub fn density(rho: f64) -> Figure
+pub fn density(rho: f64) -> Option<Shown>
     ensures { result ≡ density rho }
 {
-    let Below::At(n) = whole_below(rho * 1000.0) else {
-        return Figure::None;
+    let Some(n) = whole_below(rho * 1000.0) else {
+        return None;
     };
-    Figure::Is(fixed(nearest(n, 100), 1))
+    Some(fixed(nearest(n, 100), 1))
 }
 
 // Of saturation, from Pa in bar.
-pub fn pressure(p: f64) -> Figure
+pub fn pressure(p: f64) -> Option<Shown>
     ensures { result ≡ pressure p }
 {
-    let Below::At(n) = whole_below(p) else {
-        return Figure::None;
+    let Some(n) = whole_below(p) else {
+        return None;
     };
-    Figure::Is(fixed(nearest(n, 1000), 2))
+    Some(fixed(nearest(n, 1000), 2))
 }
 
 // ---- as text

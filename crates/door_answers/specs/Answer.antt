@@ -1,7 +1,6 @@
 -- RULES 3.5: what a door answers, a state or a refusal's number and nothing else. Definitions only.
-use Rattle.std.specs.Prelude.{ℕ}
-use Rattle.eos_state.specs.declared.Stated.{Stated}
-use Rattle.eos_state.specs.declared.Stated.TheVariants.{Known, Unknown}
+use Rattle.std.specs.Prelude.{ℕ, Some, None}
+use Rattle.eos_state.specs.State.{Stated}
 use Rattle.door_checks.specs.declared.Check.{Check}
 use Rattle.door_checks.specs.declared.Check.TheVariants.{Passed, No}
 use Rattle.door_answers.specs.declared.Answer.{Answer}
@@ -14,8 +13,8 @@ passed Passed a = a
 
 -- RULES 4.2: a working that fails is 7
 abbrev pub answer_with : Stated → Answer
-answer_with Unknown = answer.Refused 7
-answer_with (Known x) = answer.State x
+answer_with None = answer.Refused 7
+answer_with (Some x) = answer.State x
 
 -- the refusal's number, to be handed on; of a state 0, which is no refusal and is not handed on
 abbrev pub refusal_number : Answer → ℕ

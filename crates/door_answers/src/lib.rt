@@ -4,7 +4,7 @@
 ghost use Rattle.std.specs.Prelude.{◌≡◌};
 ghost use Rattle.door_answers.specs.Answer.{answer_with, refusal_number};
 
-use eos_state::{State, Stated};
+use eos_state::{State};
 
 #[derive(Clone, Copy)]
 pub enum Answer {
@@ -13,12 +13,12 @@ pub enum Answer {
 }
 
 // The state; 7 where the working failed.
-pub fn answer_with(s: Stated) -> Answer
+pub fn answer_with(s: Option<State>) -> Answer
     ensures { result ≡ answer_with s }
 {
     match s {
-        Stated::Known(x) => Answer::State(x),
-        Stated::Unknown => Answer::Refused(7),
+        Some(x) => Answer::State(x),
+        None => Answer::Refused(7),
     }
 }
 

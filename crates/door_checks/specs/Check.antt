@@ -2,8 +2,7 @@
 use Rattle.std.specs.Prelude.{cond, ◌&&◌, not, ℕ, Float}
 use Rattle.std.specs.Float.Ieee.{lt}
 use Rattle.std.specs.Float.Ieee.Scale.{finite}
-use Rattle.num_working.specs.Working.{or_else}
-use Rattle.num_working.specs.declared.Worked.{Worked}
+use Rattle.num_working.specs.Working.{or_else, Worked}
 use Rattle.door_limits.specs.Limits.{outside}
 use Rattle.door_limits.specs.declared.Range.{Range}
 use Rattle.door_checks.specs.declared.Check.{Check}

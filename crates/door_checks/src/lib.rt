@@ -7,7 +7,7 @@ ghost use Rattle.std.specs.Float.Ieee.Scale.{finite};
 ghost use Rattle.door_checks.specs.Check.{boxed, number_of, ranged, solid};
 
 use door_limits::{Range, is_outside};
-use num_working::{Worked, is_finite};
+use num_working::{is_finite};
 
 #[derive(Clone, Copy)]
 pub enum Check {
@@ -48,10 +48,10 @@ pub fn in_range(temperature: Range, value: Range, t: f64, x: f64) -> Check
 }
 
 // 19, with the melting pressure; 7 where that failed.
-pub fn not_solid(melting: Worked, p: f64) -> Check
+pub fn not_solid(melting: Option<f64>, p: f64) -> Check
     ensures { result ≡ solid melting p }
 {
-    let Worked::Number(m) = melting else {
+    let Some(m) = melting else {
         return Check::No(7);
     };
     if m < p {

@@ -9,20 +9,13 @@ ghost use Rattle.door_conductivity.specs.Conducted.{conducting, with_conductivit
 use door_answers::{Answer, refusal_number};
 use eos_state::State;
 use equation::conductivity_at;
-use num_working::Worked;
 
 // In W/(m K).
-#[derive(Clone, Copy)]
-pub enum Conductivity {
-    NotAsked,
-    Is(f64),
-}
-
 // A state, and what it carries on request.
 #[derive(Clone, Copy)]
 pub struct Carried {
     pub state: State,
-    pub conductivity: Conductivity,
+    pub conductivity: Option<f64>,
 }
 
 #[derive(Clone, Copy)]
@@ -35,12 +28,12 @@ pub enum Conducted {
 fn conducting(s: State) -> Conducted
     ensures { result ≡ conducting of1996 s }
 {
-    let Worked::Number(x) = conductivity_at(s.t, s.rho) else {
+    let Some(x) = conductivity_at(s.t, s.rho) else {
         return Conducted::Refused(7);
     };
     Conducted::State(Carried {
         state: s,
-        conductivity: Conductivity::Is(x),
+        conductivity: Some(x),
     })
 }
 
@@ -55,6 +48,6 @@ pub fn with_conductivity(asked: bool, a: Answer) -> Conducted
     }
     Conducted::State(Carried {
         state: s,
-        conductivity: Conductivity::NotAsked,
+        conductivity: None,
     })
 }

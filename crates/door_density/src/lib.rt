@@ -14,13 +14,12 @@ use equation::{
     critical_temperature, curve_at, liquid_density, melting_pressure, pressure_on, state_on,
     vapour_density,
 };
-use num_working::Worked;
 
 fn in_phase(l: Limits, phase: Phase, t: f64, rho: f64) -> Answer
     ensures { result ≡ in_phase of1996 l phase t rho }
 {
     let curve = curve_at(t);
-    let Worked::Number(p) = pressure_on(curve, rho) else {
+    let Some(p) = pressure_on(curve, rho) else {
         return Answer::Refused(7);
     };
     if is_outside(l.asked.pressure, p) {
@@ -37,10 +36,10 @@ fn in_phase(l: Limits, phase: Phase, t: f64, rho: f64) -> Answer
 fn beneath(l: Limits, t: f64, rho: f64) -> Answer
     ensures { result ≡ beneath of1996 l t rho }
 {
-    let Worked::Number(vapour) = vapour_density(t) else {
+    let Some(vapour) = vapour_density(t) else {
         return Answer::Refused(7);
     };
-    let Worked::Number(liquid) = liquid_density(t) else {
+    let Some(liquid) = liquid_density(t) else {
         return Answer::Refused(7);
     };
     if vapour < rho {

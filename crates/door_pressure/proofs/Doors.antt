@@ -1,4 +1,5 @@
 -- The ends of a search have no minus sign, and are numbers that an f64 holds. Assumes nothing.
+use Rattle.std.specs.Prelude.{Some, None}
 use mathlib.Core.Path.{◌≡◌, refl, subst, ◌∙◌}
 use Prim.Native.Nat.{ℕ}
 use native.Mathlib.Omega.{arith}
@@ -6,8 +7,7 @@ use lib.Dec.{T}
 use lib.Ieee.{Float, binary64, mul, fits, of_int, round}
 use lib.Ieee.Fits.{mul-fits}
 use Rattle.num_working.specs.Number.{whole, decimal, fraction, nonneg}
-use Rattle.num_working.specs.declared.Worked.{Worked}
-use Rattle.num_working.specs.declared.Worked.TheVariants.{Number, Failed}
+use Rattle.num_working.specs.Working.{Worked}
 use Rattle.num_working.proofs.Workings.{checked_number}
 use Rattle.num_formulas.specs.Formula.{num, ◌⊗◌, value}
 use Rattle.num_formulas.proofs.Formulas.{once}
@@ -22,10 +22,10 @@ pub record Reached (x : Float) : Type 0 where
   pub fits : T (fits binary64 x)
 
 -- so many times a density, where neither has a minus sign
-pub scaled_reached : (a : Float) (w : Worked) (x : Float) → T (nonneg a) → ((d : Float) → w ≡ Number d → T (nonneg d)) → scaled a w ≡ Number x → Reached x
+pub scaled_reached : (a : Float) (w : Worked) (x : Float) → T (nonneg a) → ((d : Float) → w ≡ Some d → T (nonneg d)) → scaled a w ≡ Some x → Reached x
 unfolding value
-scaled_reached a Failed x p q e = let z : ◌≡◌ {A = ℕ} 0 1 = cc in absurd (omega arith)
-scaled_reached a (Number d) x p q e =
+scaled_reached a None x p q e = let z : ◌≡◌ {A = ℕ} 0 1 = cc in absurd (omega arith)
+scaled_reached a (Some d) x p q e =
     let n = checked_number (mul binary64 a d) x (once (num a ⊗ num d) ∙ e) in
     record {
       nonneg = subst (λ (y : Float). T (nonneg y)) n.0 (unsigned_finite (mul binary64 a d) (mul_unsigned binary64 a d p (q d refl)) n.1);

@@ -1,4 +1,5 @@
 -- What a probe of a search shows; and the bits of a number that has no minus sign. Assumes nothing.
+use Rattle.std.specs.Prelude.{Some}
 use Prim.Native.Nat.{ℕ, zero, suc, ◌+◌, ◌*◌, ◌/◌, ◌%◌, ◌^◌, ◌<◌}
 use mathlib.Core.Path.{◌≡◌, refl, sym, subst}
 use mathlib.Core.Bool.{Bool, true, false, cond, true≢false}
@@ -10,7 +11,6 @@ use lib.Ieee.Bits.{of_bits-to_bits}
 use lib.Ieee.Exact.{HasValue, odd_sign}
 use Rattle.num_working.specs.Number.{nonneg}
 use Rattle.num_halving.specs.Halving.{NotAbove, Above, Worthy, worthy}
-use Rattle.num_working.specs.declared.Worked.TheVariants.{Number}
 use Rattle.num_working.proofs.Numbers.{infinity}
 use Rattle.equation.specs.declared.Curve.{Curve}
 use Rattle.equation.specs.Equation.{pressure_on}
@@ -18,14 +18,14 @@ use Rattle.equation.proofs.Curves.{pressure_finite}
 use Rattle.door_pressure.specs.Search.{figure}
 
 -- ---- what a probe shows
-module _ (curve : Curve) (p : Float) (b : ℕ) (x : Float) (e : pressure_on curve (of_bits binary64 b) ≡ Number x) where
+module _ (curve : Curve) (p : Float) (b : ℕ) (x : Float) (e : pressure_on curve (of_bits binary64 b) ≡ Some x) where
   pub is_above : lt p x ≡ true → Above (figure (pressure_on curve)) p b
   is_above h = record { number = x; worked = e; bounded = pressure_finite curve (of_bits binary64 b) x e; stands = h }
 
   pub is_not_above : lt p x ≡ false → NotAbove (figure (pressure_on curve)) p b
   is_not_above h = record { number = x; worked = e; bounded = pressure_finite curve (of_bits binary64 b) x e; stands = h }
 
-pub is_worthy : (curve : Curve) (b : ℕ) (x : Float) → pressure_on curve (of_bits binary64 b) ≡ Number x → Worthy (figure (pressure_on curve)) b
+pub is_worthy : (curve : Curve) (b : ℕ) (x : Float) → pressure_on curve (of_bits binary64 b) ≡ Some x → Worthy (figure (pressure_on curve)) b
 is_worthy curve b x e = worthy x e (pressure_finite curve (of_bits binary64 b) x e)
 
 -- ---- bits

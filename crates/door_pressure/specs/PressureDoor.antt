@@ -1,9 +1,7 @@
 -- RULES 5.1: the pressure door, from a temperature and a pressure, step by step, over any equation and any limits. Definitions only.
-use Rattle.std.specs.Prelude.{cond, Float}
+use Rattle.std.specs.Prelude.{cond, Float, None}
 use Rattle.std.specs.Float.Ieee.{eq, lt, le}
-use Rattle.num_working.specs.Working.{or_else}
-use Rattle.num_working.specs.declared.Worked.{Worked}
-use Rattle.num_working.specs.declared.Worked.TheVariants.{Failed}
+use Rattle.num_working.specs.Working.{or_else, Worked}
 use Rattle.num_formulas.specs.Formula.{num, ◌⊗◌, work}
 use Rattle.eos_state.specs.declared.Phase.TheVariants.{Vapour, Liquid, Supercritical}
 use Rattle.equation.specs.Equation.{Equation}
@@ -17,7 +15,7 @@ use Rattle.door_pressure.specs.Search.{searched}
 
 -- so many times a saturated density, one product
 abbrev pub scaled : Float → Worked → Worked
-scaled factor density = or_else density Failed (λ d. work (num factor ⊗ num d))
+scaled factor density = or_else density None (λ d. work (num factor ⊗ num d))
 
 module _ (E : Equation) where
   -- vapour: from 0.05 kg/m³ to 1.01 times the saturated vapour density

@@ -2,11 +2,11 @@
 use Rattle.std.specs.Prelude.{Float}
 use Rattle.std.specs.Float.{binary64}
 use Rattle.std.specs.Float.Ieee.{of_bits, to_bits}
-use Rattle.num_working.specs.declared.Worked.{Worked}
+use Rattle.num_working.specs.Working.{Worked}
 use Rattle.num_halving.specs.Halving.{Figure, halve}
 use Rattle.num_halving.specs.declared.Crossing.{Crossing}
 use Rattle.num_halving.specs.declared.Crossing.TheVariants.{At, Nowhere, Broke}
-use Rattle.eos_state.specs.declared.Stated.{Stated}
+use Rattle.eos_state.specs.State.{Stated}
 use Rattle.door_answers.specs.Answer.{answer_with}
 use Rattle.door_answers.specs.declared.Answer.{Answer}
 use Rattle.door_answers.specs.declared.Answer.TheVariants as answer

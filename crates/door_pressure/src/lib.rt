@@ -16,14 +16,14 @@ use eos_state::Phase;
 use equation::{
     critical_temperature, liquid_density, melting_pressure, vapour_density, vapour_pressure,
 };
-use num_working::{Worked, checked};
+use num_working::{checked};
 
 // So many times a saturated density, one product.
-fn scaled(factor: f64, density: Worked) -> Worked
+fn scaled(factor: f64, density: Option<f64>) -> Option<f64>
     ensures { result ≡ scaled factor density }
 {
-    let Worked::Number(d) = density else {
-        return Worked::Failed;
+    let Some(d) = density else {
+        return None;
     };
     checked(factor * d)
 }
@@ -32,7 +32,7 @@ fn as_vapour(t: f64, p: f64) -> Answer
     ensures { result ≡ vapour of1996 t p }
 {
     let ends = search_ends();
-    let Worked::Number(to) = scaled(ends.vapour, vapour_density(t)) else {
+    let Some(to) = scaled(ends.vapour, vapour_density(t)) else {
         return Answer::Refused(7);
     };
     search_at(t, Phase::Vapour, ends.from, to, p)
@@ -42,7 +42,7 @@ fn as_liquid(t: f64, p: f64) -> Answer
     ensures { result ≡ liquid of1996 t p }
 {
     let ends = search_ends();
-    let Worked::Number(from) = scaled(ends.liquid, liquid_density(t)) else {
+    let Some(from) = scaled(ends.liquid, liquid_density(t)) else {
         return Answer::Refused(7);
     };
     search_at(t, Phase::Liquid, from, ends.to, p)
@@ -52,7 +52,7 @@ fn as_liquid(t: f64, p: f64) -> Answer
 fn beneath(t: f64, p: f64) -> Answer
     ensures { result ≡ beneath of1996 t p }
 {
-    let Worked::Number(s) = vapour_pressure(t) else {
+    let Some(s) = vapour_pressure(t) else {
         return Answer::Refused(7);
     };
     if p == s {

@@ -5,7 +5,6 @@ ghost use Rattle.std.specs.Float.{binary64};
 ghost use Rattle.std.specs.Float.Ieee.{fits, of_bits};
 ghost use Rattle.num_halving.specs.Halving.{NotAbove, Above, halve};
 ghost use Rattle.num_working.specs.Number.{nonneg};
-ghost use Rattle.num_working.specs.declared.Worked.TheVariants.{Number};
 ghost use Rattle.equation.specs.Equation.{of1996, pressure_on, state_on};
 ghost use Rattle.door_pressure.specs.Search.{figure, searched};
 
@@ -13,7 +12,6 @@ use door_answers::{Answer, answer_with};
 use eos_state::Phase;
 use equation::{Curve, curve_at, pressure_on, state_on};
 use num_halving::Crossing;
-use num_working::Worked;
 
 // From where the pressure is not above p to where it is above.
 fn narrow(curve: Curve, p: f64, from: u64, to: u64) -> Crossing
@@ -27,7 +25,7 @@ fn narrow(curve: Curve, p: f64, from: u64, to: u64) -> Crossing
     let mut hi = to;
     while lo + 1 < hi {
         let mid = lo + (hi - lo) / 2;
-        let Worked::Number(x) = pressure_on(curve, f64::from_bits(mid)) else {
+        let Some(x) = pressure_on(curve, f64::from_bits(mid)) else {
             return Crossing::Broke;
         };
         if p < x {
@@ -63,10 +61,10 @@ fn crossing(curve: Curve, p: f64, from: u64, to: u64) -> Crossing
     if to <= from {
         return Crossing::Nowhere;
     }
-    let Worked::Number(low) = pressure_on(curve, f64::from_bits(from)) else {
+    let Some(low) = pressure_on(curve, f64::from_bits(from)) else {
         return Crossing::Broke;
     };
-    let Worked::Number(high) = pressure_on(curve, f64::from_bits(to)) else {
+    let Some(high) = pressure_on(curve, f64::from_bits(to)) else {
         return Crossing::Broke;
     };
     between(curve, p, from, to, low, high)

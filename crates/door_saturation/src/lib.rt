@@ -8,7 +8,7 @@ ghost use Rattle.door_saturation.specs.Saturation.{worked_at, saturated};
 
 use door_limits::{Limits, is_outside};
 use equation::{critical_temperature, liquid_density, vapour_density, vapour_pressure};
-use num_working::{Worked, is_finite};
+use num_working::{is_finite};
 
 // The vapour pressure in Pa, the saturated densities in kg/m³.
 #[derive(Clone, Copy)]
@@ -27,13 +27,13 @@ pub enum Saturated {
 fn worked_at(t: f64) -> Saturated
     ensures { result ≡ worked_at of1996 t }
 {
-    let Worked::Number(pressure) = vapour_pressure(t) else {
+    let Some(pressure) = vapour_pressure(t) else {
         return Saturated::Refused(7);
     };
-    let Worked::Number(vapour) = vapour_density(t) else {
+    let Some(vapour) = vapour_density(t) else {
         return Saturated::Refused(7);
     };
-    let Worked::Number(liquid) = liquid_density(t) else {
+    let Some(liquid) = liquid_density(t) else {
         return Saturated::Refused(7);
     };
     Saturated::Is(Saturation {

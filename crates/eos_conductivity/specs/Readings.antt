@@ -2,8 +2,7 @@
 use Rattle.std.specs.Prelude.{ℕ, ◌+◌, ◌-◌, Bool, false, ◌&&◌, List, [], ◌∷◌}
 use Rattle.std.specs.Float.Ieee.{lt}
 use Rattle.num_working.specs.Number.{decimal, whole}
-use Rattle.num_working.specs.Working.{or_else}
-use Rattle.num_working.specs.declared.Worked.{Worked}
+use Rattle.num_working.specs.Working.{or_else, Worked}
 use Rattle.eos_conductivity.specs.Conductivity.{conductivity_at, background_at, dilute_at}
 
 -- within a unit of the last printed digit: the digits, and how many places stand after the point

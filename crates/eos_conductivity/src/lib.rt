@@ -10,7 +10,7 @@ use eos_constants::{delta_at, span_wagner};
 use eos_powers::powers_to_10;
 use num_exponential::exponential::{answer_alone, exponential};
 use num_roots::root::{Exponent, root};
-use num_working::{Worked, checked, over, plain};
+use num_working::{checked, over, plain};
 
 // T_r = T/T_c, in plain f64, as are all of these but the last three.
 fn reduced_at(t: f64) -> f64
@@ -68,7 +68,7 @@ fn background(r: f64, delta: f64) -> f64
 }
 
 // Eq. (1), in W/(m K). The one test at the end stands for all.
-pub fn conductivity_at(t: f64, rho: f64) -> Worked
+pub fn conductivity_at(t: f64, rho: f64) -> Option<f64>
     ensures { result ≡ conductivity_at t rho }
 {
     let r = reduced_at(t);
@@ -77,14 +77,14 @@ pub fn conductivity_at(t: f64, rho: f64) -> Worked
 }
 
 // Without the enhancement, as a table of 002 has it.
-pub fn background_at(t: f64, rho: f64) -> Worked
+pub fn background_at(t: f64, rho: f64) -> Option<f64>
     ensures { result ≡ background_at t rho }
 {
     checked(background(reduced_at(t), delta_at(rho)))
 }
 
 // Of the dilute gas alone, in mW/(m K), as a table of 002 has it.
-pub fn dilute_at(t: f64) -> Worked
+pub fn dilute_at(t: f64) -> Option<f64>
     ensures { result ≡ dilute_at t }
 {
     checked(dilute(reduced_at(t)))

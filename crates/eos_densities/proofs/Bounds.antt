@@ -1,4 +1,5 @@
 -- The exponential of a number with a minus sign lies from 0 to 1, since each turn of its series and each square does. Assumes nothing.
+use Rattle.std.specs.Prelude.{Some, None}
 use Prim.Native.Nat.{ℕ, zero, suc, ◌+◌, ◌-◌, ◌*◌, ◌≤◌, ◌<◌}
 use mathlib.Core.Path.{◌≡◌, refl, sym, subst}
 use mathlib.Core.Bool.{Bool, true, false, ◌&&◌, ◌||◌}
@@ -14,9 +15,7 @@ use lib.Ieee.Order.{round_mono}
 use lib.Ieee.Positive.{num, den, positive, den_pos, own_value, value_pos}
 use lib.Ieee.Scale.{finite}
 use Rattle.num_working.specs.Number.{whole, nonneg}
-use Rattle.num_working.specs.Working.{checked, ◌-ᵂ◌, ◌*ᵂ◌, ◌/ᵂ◌}
-use Rattle.num_working.specs.declared.Worked.{Worked}
-use Rattle.num_working.specs.declared.Worked.TheVariants.{Number, Failed}
+use Rattle.num_working.specs.Working.{checked, ◌-ᵂ◌, ◌*ᵂ◌, ◌/ᵂ◌, Worked}
 use Rattle.num_working.proofs.Cases.{by_test}
 use Rattle.num_laws.proofs.Halves.{le_by, div_is}
 use Rattle.num_laws.proofs.Units.{sub_of}
@@ -27,8 +26,8 @@ use Rattle.num_exponential.proofs.Tables.{at}
 
 -- where w is a number, it lies from 0 to c
 abbrev pub UpTo : Float → Worked → Type 0
-UpTo c Failed = Unit {0}
-UpTo c (Number x) = Ordered x c
+UpTo c None = Unit {0}
+UpTo c (Some x) = Ordered x c
 
 -- two numbers that antt compares: `in_order tt`
 pub in_order : {x y : Float} → T (nonneg x && (nonneg y && le x y)) → Ordered x y
@@ -37,8 +36,8 @@ in_order {x} {y} h =
     record { first = and_l (nonneg x) (nonneg y && le x y) h; second = and_l (nonneg y) (le x y) k; order = and_r (nonneg y) (le x y) k }
 
 pub further : (c d : Float) (w : Worked) → Ordered c d → UpTo c w → UpTo d w
-further c d Failed o u = tt
-further c d (Number x) o u = onward u o
+further c d None o u = tt
+further c d (Some x) o u = onward u o
 
 pub number_up_to : (x c : Float) → Ordered x c → UpTo c (checked x)
 number_up_to nan c o = tt
@@ -53,9 +52,9 @@ tested (fin s m e) c f r = ordered r f
 -- ---- a product
 pub product_up_to : (a b : Float) (v w : Worked) → T (finite (mul binary64 a b)) → UpTo a v → UpTo b w → UpTo (mul binary64 a b) (v *ᵂ w)
 unfolding ◌*ᵂ◌
-product_up_to a b Failed w f p q = tt
-product_up_to a b (Number x) Failed f p q = tt
-product_up_to a b (Number x) (Number y) f p q = tested (mul binary64 x y) (mul binary64 a b) f (mul_keeps binary64 x a y b p q)
+product_up_to a b None w f p q = tt
+product_up_to a b (Some x) None f p q = tt
+product_up_to a b (Some x) (Some y) f p q = tested (mul binary64 x y) (mul binary64 a b) f (mul_keeps binary64 x a y b p q)
 
 times_1 : mul binary64 (whole 1) (whole 1) ≡ whole 1
 unfolding mul whole of_int round
@@ -79,10 +78,10 @@ share x y o q =
 
 pub quotient_up_to_1 : (w : Worked) (d : Float) → UpTo d w → T (positive d) → UpTo (whole 1) (w /ᵂ checked d)
 unfolding ◌/ᵂ◌ whole of_int round
-quotient_up_to_1 Failed d p q = tt
-quotient_up_to_1 (Number x) nan p q = tt
-quotient_up_to_1 (Number x) (inf s) p q = tt
-quotient_up_to_1 (Number x) (fin s m e) p q = tested (div binary64 x (fin s m e)) (whole 1) tt (share x (fin s m e) p q)
+quotient_up_to_1 None d p q = tt
+quotient_up_to_1 (Some x) nan p q = tt
+quotient_up_to_1 (Some x) (inf s) p q = tt
+quotient_up_to_1 (Some x) (fin s m e) p q = tested (div binary64 x (fin s m e)) (whole 1) tt (share x (fin s m e) p q)
 
 -- ---- what is left of 1
 all_of_1 : (c : ℕ) → HasValue (whole 1) false c c
@@ -105,8 +104,8 @@ rest x o =
 
 pub rest_up_to_1 : (w : Worked) → UpTo (whole 1) w → UpTo (whole 1) (checked (whole 1) -ᵂ w)
 unfolding ◌-ᵂ◌ whole of_int round
-rest_up_to_1 Failed p = tt
-rest_up_to_1 (Number x) p = tested (sub binary64 (whole 1) x) (whole 1) tt (rest x p)
+rest_up_to_1 None p = tt
+rest_up_to_1 (Some x) p = tested (sub binary64 (whole 1) x) (whole 1) tt (rest x p)
 
 -- ---- step 4: the series and the squarings
 divisor : (k : ℕ) → k < 14 → T (positive (whole (suc k)) && (nonneg (whole 1) && (nonneg (whole (suc k)) && le (whole 1) (whole (suc k)))))
@@ -158,7 +157,7 @@ from_700 : (m : ℕ) (e : ℤ) → lt (fin true m e) (neg (whole 700)) ≡ false
 unfolding lt neg whole of_int round
 from_700 m e h = not_below (fin false m e) (whole 700) tt tt h
 
-zero_up_to_1 : UpTo (whole 1) (Number (whole 0))
+zero_up_to_1 : UpTo (whole 1) (Some (whole 0))
 unfolding le whole of_int round
 zero_up_to_1 = in_order tt
 
@@ -170,6 +169,6 @@ steps_up_to_1 (fin false m e) h = absurd h
 steps_up_to_1 (fin true m e) h =
     let x = fin true m e in
     let P = UpTo (whole 1) in
-    by_test P (lt x (neg (whole 700))) (Number (whole 0)) _ (λ _. zero_up_to_1)
-    (λ l. by_test P (lt (whole 700) x) Failed _ (λ _. tt)
+    by_test P (lt x (neg (whole 700))) (Some (whole 0)) _ (λ _. zero_up_to_1)
+    (λ l. by_test P (lt (whole 700) x) None _ (λ _. tt)
     (λ _. by_test P (le x (whole 0)) (falling x) _ (λ _. falling_up_to_1 x (from_700 m e l)) (λ n. absurd (subst T n (up_to_0 m e)))))

@@ -1,9 +1,8 @@
 -- Up to the critical temperature the saturated vapour is no denser than the critical density: each term of its sum has a minus sign. Assumes nothing.
+use Rattle.std.specs.Prelude.{Some, None}
 use lib.Ieee.{Float, binary64, round, of_int, neg, mul, lt, le}
 use Rattle.num_working.specs.Number.{decimal, fraction, whole}
-use Rattle.num_working.specs.Working.{checked, or_else, ◌/ᵂ◌}
-use Rattle.num_working.specs.declared.Worked.{Worked}
-use Rattle.num_working.specs.declared.Worked.TheVariants.{Number, Failed}
+use Rattle.num_working.specs.Working.{checked, or_else, ◌/ᵂ◌, Worked}
 use Rattle.num_working.proofs.Cases.{by_test}
 use Rattle.num_laws.proofs.Orders.{Ordered}
 use Rattle.num_exponential.specs.Exponential.{steps}
@@ -23,8 +22,8 @@ theta_up_to_1 t o =
     rest_up_to_1 (checked t /ᵂ checked c) (quotient_up_to_1 (checked t) c (number_up_to t c o) tt)
 
 plus_of : (c : Float) (w : Worked) → UpTo c w → Plus w
-plus_of c Failed u = tt
-plus_of c (Number x) u = u.first
+plus_of c None u = tt
+plus_of c (Some x) u = u.first
 
 -- ---- the sum
 vapour_sum_minus : (θ : Formula) → Plus (work θ) → Minus (work (vapour_sum θ))
@@ -44,13 +43,13 @@ vapour_sum_minus θ p =
 exp_up_to_1 : (a : Formula) → Minus (work a) → UpTo (whole 1) (work (e^ a))
 exp_up_to_1 a h = rw (exp_is a) (go (work a) h)
   where
-    go : (w : Worked) → Minus w → UpTo (whole 1) (or_else w Failed steps)
-    go Failed m = tt
-    go (Number x) m = steps_up_to_1 x m
+    go : (w : Worked) → Minus w → UpTo (whole 1) (or_else w None steps)
+    go None m = tt
+    go (Some x) m = steps_up_to_1 x m
 
 above_up_to : (c : Float) (w : Worked) → UpTo c w → UpTo c (above_zero w)
-above_up_to c Failed u = tt
-above_up_to c (Number x) u = by_test (UpTo c) (lt (whole 0) x) (Number x) Failed (λ _. u) (λ _. tt)
+above_up_to c None u = tt
+above_up_to c (Some x) u = by_test (UpTo c) (lt (whole 0) x) (Some x) None (λ _. u) (λ _. tt)
 
 density_up_to : (a : Formula) → Minus (work a) → UpTo span_wagner.density (density_of a)
 unfolding density_of work span_wagner decimal fraction le mul whole of_int round

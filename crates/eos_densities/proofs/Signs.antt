@@ -1,4 +1,5 @@
 -- Roots have no minus sign, nor have products and whole powers of what has none; a product by what has one has one, and so has a sum of such. Assumes nothing.
+use Rattle.std.specs.Prelude.{Some, None}
 use Prim.Native.Nat.{ℕ, zero, suc, ◌+◌, ◌*◌, ◌^◌}
 use mathlib.Core.Path.{◌≡◌, refl, sym, subst}
 use mathlib.Core.Bool.{Bool, true, false}
@@ -8,9 +9,7 @@ use lib.Ieee.{Float, nan, inf, fin, Format, binary64, prec, emax, low, up, down,
 use lib.Ieee.Fits.{round_is}
 use lib.Ieee.Scale.{finite}
 use Rattle.num_working.specs.Number.{whole, nonneg}
-use Rattle.num_working.specs.Working.{checked, ◌+ᵂ◌, ◌*ᵂ◌}
-use Rattle.num_working.specs.declared.Worked.{Worked}
-use Rattle.num_working.specs.declared.Worked.TheVariants.{Number, Failed}
+use Rattle.num_working.specs.Working.{checked, ◌+ᵂ◌, ◌*ᵂ◌, Worked}
 use Rattle.num_working.proofs.Cases.{by_test, by_working}
 use Rattle.num_powers.specs.Power.{◌^ᵂ◌}
 use Rattle.num_halving.specs.declared.Crossing.{Crossing}
@@ -25,13 +24,13 @@ use Rattle.eos_densities.proofs.Bounds.{minus}
 
 -- where w is a number, it has no minus sign
 abbrev pub Plus : Worked → Type 0
-Plus Failed = Unit {0}
-Plus (Number x) = T (nonneg x)
+Plus None = Unit {0}
+Plus (Some x) = T (nonneg x)
 
 -- where w is a number, it has one
 abbrev pub Minus : Worked → Type 0
-Minus Failed = Unit {0}
-Minus (Number x) = T (minus x)
+Minus None = Unit {0}
+Minus (Some x) = T (minus x)
 
 plus_tested : (x : Float) → T (unsigned x) → Plus (checked x)
 plus_tested nan h = tt
@@ -85,21 +84,21 @@ add_signed (fin true m e) (fin true n d) p q = round_signed binary64 (m * up e *
 
 pub minus_times : (v w : Worked) → Minus v → Plus w → Minus (v *ᵂ w)
 unfolding ◌*ᵂ◌
-minus_times Failed w p q = tt
-minus_times (Number x) Failed p q = tt
-minus_times (Number x) (Number y) p q = minus_tested (mul binary64 x y) (mul_signed x y p q)
+minus_times None w p q = tt
+minus_times (Some x) None p q = tt
+minus_times (Some x) (Some y) p q = minus_tested (mul binary64 x y) (mul_signed x y p q)
 
 pub minus_added : (v w : Worked) → Minus v → Minus w → Minus (v +ᵂ w)
 unfolding ◌+ᵂ◌
-minus_added Failed w p q = tt
-minus_added (Number x) Failed p q = tt
-minus_added (Number x) (Number y) p q = minus_tested (add binary64 x y) (add_signed x y p q)
+minus_added None w p q = tt
+minus_added (Some x) None p q = tt
+minus_added (Some x) (Some y) p q = minus_tested (add binary64 x y) (add_signed x y p q)
 
 pub plus_times : (v w : Worked) → Plus v → Plus w → Plus (v *ᵂ w)
 unfolding ◌*ᵂ◌
-plus_times Failed w p q = tt
-plus_times (Number x) Failed p q = tt
-plus_times (Number x) (Number y) p q = plus_tested (mul binary64 x y) (mul_unsigned binary64 x y p q)
+plus_times None w p q = tt
+plus_times (Some x) None p q = tt
+plus_times (Some x) (Some y) p q = plus_tested (mul binary64 x y) (mul_unsigned binary64 x y p q)
 
 pub plus_power : (w : Worked) (n : ℕ) → Plus w → Plus (w ^ᵂ n)
 unfolding ◌^ᵂ◌ whole of_int round
@@ -115,16 +114,16 @@ plus_found k t Broke e = tt
 
 plus_searched : (m k : ℕ) (x : Float) → Plus (searched m k x)
 unfolding searched
-plus_searched m k x = by_working Plus (checked x ^ᵂ m) Failed (λ t. root_of (root_bits k t)) (λ _. tt) (λ t _. plus_found k t (root_bits k t) refl)
+plus_searched m k x = by_working Plus (checked x ^ᵂ m) None (λ t. root_of (root_bits k t)) (λ _. tt) (λ t _. plus_found k t (root_bits k t) refl)
 
 root_plus : (e : Exponent) (x : Float) → Plus (Root.root e x)
 unfolding Root.root whole of_int
 root_plus e x =
-    by_test Plus (ltb e.m (2 * e.k)) _ Failed
-    (λ _. by_test Plus (finite x) _ Failed
-    (λ _. by_test Plus (lt x (whole 0)) Failed _ (λ _. tt)
-    (λ _. by_test Plus (eq x (whole 0)) (Number (whole 0)) (searched e.m e.k x) (λ _. tt) (λ _. plus_searched e.m e.k x))) (λ _. tt)) (λ _. tt)
+    by_test Plus (ltb e.m (2 * e.k)) _ None
+    (λ _. by_test Plus (finite x) _ None
+    (λ _. by_test Plus (lt x (whole 0)) None _ (λ _. tt)
+    (λ _. by_test Plus (eq x (whole 0)) (Some (whole 0)) (searched e.m e.k x) (λ _. tt) (λ _. plus_searched e.m e.k x))) (λ _. tt)) (λ _. tt)
 
 pub plus_root : (e : Exponent) (a : Formula) → Plus (work (root e a))
 unfolding work
-plus_root e a = by_working Plus (work a) Failed (Root.root e) (λ _. tt) (λ x _. root_plus e x)
+plus_root e a = by_working Plus (work a) None (Root.root e) (λ _. tt) (λ x _. root_plus e x)

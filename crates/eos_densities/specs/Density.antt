@@ -1,11 +1,9 @@
 -- 004, sections 3.6 and 3.7: saturated liquid density and saturated vapour density, in the order of docs/ARRANGEMENT.md, section 10; the powers of θ by
 -- RULES 4.3 and 4.7. Definitions only.
-use Rattle.std.specs.Prelude.{cond, Float}
+use Rattle.std.specs.Prelude.{cond, Float, Some, None}
 use Rattle.std.specs.Float.Ieee as Ieee
 use Rattle.num_working.specs.Number.{decimal, whole}
-use Rattle.num_working.specs.Working.{or_else}
-use Rattle.num_working.specs.declared.Worked.{Worked}
-use Rattle.num_working.specs.declared.Worked.TheVariants.{Number, Failed}
+use Rattle.num_working.specs.Working.{or_else, Worked}
 use Rattle.num_formulas.specs.Formula.{Formula, num, ◌⊕◌, ◌⊗◌, ◌^^◌, e^, root, work}
 use Rattle.eos_constants.specs.Constant.{span_wagner}
 use Rattle.eos_constants.specs.Exponent.{worked_as}
@@ -33,7 +31,7 @@ vapour_sum θ =
 
 -- RULES 5: one that is not above 0 is a failure
 abbrev pub above_zero : Worked → Worked
-above_zero w = or_else w Failed (λ x. cond (Ieee.lt (whole 0) x) (Number x) Failed)
+above_zero w = or_else w None (λ x. cond (Ieee.lt (whole 0) x) (Some x) None)
 
 -- eqs. (3.14) and (3.15): ln(ρ/ρ_c) is the sum
 unfoldable pub density_of : Formula → Worked

@@ -13,7 +13,7 @@ use eos_saturation::theta_at;
 use num_exponential::exponential::{answer_alone, exponential};
 use num_powers::whole_power;
 use num_roots::root::{Exponent, root};
-use num_working::{Worked, checked, plain};
+use num_working::{checked, plain};
 
 // A root in a formula that is tested at its end.
 fn to(x: f64, e: Exponent) -> f64
@@ -44,34 +44,34 @@ fn vapour_sum(theta: f64) -> f64
 }
 
 // One that is not above 0 is refusal 7 too (RULES 5).
-fn above_zero(w: Worked) -> Worked
+fn above_zero(w: Option<f64>) -> Option<f64>
     ensures { result ≡ above_zero w }
 {
-    let Worked::Number(x) = w else {
-        return Worked::Failed;
+    let Some(x) = w else {
+        return None;
     };
     if 0.0 < x {
-        Worked::Number(x)
+        Some(x)
     } else {
-        Worked::Failed
+        None
     }
 }
 
 // The density whose logarithm over the critical density is the sum. One test stands for all: what has failed on the way
 // is a NaN.
-fn density_of(sum: f64) -> Worked
+fn density_of(sum: f64) -> Option<f64>
     ensures { result ≡ density_of (num sum) }
 {
     above_zero(checked(span_wagner().density * plain(answer_alone(exponential(sum)))))
 }
 
-pub fn liquid_density(t: f64) -> Worked
+pub fn liquid_density(t: f64) -> Option<f64>
     ensures { result ≡ liquid_density t }
 {
     density_of(liquid_sum(plain(theta_at(t))))
 }
 
-pub fn vapour_density(t: f64) -> Worked
+pub fn vapour_density(t: f64) -> Option<f64>
     ensures { result ≡ vapour_density t }
 {
     density_of(vapour_sum(plain(theta_at(t))))

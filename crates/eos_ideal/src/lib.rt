@@ -7,7 +7,7 @@ ghost use Rattle.num_formulas.specs.Formula.{num, ◌⊕◌, ◌⊖◌};
 ghost use Rattle.eos_ideal.specs.Ideal.{table27, head_τ, head_ττ, row_τ, row_ττ, phi_τ, phi_ττ, sums, ideal_part};
 
 use num_exponential::exponential::{answer_alone, exponential};
-use num_working::{Worked, checked, over, plain};
+use num_working::{checked, over, plain};
 
 // A row of Table 27.
 #[derive(Clone, Copy)]
@@ -38,9 +38,9 @@ struct Sums {
 #[derive(Clone, Copy)]
 pub struct Ideal {
     // τφ°_τ
-    pub first: Worked,
+    pub first: Option<f64>,
     // τ²φ°_ττ
-    pub second: Worked,
+    pub second: Option<f64>,
 }
 
 fn table_27() -> Table
@@ -73,7 +73,7 @@ fn table_27() -> Table
 }
 
 // What stands before the rows.
-fn heads(t: Table, tau: f64) -> Sums
+fn heads(t: Table, tau: f64) -> Option<Five>
     ensures { result ≡ sums (head_τ t tau) (head_ττ t tau) }
 {
     Sums {
@@ -83,7 +83,7 @@ fn heads(t: Table, tau: f64) -> Sums
 }
 
 // One row more; its exponential is worked once for both.
-fn with_row(s: Sums, i: Row, tau: f64) -> Sums
+fn with_row(s: Option<Five>, i: Row, tau: f64) -> Option<Five>
     ensures { result ≡ sums (num s.first ⊕ row_τ tau i) (num s.second ⊖ row_ττ tau i) }
 {
     let a = i.a;
@@ -96,7 +96,7 @@ fn with_row(s: Sums, i: Row, tau: f64) -> Sums
     }
 }
 
-fn all_rows(tau: f64) -> Sums
+fn all_rows(tau: f64) -> Option<Five>
     ensures { result ≡ sums (phi_τ tau) (phi_ττ tau) }
 {
     let t = table_27();

@@ -1,5 +1,6 @@
 -- From 216.592 K to 523 K the melting pressure never falls and never fails: each step is of numbers with no minus sign and keeps their order, so that
 -- it is no more than at 523 K, where it is finite. Assumes nothing.
+use Rattle.std.specs.Prelude.{Some}
 use mathlib.Core.Path.{◌≡◌, sym, ◌∙◌}
 use mathlib.Core.Bool.{true, false, true≢false}
 use native.Mathlib.Omega.{arith}
@@ -11,7 +12,6 @@ use lib.Ieee.Fits.{down_pos}
 use lib.Ieee.Scale.{finite}
 use Rattle.num_working.specs.Number.{fraction, decimal, whole, nonneg}
 use Rattle.num_working.specs.Working.{checked, plain}
-use Rattle.num_working.specs.declared.Worked.TheVariants.{Number}
 use Rattle.num_working.proofs.Workings.{checked_finite}
 use Rattle.num_powers.specs.Power.{power}
 use Rattle.num_laws.proofs.Orders.{Ordered, le_self, nonneg_finite}
@@ -112,7 +112,7 @@ not_negative (fin true m e) h f = absurd (omega (arith, ltb-false, down_pos e))
 
 pub record Melts (t : Float) : Type 0 where
   pub pressure : Float
-  pub worked : melting_pressure t ≡ Number pressure
+  pub worked : melting_pressure t ≡ Some pressure
 
 pub never_fails : (t : Float) → lt t (decimal 216592 3) ≡ false → lt (whole 523) t ≡ false → finite t ≡ true → Melts t
 unfolding melting_pressure

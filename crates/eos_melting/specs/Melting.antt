@@ -1,7 +1,7 @@
 -- 004, section 3.3: the melting pressure, in the order of docs/ARRANGEMENT.md, section 11. Definitions only.
 use Rattle.std.specs.Prelude.{Float}
 use Rattle.num_working.specs.Number.{decimal, whole}
-use Rattle.num_working.specs.declared.Worked.{Worked}
+use Rattle.num_working.specs.Working.{Worked}
 use Rattle.num_formulas.specs.Formula.{Formula, one, num, ◌⊕◌, ◌⊖◌, ◌⊗◌, ◌⊘◌, ◌^^◌, work}
 
 -- y = T/T_t − 1, with T_t = 216.592 K

@@ -1,8 +1,7 @@
 -- A sum grows by its row's figure, tested; and what the rows are made of, by the numbers that they share. Assumes nothing.
 use mathlib.Core.Path.{◌≡◌, refl, ap, ◌∙◌}
 use lib.Ieee.{Float}
-use Rattle.num_working.specs.Working.{checked, ◌+ᵂ◌}
-use Rattle.num_working.specs.declared.Worked.{Worked}
+use Rattle.num_working.specs.Working.{checked, ◌+ᵂ◌, Worked}
 use Rattle.num_working.proofs.Workings.{checked_add}
 use Rattle.num_formulas.specs.Formula.{num, ◌⊕◌, ◌⊗◌, value}
 use Rattle.num_formulas.proofs.Formulas.{once}

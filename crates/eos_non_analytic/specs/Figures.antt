@@ -1,7 +1,7 @@
 -- The figures of rows 40 to 42: the term (n·δ)·Ψ times the bracket of each derivative (docs/ARRANGEMENT.md, section 6; 004, Table 32). Definitions only.
 use Rattle.std.specs.Prelude.{List, map, Float}
 use Rattle.num_working.specs.Number.{whole, fraction}
-use Rattle.num_working.specs.declared.Worked.{Worked}
+use Rattle.num_working.specs.Working.{Worked}
 use Rattle.num_formulas.specs.Formula.{Formula, num, one, two, ◌⊕◌, ◌⊖◌, ◌⊗◌, ◌⊘◌, ◌^^◌, minus, work}
 use Rattle.eos_brackets.specs.Derivative.{Derivative, columns}
 use Rattle.eos_rows.specs.Row.{non_analytics}

@@ -1,6 +1,6 @@
 -- No second answer meets a public function's promise. Assumes nothing.
 use lib.Ieee.{Float}
-use Rattle.num_working.specs.declared.Worked.{Worked}
+use Rattle.num_working.specs.Working.{Worked}
 use Rattle.num_working.proofs.Unique.{OneAnswer, by_equation}
 use Rattle.eos_pressure.proofs.pressure_of.Reads as pressure_of
 use Rattle.eos_pressure.proofs.pressure_on.Reads as pressure_on

@@ -1,8 +1,6 @@
 -- The pressure at a temperature and a density (docs/ARRANGEMENT.md, sections 2, 7 and 9; 004, Table 3). Definitions only.
-use Rattle.std.specs.Prelude.{Float}
-use Rattle.num_working.specs.Working.{or_else}
-use Rattle.num_working.specs.declared.Worked.{Worked}
-use Rattle.num_working.specs.declared.Worked.TheVariants.{Failed}
+use Rattle.std.specs.Prelude.{Float, None}
+use Rattle.num_working.specs.Working.{or_else, Worked}
 use Rattle.num_formulas.specs.Formula.{Formula, num, one, ◌⊕◌, ◌⊗◌, work}
 use Rattle.eos_constants.specs.Constant.{span_wagner}
 use Rattle.eos_constants.specs.Reduced.{delta}
@@ -17,6 +15,6 @@ pressure_formula t rho a = num rho ⊗ num span_wagner.gas ⊗ num t ⊗ (one �
 -- at a temperature, on its isotherm, at a density
 unfoldable pub pressure_on : Float → Isotherm → Float → Worked
 pressure_on t iso rho =
-    or_else (work (delta rho)) Failed (λ δ.
-    or_else (residual iso δ Delta) Failed (λ a.
+    or_else (work (delta rho)) None (λ δ.
+    or_else (residual iso δ Delta) None (λ a.
     work (pressure_formula t rho a)))

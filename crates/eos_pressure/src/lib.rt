@@ -9,7 +9,7 @@ ghost use Rattle.eos_pressure.specs.Pressure.{pressure_formula, pressure_on};
 use eos_constants::{delta_at, span_wagner};
 use eos_isotherm::Isotherm;
 use eos_residual::sum::slope_at;
-use num_working::{Worked, checked};
+use num_working::{checked};
 
 // p = ((ρ·R)·T)·(1 + δφ_δ), in plain f64, with a for δφ_δ: of a pressure alone and of a state.
 pub fn pressure_of(t: f64, rho: f64, a: f64) -> f64
@@ -18,14 +18,14 @@ pub fn pressure_of(t: f64, rho: f64, a: f64) -> f64
     rho * span_wagner().gas * t * (1.0 + a)
 }
 
-pub fn pressure_on(t: f64, iso: Isotherm, rho: f64) -> Worked
+pub fn pressure_on(t: f64, iso: Isotherm, rho: f64) -> Option<f64>
     ensures { result ≡ pressure_on t iso rho }
 {
-    let Worked::Number(delta) = checked(delta_at(rho)) else {
-        return Worked::Failed;
+    let Some(delta) = checked(delta_at(rho)) else {
+        return None;
     };
-    let Worked::Number(a) = slope_at(iso, delta) else {
-        return Worked::Failed;
+    let Some(a) = slope_at(iso, delta) else {
+        return None;
     };
     checked(pressure_of(t, rho, a))
 }

@@ -1,4 +1,5 @@
 -- A row's figures as code works them, from the columns and arrays at the row's place, are the definition's. Assumes nothing.
+use Rattle.std.specs.Prelude.{None}
 use mathlib.Core.Path.{◌≡◌, refl, sym, ap, ◌∙◌}
 use mathlib.Core.List.{List}
 use Prim.Native.Nat.{ℕ, zero, suc, ◌+◌, ◌-◌, ◌<◌}
@@ -9,8 +10,7 @@ use lib.Ieee.{Float, nan, binary64, mul}
 use Rattle.num_working.specs.Number.{whole}
 use Rattle.num_powers.specs.Power.{powers}
 use Rattle.num_powers.proofs.Powers.{powers_at}
-use Rattle.num_working.specs.declared.Worked.{Worked}
-use Rattle.num_working.specs.declared.Worked.TheVariants.{Failed}
+use Rattle.num_working.specs.Working.{Worked}
 use Rattle.num_formulas.specs.Formula.{Formula, num, ◌⊗◌, ◌^^◌, value, work}
 use Rattle.num_formulas.proofs.Formulas.{once}
 use Rattle.eos_rows.specs.declared.Gaussian.{Gaussian}
@@ -24,8 +24,7 @@ use Rattle.eos_brackets.specs.Derivative.{Derivative, of, five}
 use Rattle.eos_brackets.specs.Bracket as Bracket
 use Rattle.eos_brackets.specs.declared.Five.{Five}
 use Rattle.eos_brackets.proofs.Derivatives.{of_five}
-use Rattle.eos_terms.specs.Term.{numbered, polynomial_term, polynomial_bracket, exponential_term, exponential_bracket, gaussian_term, gaussian_bracket}
-use Rattle.eos_terms.specs.Term.{in_quarters, decay, decays, bell, bells}
+use Rattle.eos_terms.specs.Term.{numbered, polynomial_term, polynomial_bracket, exponential_term, exponential_bracket, gaussian_term, gaussian_bracket, in_quarters, decay, decays, bell, bells}
 use Rattle.eos_residual.specs.Sum.{polynomial_figure, polynomial_figures, exponential_figure, exponential_figures, gaussian_figure, gaussian_figures}
 use Rattle.eos_residual.proofs.Sums.{At, length_numbered, get_d_numbered}
 
@@ -42,7 +41,7 @@ module _ {A : Type 0} (term : ℕ → A → Formula) (bracket : A → Derivative
       let there = get_or rs i z in (
         rw (length_numbered (figure k) j rs) h,
         rw (p, q, of_five (λ m. value (bracket r m)) k, e)
-            (once (term (j + i) there ⊗ bracket there k) ∙ sym (get_d_numbered (figure k) j rs i z Failed h)),
+            (once (term (j + i) there ⊗ bracket there k) ∙ sym (get_d_numbered (figure k) j rs i z None h)),
       )
 
 -- ---- each row's exponents have their places in the arrays: one test over a table

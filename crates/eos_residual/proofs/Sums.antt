@@ -1,4 +1,5 @@
 -- Sums row by row: what a loop's turn adds, in plain f64 that is tested at the end, and how kinds of rows follow one another. Assumes nothing.
+use Rattle.std.specs.Prelude.{None}
 use mathlib.Core.Path.{◌≡◌, refl, sym, ap, ◌∙◌}
 use mathlib.Core.Bool.{Bool, false}
 use mathlib.Core.List.{List, [], ◌∷◌, ◌++◌}
@@ -10,9 +11,7 @@ use lib.Dec.{T}
 use lib.ListN.{length, get_or, drop, drop_of_length-le}
 use lib.Seq.{drop-cons}
 use lib.Ieee.{Float, binary64, add, mul}
-use Rattle.num_working.specs.Working.{checked, ◌+ᵂ◌}
-use Rattle.num_working.specs.declared.Worked.{Worked}
-use Rattle.num_working.specs.declared.Worked.TheVariants.{Failed}
+use Rattle.num_working.specs.Working.{checked, ◌+ᵂ◌, Worked}
 use Rattle.num_working.proofs.Workings.{checked_add}
 use Rattle.eos_terms.specs.Term.{numbered}
 use Rattle.eos_brackets.specs.Derivative.{Derivative, Delta, DeltaDelta, Tau, TauTau, DeltaTau, of, times, grown, asked}
@@ -36,17 +35,17 @@ module _ (fs : List Worked) (goal : Worked) where
   abbrev pub Due : ℕ → Float → Type 0
   Due i s = onto (checked s) (drop i fs) ≡ goal
 
-  pub due_more : (i : ℕ) (s v : Float) → i < length fs → checked v ≡ get_or fs i Failed → Due i s → Due (i + 1) (add binary64 s v)
+  pub due_more : (i : ℕ) (s v : Float) → i < length fs → checked v ≡ get_or fs i None → Due i s → Due (i + 1) (add binary64 s v)
   unfolding onto
   due_more i s v h e d =
       rw (add-one, checked_add s v, e)
-      (sym (ap (λ (t : List Worked). onto (checked s) t) (drop-cons fs i Failed h)) ∙ d)
+      (sym (ap (λ (t : List Worked). onto (checked s) t) (drop-cons fs i None h)) ∙ d)
 
   pub due_none : (i : ℕ) (s : Float) → length fs ≤ i → Due i s → checked s ≡ goal
   unfolding onto
   due_none i s h d = sym (ap (λ (t : List Worked). onto (checked s) t) (drop_of_length-le fs h)) ∙ d
 
-pub due_first : (fs : List Worked) (s : Float) → 0 < length fs → checked s ≡ get_or fs 0 Failed → Due fs (total fs) 1 s
+pub due_first : (fs : List Worked) (s : Float) → 0 < length fs → checked s ≡ get_or fs 0 None → Due fs (total fs) 1 s
 unfolding total onto
 due_first [] s h e = absurd (not-suc-le-zero h)
 due_first (f ∷ fs) s h e = rw e refl
@@ -67,7 +66,7 @@ get_d_numbered f j (r ∷ rs) (suc i) d e h =
 -- ---- the same for each sum that is asked for
 -- what a row's term and brackets have to be
 abbrev pub At : (Derivative → List Worked) → ℕ → Float → (Derivative → Float) → Type 0
-At figures i term bracket = (k : Derivative) → (i < length (figures k)) × (checked (mul binary64 term (bracket k)) ≡ get_or (figures k) i Failed)
+At figures i term bracket = (k : Derivative) → (i < length (figures k)) × (checked (mul binary64 term (bracket k)) ≡ get_or (figures k) i None)
 
 module _ (all : Bool) (figures : Derivative → List Worked) where
   abbrev pub Dues : (Derivative → Worked) → ℕ → Five → Type 0

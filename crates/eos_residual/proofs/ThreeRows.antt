@@ -2,8 +2,7 @@
 use mathlib.Core.Path.{◌≡◌, refl, ap}
 use lib.ListN.{get_or}
 use lib.Ieee.{Float, nan}
-use Rattle.num_working.specs.Working.{checked, ◌+ᵂ◌}
-use Rattle.num_working.specs.declared.Worked.{Worked}
+use Rattle.num_working.specs.Working.{checked, ◌+ᵂ◌, Worked}
 use Rattle.eos_brackets.specs.Derivative.{Derivative, of}
 use Rattle.eos_brackets.specs.declared.Five.{Five}
 use Rattle.eos_rows.specs.Row.{non_analytics, row40, row41, row42}

@@ -1,5 +1,5 @@
 -- No second answer meets a public function's promise. Assumes nothing.
-use Rattle.num_working.specs.declared.Worked.{Worked}
+use Rattle.num_working.specs.Working.{Worked}
 use Rattle.eos_residual.specs.declared.sum.Residual.{Residual}
 use Rattle.num_working.proofs.Unique.{OneAnswer, by_equation}
 use Rattle.eos_residual.proofs.sum.slope_at.Reads as slope_at

@@ -1,9 +1,7 @@
 -- RULES 4.8 (docs/ARRANGEMENT.md, section 7): the sums of the residual part, from the first row on in the table's order. Definitions only.
-use Rattle.std.specs.Prelude.{ℕ, ◌-◌, ◌≡◌, Bool, T, List, [], ◌∷◌, ◌++◌, get_or, Float}
+use Rattle.std.specs.Prelude.{ℕ, ◌-◌, ◌≡◌, Bool, T, List, [], ◌∷◌, ◌++◌, get_or, Float, Some, None}
 use Rattle.std.specs.Float.{nan}
-use Rattle.num_working.specs.Working.{checked, or_else, ◌+ᵂ◌}
-use Rattle.num_working.specs.declared.Worked.{Worked}
-use Rattle.num_working.specs.declared.Worked.TheVariants.{Failed}
+use Rattle.num_working.specs.Working.{checked, or_else, ◌+ᵂ◌, Worked}
 use Rattle.num_formulas.specs.Formula.{num, ◌⊗◌, ◌^^◌, work}
 use Rattle.eos_rows.specs.Row.{Polynomial, Exponential, polynomials, exponentials, gaussians}
 use Rattle.eos_terms.specs.Term.{numbered, polynomial_term, polynomial_bracket, exponential_term, exponential_bracket, gaussian_term, gaussian_bracket}
@@ -12,8 +10,6 @@ use Rattle.eos_non_analytic.specs.Figures.{non_analytic_figures}
 use Rattle.eos_rows.specs.declared.Gaussian.{Gaussian}
 use Rattle.eos_isotherm.specs.Isotherm.{bell_at}
 use Rattle.eos_isotherm.specs.declared.Isotherm.{Isotherm}
-use Rattle.eos_residual.specs.declared.sum.Sums.{Sums}
-use Rattle.eos_residual.specs.declared.sum.Sums.TheVariants.{Summed, Broken}
 use Rattle.eos_residual.specs.declared.sum.Residual.{Residual}
 use Rattle.eos_brackets.specs.Derivative.{Derivative, Delta, DeltaDelta, Tau, TauTau, DeltaTau, of, asked}
 use Rattle.eos_brackets.specs.declared.Five.{Five}
@@ -25,7 +21,7 @@ onto w (f ∷ fs) = onto (w +ᵂ f) fs
 
 -- a sum of no rows fails; none is ever asked for
 unfoldable pub total : List Worked → Worked
-total [] = Failed
+total [] = None
 total (f ∷ fs) = onto f fs
 
 -- ---- a row's figure: its term times its bracket, which is worked first. The row at place i of the table, from 0 on, has its τᵗ at place i of the isotherm
@@ -64,12 +60,12 @@ Meet all s goal = (k : Derivative) → T (asked all k) → checked (of s k) ≡ 
 -- the five together
 unfoldable pub all_five : (Derivative → Worked) → Sums
 all_five sum =
-    or_else (sum Delta) Broken (λ d.
-    or_else (sum DeltaDelta) Broken (λ dd.
-    or_else (sum Tau) Broken (λ t.
-    or_else (sum TauTau) Broken (λ tt.
-    or_else (sum DeltaTau) Broken (λ dt.
-    Summed (record { d = d; dd = dd; t = t; tt = tt; dt = dt }))))))
+    or_else (sum Delta) None (λ d.
+    or_else (sum DeltaDelta) None (λ dd.
+    or_else (sum Tau) None (λ t.
+    or_else (sum TauTau) None (λ tt.
+    or_else (sum DeltaTau) None (λ dt.
+    Some (record { d = d; dd = dd; t = t; tt = tt; dt = dt }))))))
 
 unfoldable pub five_sums : Isotherm → Float → Sums
 five_sums iso delta = all_five (residual iso delta)

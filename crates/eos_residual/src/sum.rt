@@ -21,13 +21,7 @@ use eos_non_analytic::parts::{Critical, at_critical, near_critical};
 use eos_rows::columns::{coefficients, decay_powers, delta_powers, tau_quarters};
 use eos_rows::{gaussian_row, non_analytic_row};
 use eos_terms::term::{Point, at_density};
-use num_working::{Worked, checked, is_finite};
-
-#[derive(Clone, Copy)]
-pub enum Sums {
-    Summed(Five),
-    Broken,
-}
+use num_working::{checked, is_finite};
 
 // The sums that are asked for, in plain f64; and where all five are, how many terms fell away.
 #[derive(Clone, Copy)]
@@ -39,7 +33,7 @@ struct Added {
 // The five sums, and how many terms fell away.
 #[derive(Clone, Copy)]
 pub struct Residual {
-    pub sums: Sums,
+    pub sums: Option<Five>,
     pub fallen: u32,
 }
 
@@ -243,7 +237,7 @@ fn sums_at(all: bool, iso: Isotherm, delta: f64) -> Added
 }
 
 // δφ_δ, which a pressure needs. What the exponentials say is dropped.
-pub fn slope_at(iso: Isotherm, delta: f64) -> Worked
+pub fn slope_at(iso: Isotherm, delta: f64) -> Option<f64>
     ensures { result ≡ residual iso delta Delta }
 {
     checked(sums_at(false, iso, delta).five.d)
@@ -266,13 +260,13 @@ fn all_finite(s: Five) -> bool
 }
 
 // Each of the five, tested.
-fn all_five(s: Five) -> Sums
+fn all_five(s: Five) -> Option<Five>
     ensures { result ≡ all_five (λ k. checked (of s k)) }
 {
     if all_finite(s) {
-        Sums::Summed(s)
+        Some(s)
     } else {
-        Sums::Broken
+        None
     }
 }
 

@@ -1,5 +1,5 @@
 -- No second answer meets a public function's promise. Assumes nothing.
-use Rattle.num_working.specs.declared.Worked.{Worked}
+use Rattle.num_working.specs.Working.{Worked}
 use Rattle.num_working.proofs.Unique.{OneAnswer, by_equation}
 use Rattle.eos_saturation.proofs.theta_at.Reads as theta_at
 use Rattle.eos_saturation.proofs.vapour_pressure.Reads as vapour_pressure

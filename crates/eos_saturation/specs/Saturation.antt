@@ -2,7 +2,7 @@
 use Rattle.std.specs.Prelude.{ℕ, Float}
 use Rattle.std.specs.Float.Ieee as Ieee
 use Rattle.num_working.specs.Number.{decimal}
-use Rattle.num_working.specs.declared.Worked.{Worked}
+use Rattle.num_working.specs.Working.{Worked}
 use Rattle.num_formulas.specs.Formula.{Formula, one, num, ◌⊕◌, ◌⊖◌, ◌⊗◌, ◌⊘◌, ◌^^◌, e^, root, work}
 use Rattle.eos_constants.specs.Constant.{span_wagner}
 use Rattle.eos_constants.specs.Reduced.{tau}

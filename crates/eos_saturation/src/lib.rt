@@ -10,10 +10,10 @@ use eos_constants::{span_wagner, tau_at};
 use num_exponential::exponential::{answer_alone, exponential};
 use num_powers::whole_power;
 use num_roots::root::{Exponent, root};
-use num_working::{Worked, checked, plain};
+use num_working::{checked, plain};
 
 // θ = 1 − T/T_c
-pub fn theta_at(t: f64) -> Worked
+pub fn theta_at(t: f64) -> Option<f64>
     ensures { result ≡ work (theta t) }
 {
     checked(1.0 - t / span_wagner().temperature)
@@ -30,7 +30,7 @@ fn pressure_sum(theta: f64) -> f64
 }
 
 // The one test at the end stands for all: what has failed on the way is a NaN.
-pub fn vapour_pressure(t: f64) -> Worked
+pub fn vapour_pressure(t: f64) -> Option<f64>
     ensures { result ≡ vapour_pressure t }
 {
     let sum = pressure_sum(plain(theta_at(t)));

@@ -1,8 +1,7 @@
 -- RULES 4.9: the state at a temperature and a density, each field by its own formula (docs/ARRANGEMENT.md, section 9; 004, Table 3), or a failure.
 -- Definitions only.
-use Rattle.std.specs.Prelude.{ℕ, Float, List, [], ◌∷◌}
-use Rattle.num_working.specs.Working.{or_else}
-use Rattle.num_working.specs.declared.Worked.{Worked}
+use Rattle.std.specs.Prelude.{ℕ, Float, List, [], ◌∷◌, Some, None}
+use Rattle.num_working.specs.Working.{or_else, Worked}
 use Rattle.num_formulas.specs.Formula.{Formula, num, one, two, ◌⊕◌, ◌⊖◌, ◌⊗◌, ◌⊘◌, minus, root, value, work}
 use Rattle.eos_constants.specs.Constant.{span_wagner}
 use Rattle.eos_constants.specs.Reduced.{delta}
@@ -10,15 +9,11 @@ use Rattle.eos_isotherm.specs.Isotherm.{half}
 use Rattle.eos_isotherm.specs.declared.Isotherm.{Isotherm}
 use Rattle.eos_brackets.specs.declared.Five.{Five}
 use Rattle.eos_terms.specs.Fallen.{fallen_terms}
-use Rattle.eos_residual.specs.Sum.{five_sums}
-use Rattle.eos_residual.specs.declared.sum.Sums.{Sums}
-use Rattle.eos_residual.specs.declared.sum.Sums.TheVariants.{Summed, Broken}
+use Rattle.eos_residual.specs.Sum.{five_sums, Sums}
 use Rattle.eos_ideal.specs.Ideal.{ideal_part}
 use Rattle.eos_pressure.specs.Pressure.{pressure_formula}
 use Rattle.eos_state.specs.declared.Phase.{Phase}
 use Rattle.eos_state.specs.declared.State.{State}
-use Rattle.eos_state.specs.declared.Stated.{Stated}
-use Rattle.eos_state.specs.declared.Stated.TheVariants.{Known, Unknown}
 
 -- ---- Table 3, with S₁ to S₅ the sums, i1 = τφ°_τ and i2 = τ²φ°_ττ
 
@@ -61,13 +56,13 @@ sound t sums i2 = root half (thermal t ⊗ (k sums ⊖ g sums ⊗ g sums ⊘ z s
 -- p, u, h, cᵥ, cₚ and w with T, ρ, the phase and how many terms fell away, where each was worked
 abbrev pub stated : Phase → ℕ → Float → Float → Worked → Worked → Worked → Worked → Worked → Worked → Stated
 stated phase fallen t rho p u h cv cp w =
-    or_else p Unknown (λ p.
-    or_else u Unknown (λ u.
-    or_else h Unknown (λ h.
-    or_else cv Unknown (λ cv.
-    or_else cp Unknown (λ cp.
-    or_else w Unknown (λ w.
-    Known (record { t = t; p = p; rho = rho; u = u; h = h; cv = cv; cp = cp; w = w; phase = phase; fallen = fallen })))))))
+    or_else p None (λ p.
+    or_else u None (λ u.
+    or_else h None (λ h.
+    or_else cv None (λ cv.
+    or_else cp None (λ cp.
+    or_else w None (λ w.
+    Some (record { t = t; p = p; rho = rho; u = u; h = h; cv = cv; cp = cp; w = w; phase = phase; fallen = fallen })))))))
 
 unfoldable pub state_of : Phase → ℕ → Float → Float → Five → Float → Float → Stated
 state_of phase fallen t rho sums i1 i2 =
@@ -81,17 +76,17 @@ state_of phase fallen t rho sums i1 i2 =
 -- with the ideal part at the isotherm's τ
 unfoldable pub state_ideal : Phase → ℕ → Float → Isotherm → Float → Five → Stated
 state_ideal phase fallen t iso rho sums =
-    or_else (ideal_part iso.tau).first Unknown (λ i1.
-    or_else (ideal_part iso.tau).second Unknown (λ i2.
+    or_else (ideal_part iso.tau).first None (λ i1.
+    or_else (ideal_part iso.tau).second None (λ i2.
     state_of phase fallen t rho sums i1 i2))
 
 abbrev pub then_sums : Sums → (Five → Stated) → Stated
-then_sums Broken f = Unknown
-then_sums (Summed sums) f = f sums
+then_sums None f = None
+then_sums (Some sums) f = f sums
 
 -- at a temperature, on its isotherm, at a density
 unfoldable pub state_on : Float → Isotherm → Phase → Float → Stated
-state_on t iso phase rho = or_else (work (delta rho)) Unknown (λ δ. then_sums (five_sums iso δ) (state_ideal phase (fallen_terms iso δ) t iso rho))
+state_on t iso phase rho = or_else (work (delta rho)) None (λ δ. then_sums (five_sums iso δ) (state_ideal phase (fallen_terms iso δ) t iso rho))
 
 -- T, p, ρ, u, h, cᵥ, cₚ, w
 abbrev pub eight : State → List Float

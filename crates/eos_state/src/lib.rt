@@ -13,9 +13,9 @@ use eos_constants::{delta_at, span_wagner};
 use eos_ideal::ideal_part;
 use eos_isotherm::Isotherm;
 use eos_pressure::pressure_of;
-use eos_residual::sum::{Sums, residual_part};
+use eos_residual::sum::{residual_part};
 use num_roots::root::{Exponent, root};
-use num_working::{Worked, checked, is_finite, over, plain};
+use num_working::{checked, is_finite, over, plain};
 
 #[derive(Clone, Copy)]
 pub enum Phase {
@@ -37,12 +37,6 @@ pub struct State {
     pub w: f64,
     pub phase: Phase,
     pub fallen: u32,
-}
-
-#[derive(Clone, Copy)]
-pub enum Stated {
-    Known(State),
-    Unknown,
 }
 
 // cₚ in plain f64, with z, g and k as docs/ARRANGEMENT.md, section 9, has them.
@@ -100,50 +94,50 @@ fn are_finite(x: f64, y: f64, z: f64) -> bool
 }
 
 // A state whose every number is finite.
-fn tested(x: State) -> Stated
+fn tested(x: State) -> Option<State>
     ensures { result ≡ stated x.phase x.fallen x.t x.rho (checked x.p) (checked x.u) (checked x.h) (checked x.cv) (checked x.cp) (checked x.w) }
 {
     if are_finite(x.p, x.u, x.h) {
         if are_finite(x.cv, x.cp, x.w) {
-            return Stated::Known(x);
+            return Some(x);
         }
     }
-    Stated::Unknown
+    None
 }
 
-fn state_of(phase: Phase, fallen: u32, t: f64, rho: f64, sums: Five, i1: f64, i2: f64) -> Stated
+fn state_of(phase: Phase, fallen: u32, t: f64, rho: f64, sums: Five, i1: f64, i2: f64) -> Option<State>
     ensures { result ≡ state_of phase fallen t rho sums i1 i2 }
 {
     tested(table_3(phase, fallen, t, rho, sums, i1, i2))
 }
 
 // With the ideal part at the isotherm's τ.
-fn state_ideal(phase: Phase, fallen: u32, t: f64, iso: Isotherm, rho: f64, sums: Five) -> Stated
+fn state_ideal(phase: Phase, fallen: u32, t: f64, iso: Isotherm, rho: f64, sums: Five) -> Option<State>
     ensures { result ≡ state_ideal phase fallen t iso rho sums }
 {
     let i = ideal_part(iso.tau);
     let first = i.first;
     let second = i.second;
-    let Worked::Number(i1) = first else {
-        return Stated::Unknown;
+    let Some(i1) = first else {
+        return None;
     };
-    let Worked::Number(i2) = second else {
-        return Stated::Unknown;
+    let Some(i2) = second else {
+        return None;
     };
     state_of(phase, fallen, t, rho, sums, i1, i2)
 }
 
-pub fn state_on(t: f64, iso: Isotherm, phase: Phase, rho: f64) -> Stated
+pub fn state_on(t: f64, iso: Isotherm, phase: Phase, rho: f64) -> Option<State>
     ensures { result ≡ state_on t iso phase rho }
 {
-    let Worked::Number(delta) = checked(delta_at(rho)) else {
-        return Stated::Unknown;
+    let Some(delta) = checked(delta_at(rho)) else {
+        return None;
     };
     let r = residual_part(iso, delta);
     let fallen = r.fallen;
     let summed = r.sums;
-    let Sums::Summed(sums) = summed else {
-        return Stated::Unknown;
+    let Some(sums) = summed else {
+        return None;
     };
     state_ideal(phase, fallen, t, iso, rho, sums)
 }

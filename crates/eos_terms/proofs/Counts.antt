@@ -10,8 +10,7 @@ use lib.Ieee as Ieee
 use lib.Ieee.{Float, nan, inf, fin}
 use lib.Ieee.Scale.{finite}
 use Rattle.num_working.specs.Number.{whole}
-use Rattle.num_working.specs.Working.{checked, or_else}
-use Rattle.num_working.specs.declared.Worked.{Worked}
+use Rattle.num_working.specs.Working.{checked, or_else, Worked}
 use Rattle.num_exponential.specs.Exponential.{exponential, steps, fell}
 use Rattle.num_exponential.specs.declared.decay.Twelve.{Twelve}
 use Rattle.num_formulas.specs.Formula.{Formula, num, one, ◌⊖◌, ◌⊗◌, ◌^^◌, minus, value, work}

@@ -1,8 +1,8 @@
 -- No second answer meets a public function's promise. Assumes nothing.
 use lib.Ieee.{Float}
-use Rattle.num_working.specs.declared.Worked.{Worked}
+use Rattle.num_working.specs.Working.{Worked}
 use Rattle.num_working.proofs.Unique.{OneAnswer, by_equation}
-use Rattle.eos_state.specs.declared.Stated.{Stated}
+use Rattle.eos_state.specs.State.{Stated}
 use Rattle.equation.specs.declared.Curve.{Curve}
 use Rattle.equation.proofs.conductivity_at.Reads as conductivity_at
 use Rattle.equation.proofs.critical_temperature.Reads as critical_temperature

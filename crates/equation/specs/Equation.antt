@@ -1,8 +1,7 @@
 -- What a door (RULES 5) needs of an equation of state, and the one of 1996. Definitions only.
-use Rattle.std.specs.Prelude.{ℕ, ◌≡◌, T, Float}
+use Rattle.std.specs.Prelude.{ℕ, ◌≡◌, T, Float, Some}
 use Rattle.num_working.specs.Number.{nonneg}
-use Rattle.num_working.specs.declared.Worked.{Worked}
-use Rattle.num_working.specs.declared.Worked.TheVariants.{Number}
+use Rattle.num_working.specs.Working.{Worked}
 use Rattle.eos_constants.specs.Constant.{span_wagner}
 use Rattle.eos_saturation.specs.Saturation as saturation
 use Rattle.eos_densities.specs.Density as density
@@ -11,11 +10,9 @@ use Rattle.eos_isotherm.specs.Isotherm.{isotherm}
 use Rattle.eos_terms.specs.Fallen.{fallen_at}
 use Rattle.eos_pressure.specs.Pressure as pressure
 use Rattle.eos_state.specs.State as state
-use Rattle.eos_state.specs.State.{eight}
+use Rattle.eos_state.specs.State.{eight, Stated}
 use Rattle.eos_state.specs.declared.Phase.{Phase}
 use Rattle.eos_state.specs.declared.State.{State}
-use Rattle.eos_state.specs.declared.Stated.{Stated}
-use Rattle.eos_state.specs.declared.Stated.TheVariants.{Known}
 use Rattle.eos_conductivity.specs.Conductivity.{conductivity_at}
 use Rattle.equation.specs.declared.Curve.{Curve}
 
@@ -61,11 +58,11 @@ of1996 = record {
 -- asked for, its pressure is the one worked there, its count that of the terms that fell away there, and, as RULES 5.3 needs it, its eight numbers don't hang
 -- on the phase
 pub record Lawful (E : Equation) : Type 0 where
-  pub vapour : (t d : Float) → E.vapour_density t ≡ Number d → T (nonneg d)
-  pub liquid : (t d : Float) → E.liquid_density t ≡ Number d → T (nonneg d)
-  pub temperature : (t : Float) (phase : Phase) (rho : Float) (x : State) → E.state t phase rho ≡ Known x → x.t ≡ t
-  pub pressure : (t : Float) (phase : Phase) (rho : Float) (x : State) → E.state t phase rho ≡ Known x → E.pressure t rho ≡ Number x.p
-  pub density : (t : Float) (phase : Phase) (rho : Float) (x : State) → E.state t phase rho ≡ Known x → x.rho ≡ rho
-  pub phase : (t : Float) (phase : Phase) (rho : Float) (x : State) → E.state t phase rho ≡ Known x → x.phase ≡ phase
-  pub fallen : (t : Float) (phase : Phase) (rho : Float) (x : State) → E.state t phase rho ≡ Known x → x.fallen ≡ E.fallen t rho
-  pub same : (t : Float) (phase other : Phase) (rho : Float) (x y : State) → E.state t phase rho ≡ Known x → E.state t other rho ≡ Known y → eight y ≡ eight x
+  pub vapour : (t d : Float) → E.vapour_density t ≡ Some d → T (nonneg d)
+  pub liquid : (t d : Float) → E.liquid_density t ≡ Some d → T (nonneg d)
+  pub temperature : (t : Float) (phase : Phase) (rho : Float) (x : State) → E.state t phase rho ≡ Some x → x.t ≡ t
+  pub pressure : (t : Float) (phase : Phase) (rho : Float) (x : State) → E.state t phase rho ≡ Some x → E.pressure t rho ≡ Some x.p
+  pub density : (t : Float) (phase : Phase) (rho : Float) (x : State) → E.state t phase rho ≡ Some x → x.rho ≡ rho
+  pub phase : (t : Float) (phase : Phase) (rho : Float) (x : State) → E.state t phase rho ≡ Some x → x.phase ≡ phase
+  pub fallen : (t : Float) (phase : Phase) (rho : Float) (x : State) → E.state t phase rho ≡ Some x → x.fallen ≡ E.fallen t rho
+  pub same : (t : Float) (phase other : Phase) (rho : Float) (x y : State) → E.state t phase rho ≡ Some x → E.state t other rho ≡ Some y → eight y ≡ eight x

@@ -1,5 +1,6 @@
 -- What a caller may take from what is handed over of a state with all that it carries: which figures are written, with what, and which stay; over any
 -- answer of a door. Assumes nothing.
+use Rattle.std.specs.Prelude.{Some, None}
 use mathlib.Core.Path.{◌≡◌, refl, sym, ap, ◌∙◌}
 use mathlib.Core.Bool.{Bool, true, false, cond}
 use mathlib.Core.List.{List, [], ◌∷◌, ◌++◌}
@@ -15,10 +16,8 @@ use Rattle.eos_state.specs.State.{eight}
 use Rattle.eos_state.specs.declared.State.{State}
 use Rattle.equation.specs.Equation.{Equation}
 use Rattle.door_answers.specs.declared.Answer.{Answer}
-use Rattle.door_conductivity.specs.Conducted.{with_conductivity}
+use Rattle.door_conductivity.specs.Conducted.{with_conductivity, Conductivity}
 use Rattle.door_conductivity.specs.declared.Carried.{Carried}
-use Rattle.door_conductivity.specs.declared.Conductivity.{Conductivity}
-use Rattle.door_conductivity.specs.declared.Conductivity.TheVariants.{NotAsked, Is}
 use Rattle.door_conductivity.specs.declared.Conducted.{Conducted}
 use Rattle.interface_figures.specs.Figures.{AnsweredIn, laid_over, counted, on_request, carried, asked, CarriedIn, CountedIn}
 use Rattle.interface_figures.proofs.Handed.{eight_laid}
@@ -90,15 +89,15 @@ ten_ask old h = le-leb 10 (length old) h
 pub ninth : (old new : List Float) (c : Carried) (r : ℕ) → CarriedIn old new (Conducted.State c) r → 9 ≤ length old → get_or new 8 nan ≡ whole c.state.fallen
 ninth old new c r p h = rw (p.figures, le-ltb (length old) 8 (omega (arith, h))) (at_laid (carried c) old 8 (omega arith) (omega (arith, h)))
 
-pub tenth : (old new : List Float) (c : Carried) (x : Float) (r : ℕ) → c.conductivity ≡ Is x → CarriedIn old new (Conducted.State c) r → 10 ≤ length old
+pub tenth : (old new : List Float) (c : Carried) (x : Float) (r : ℕ) → c.conductivity ≡ Some x → CarriedIn old new (Conducted.State c) r → 10 ≤ length old
     → get_or new 9 nan ≡ x
 tenth old new c x r e p h =
     rw (p.figures, le-ltb (length old) 8 (omega (arith, h)), e) (at_laid (counted c.state ++ (x ∷ [])) old 9 (omega arith) (omega (arith, h)))
 
 -- FIGURES AFTER THE TENTH STAY
 at_most_ten : (s : State) (k : Conductivity) → length (counted s ++ on_request k) ≤ 10
-at_most_ten s NotAsked = omega arith
-at_most_ten s (Is x) = omega arith
+at_most_ten s None = omega arith
+at_most_ten s (Some x) = omega arith
 
 pub after_tenth : (old new : List Float) (a : Conducted) (r : ℕ) → CarriedIn old new a r → drop 10 new ≡ drop 10 old
 after_tenth old new (Conducted.Refused n) r p = ap (drop 10) p.figures ∙ past 10 old old (ltb (length old) 8) refl

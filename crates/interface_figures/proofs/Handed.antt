@@ -1,4 +1,5 @@
 -- Numbers set one after the other, and what a caller is handed, by what the door or saturation comes to. Assumes nothing.
+use Rattle.std.specs.Prelude.{Some, None}
 use mathlib.Core.Path.{◌≡◌, refl, sym, ap, ◌∙◌}
 use mathlib.Core.Bool.{Bool, true, false, cond}
 use mathlib.Core.List.{List, [], ◌∷◌, ◌++◌}
@@ -15,7 +16,6 @@ use Rattle.eos_state.specs.declared.State.{State}
 use Rattle.door_answers.specs.declared.Answer.{Answer}
 use Rattle.door_conductivity.specs.declared.Carried.{Carried}
 use Rattle.door_conductivity.specs.declared.Conducted.{Conducted}
-use Rattle.door_conductivity.specs.declared.Conductivity.TheVariants.{NotAsked, Is}
 use Rattle.door_saturation.specs.declared.Saturation.{Saturation}
 use Rattle.interface_figures.specs.Figures.{HandedIn, with_eight, AnsweredIn, laid_over, counted, CarriedIn, CountedIn, with_three}
 
@@ -82,11 +82,11 @@ pub refused_counted : (old new : List Float) (a : Answer) (n r : ℕ) → a ≡ 
 refused_counted old new a n r e p = record { number = p.number; figures = rw e (rw e at p.figures) }
 
 -- and what it carries on request, handed over with the count before
-pub not_asked_in : (old new : List Float) (c : Carried) (r : ℕ) → c.conductivity ≡ NotAsked → CountedIn old new (Answer.State c.state) r
+pub not_asked_in : (old new : List Float) (c : Carried) (r : ℕ) → c.conductivity ≡ None → CountedIn old new (Answer.State c.state) r
     → CarriedIn old new (Conducted.State c) r
 not_asked_in old new c r e p = record { number = p.number; figures = rw e p.figures }
 
-pub asked_in : (old mid new : List Float) (c : Carried) (x : Float) (r : ℕ) → c.conductivity ≡ Is x → CountedIn old mid (Answer.State c.state) r
+pub asked_in : (old mid new : List Float) (c : Carried) (x : Float) (r : ℕ) → c.conductivity ≡ Some x → CountedIn old mid (Answer.State c.state) r
     → new ≡ set mid 9 x → CarriedIn old new (Conducted.State c) r
 asked_in old mid new c x r e p f =
     record { number = p.number; figures = f ∙ rw (p.figures, e) (behind (counted c.state) old x (ltb (length old) 8) (omega arith) refl) }

@@ -1,12 +1,12 @@
 -- RULES 12: what a caller in another language gets of a door or of saturation, a number back and figures in what it lent. Definitions only.
-use Rattle.std.specs.Prelude.{ℕ, ◌≡◌, Bool, cond, List, [], ◌∷◌, ◌++◌, leb, ltb, length, take, drop, Float}
+use Rattle.std.specs.Prelude.{ℕ, ◌≡◌, Bool, cond, List, [], ◌∷◌, ◌++◌, leb, ltb, length, take, drop, Float, Some, None}
 use Rattle.num_working.specs.Number.{whole}
 use Rattle.eos_state.specs.State.{eight}
 use Rattle.eos_state.specs.declared.Phase.{Phase}
 use Rattle.eos_state.specs.declared.State.{State}
 use Rattle.door_answers.specs.declared.Answer.{Answer}
 use Rattle.door_conductivity.specs.declared.Carried.{Carried}
-use Rattle.door_conductivity.specs.declared.Conductivity.{Conductivity}
+use Rattle.door_conductivity.specs.Conducted.{Conductivity}
 use Rattle.door_conductivity.specs.declared.Conducted.{Conducted}
 use Rattle.door_saturation.specs.declared.Saturation.{Saturation}
 use Rattle.door_saturation.specs.declared.Saturated.{Saturated}
@@ -53,8 +53,8 @@ counted s = eight s ++ (whole s.fallen ∷ [])
 
 -- then the thermal conductivity, where it was asked for
 abbrev pub on_request : Conductivity → List Float
-on_request Conductivity.NotAsked = []
-on_request (Conductivity.Is x) = x ∷ []
+on_request None = []
+on_request (Some x) = x ∷ []
 
 abbrev pub carried : Carried → List Float
 carried c = counted c.state ++ on_request c.conductivity

@@ -8,7 +8,7 @@ ghost use Rattle.door_conductivity.specs.declared.Conducted.{Conducted};
 ghost use Rattle.interface_figures.specs.Figures.{phase_number, with_eight, with_three, asked, AnsweredIn, CarriedIn, CountedIn, SaturatedIn};
 
 use door_answers::Answer;
-use door_conductivity::{Carried, Conducted, Conductivity, with_conductivity};
+use door_conductivity::{Carried, Conducted, with_conductivity};
 use door_saturation::{Saturated, Saturation};
 use eos_state::{Phase, State};
 
@@ -83,7 +83,7 @@ fn put_carried(c: Carried, figures: &mut [f64]) -> u32
     let state = c.state;
     let conductivity = c.conductivity;
     let number = put_counted(Answer::State(state), figures);
-    let Conductivity::Is(x) = conductivity else {
+    let Some(x) = conductivity else {
         return number;
     };
     put_at(9, x, figures);

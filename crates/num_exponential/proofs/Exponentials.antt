@@ -6,9 +6,8 @@ use native.Mathlib.Omega.{arith}
 use lib.Dec.{T}
 use lib.Ieee.{Float, binary64, neg, mul, sub, div, of_int}
 use lib.Ieee.Scale.{finite}
-use Rattle.num_working.specs.declared.Worked.{Worked}
+use Rattle.num_working.specs.Working.{Worked, checked, ◌-ᵂ◌, ◌*ᵂ◌, ◌/ᵂ◌}
 use Rattle.num_working.specs.Number.{whole}
-use Rattle.num_working.specs.Working.{checked, ◌-ᵂ◌, ◌*ᵂ◌, ◌/ᵂ◌}
 use Rattle.num_exponential.specs.Exponential.{falling, series, squared}
 use Rattle.num_exponential.specs.Lockstep.{chain, squarings}
 use Rattle.num_exponential.proofs.Tables.{at}

@@ -1,4 +1,5 @@
 -- Below −36 the exponential of a finite number is answered, so that what it says hangs on its argument alone. Assumes nothing.
+use Rattle.std.specs.Prelude.{Some}
 use mathlib.Core.Path.{◌≡◌, refl, sym, subst, ◌∙◌}
 use mathlib.Core.Bool.{Bool, true, false, true≢false}
 use Prim.Native.Nat.{ℕ, zero, suc, ◌*◌, ◌≤◌, ◌<◌}
@@ -12,7 +13,6 @@ use lib.Ieee.Scale.{finite}
 use lib.Ieee.Fits.{and_i}
 use lib.Ieee.Positive.{num, den, positive, cross→le}
 use Rattle.num_working.specs.Number.{decimal, fraction, whole}
-use Rattle.num_working.specs.declared.Worked.TheVariants.{Number}
 use Rattle.num_exponential.specs.Exponential.{exponential, fell, steps}
 use Rattle.num_exponential.specs.Decay.{in_series}
 use Rattle.num_exponential.proofs.Sayings.{silent, spoken, refused}
@@ -45,12 +45,12 @@ module _ (m : ℕ) (e : ℤ) (q : lt (fin true m e) (neg (whole 36)) ≡ true) w
       let x = fin false m e in
       and_i (le (decimal 1 200) x) (le x (whole 700)) not_small (cross→le x (whole 700) above_zero tt (omega (arith, h)))
 
-  by_700 : (b : Bool) → ltb (700 * down e) (m * up e * 1) ≡ b → (v : Float) × (steps (fin true m e) ≡ Number v)
+  by_700 : (b : Bool) → ltb (700 * down e) (m * up e * 1) ≡ b → (v : Float) × (steps (fin true m e) ≡ Some v)
   unfolding steps lt neg whole of_int round
   by_700 true r = (whole 0, rw r refl)
   by_700 false r = (_, steps_worked (fin false m e) (in_series_lem (omega (arith, ltb-false (700 * down e) (m * up e * 1) r))))
 
-  pub answered : (v : Float) × (steps (fin true m e) ≡ Number v)
+  pub answered : (v : Float) × (steps (fin true m e) ≡ Some v)
   answered = by_700 (ltb (700 * down e) (m * up e * 1)) refl
 
 -- ---- so it says by its argument

@@ -1,4 +1,5 @@
 -- Twelve at once: what holds of each number holds of all twelve, and from 0 to 1 no step leaves, so that no number has to be tested. Assumes nothing.
+use Rattle.std.specs.Prelude.{Some}
 use mathlib.Core.Path.{◌≡◌, refl, sym, ap, ◌∙◌, subst}
 use mathlib.Core.Bool.{Bool, false}
 use Prim.Native.Nat.{ℕ, zero, suc, ◌-◌, ◌*◌, ◌^◌, ◌≤◌, ◌<◌}
@@ -14,7 +15,6 @@ use lib.Ieee.Scale.{grid}
 use lib.Ieee.Positive.{num, den, den_pos}
 use Rattle.num_working.specs.Number.{decimal, whole}
 use Rattle.num_working.specs.Working.{checked, plain}
-use Rattle.num_working.specs.declared.Worked.TheVariants.{Number}
 use Rattle.num_exponential.specs.declared.decay.Twelve.{Twelve}
 use Rattle.num_exponential.specs.Exponential.{steps, squared}
 use Rattle.num_exponential.specs.Decay.{decay, each, every, numbers, in_series}
@@ -111,7 +111,7 @@ unfolding squarings
 powers_within zero s v = v
 powers_within (suc n) s v = powers_within n (mul binary64 s s) (mul_within s s v v)
 
-checked_within : (x : Float) → Within x → checked x ≡ Number x
+checked_within : (x : Float) → Within x → checked x ≡ Some x
 checked_within nan v = absurd v.1
 checked_within (inf s) v = absurd v.1
 checked_within (fin s m e) v = refl
@@ -128,7 +128,7 @@ unfolding each
 normal_parts x h = every_map in_series normal (λ v. div binary64 v (whole 1024)) normal_part (numbers x) h
 
 -- it is answered
-pub steps_worked : (x : Float) → T (in_series x) → steps (neg x) ≡ Number (squarings 10 (chain (div binary64 x (whole 1024)) 14 (whole 1)))
+pub steps_worked : (x : Float) → T (in_series x) → steps (neg x) ≡ Some (squarings 10 (chain (div binary64 x (whole 1024)) 14 (whole 1)))
 steps_worked x h =
     let y = div binary64 x (whole 1024) in
     let s = chain y 14 (whole 1) in

@@ -1,4 +1,5 @@
 -- The exponential's answer is what its steps come to, and is finite; and what it says, by whether there is an answer. Assumes nothing.
+use Rattle.std.specs.Prelude.{Some, None}
 use Prim.Native.Nat.{ℕ, zero, suc}
 use mathlib.Core.Path.{◌≡◌, refl}
 use mathlib.Core.Bool.{Bool, false}
@@ -7,21 +8,17 @@ use lib.Ieee as Ieee
 use lib.Ieee.{Float, binary64}
 use lib.Ieee.Scale.{finite}
 use Rattle.num_working.specs.Number.{whole}
-use Rattle.num_working.specs.Working.{checked, or_else, ◌*ᵂ◌, ◌/ᵂ◌}
-use Rattle.num_working.specs.declared.Worked.{Worked}
-use Rattle.num_working.specs.declared.Worked.TheVariants.{Number, Failed}
+use Rattle.num_working.specs.Working.{checked, or_else, ◌*ᵂ◌, ◌/ᵂ◌, Worked}
 use Rattle.num_working.proofs.Sound.{sound, both_sound, cond_sound}
-use Rattle.num_exponential.specs.Exponential.{exponential, answer_alone, fell, steps, falling, squared, series}
-use Rattle.num_exponential.specs.declared.exponential.Raised.{Raised}
-use Rattle.num_exponential.specs.declared.exponential.Raised.TheVariants.{Answered, Refused}
+use Rattle.num_exponential.specs.Exponential.{exponential, answer_alone, fell, steps, falling, squared, series, Raised}
 
 -- ---- the answer
 abbrev saying : Worked → Bool → Raised
-saying w b = or_else w Refused (λ e. Answered (record { value = e; fallen = b }))
+saying w b = or_else w None (λ e. Some (record { value = e; fallen = b }))
 
 answer_of : (w : Worked) (b : Bool) → answer_alone (saying w b) ≡ w
-answer_of Failed b = refl
-answer_of (Number e) b = refl
+answer_of None b = refl
+answer_of (Some e) b = refl
 
 pub answer_is : (x : Float) → answer_alone (exponential x) ≡ steps x
 unfolding exponential
@@ -40,7 +37,7 @@ falling_sound x = squared_sound 9 (series (checked (Ieee.neg x) /ᵂ checked (wh
 steps_sound : (x : Float) → T (sound (steps x))
 unfolding steps whole Ieee.of_int ◌/ᵂ◌
 steps_sound x =
-    cond_sound (finite x) _ Failed
+    cond_sound (finite x) _ None
     (cond_sound (Ieee.lt x (Ieee.neg (whole 700))) _ _ tt
     (cond_sound (Ieee.lt (whole 700) x) _ _ tt
     (cond_sound (Ieee.le x (whole 0)) _ _ (falling_sound x) (both_sound (Ieee.div binary64) (checked (whole 1)) (falling (Ieee.neg x)))))) tt
@@ -50,14 +47,14 @@ exponential_sound x = rw (answer_is x) (steps_sound x)
 
 -- ---- what it says: nothing where it is refused, no where its argument is not below −36
 said : (w : Worked) (b : Bool) → b ≡ false → fell (saying w b) ≡ false
-said Failed b e = refl
-said (Number x) b e = e
+said None b e = refl
+said (Some x) b e = e
 
 pub silent : (x : Float) → Ieee.lt x (Ieee.neg (whole 36)) ≡ false → fell (exponential x) ≡ false
 unfolding exponential
 silent x e = said (steps x) (Ieee.lt x (Ieee.neg (whole 36))) e
 
-pub spoken : (x v : Float) → steps x ≡ Number v → fell (exponential x) ≡ Ieee.lt x (Ieee.neg (whole 36))
+pub spoken : (x v : Float) → steps x ≡ Some v → fell (exponential x) ≡ Ieee.lt x (Ieee.neg (whole 36))
 unfolding exponential
 spoken x v e = rw e refl
 

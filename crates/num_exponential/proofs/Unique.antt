@@ -1,8 +1,8 @@
 -- No second answer meets a public function's promise. Assumes nothing.
 use mathlib.Core.Bool.{Bool}
-use Rattle.num_working.specs.declared.Worked.{Worked}
+use Rattle.num_working.specs.Working.{Worked}
 use Rattle.num_working.proofs.Unique.{OneAnswer, by_equation}
-use Rattle.num_exponential.specs.declared.exponential.Raised.{Raised}
+use Rattle.num_exponential.specs.Exponential.{Raised}
 use Rattle.num_exponential.specs.declared.decay.Twelve.{Twelve}
 use Rattle.num_exponential.proofs.decay.falls.Reads as falls
 use Rattle.num_exponential.proofs.decay.twelve_decays.Reads as twelve_decays

@@ -1,13 +1,9 @@
 -- RULES 4.4: the exponential eˣ, and what it says with its answer. Definitions only.
-use Rattle.std.specs.Prelude.{ℕ, zero, suc, Bool, false, cond, Float}
+use Rattle.std.specs.Prelude.{ℕ, zero, suc, Bool, false, cond, Float, Some, None}
 use Rattle.std.specs.Float.Ieee as Ieee
 use Rattle.std.specs.Float.Ieee.Scale.{finite}
 use Rattle.num_working.specs.Number.{whole}
-use Rattle.num_working.specs.Working.{checked, or_else, ◌-ᵂ◌, ◌*ᵂ◌, ◌/ᵂ◌}
-use Rattle.num_working.specs.declared.Worked.{Worked}
-use Rattle.num_working.specs.declared.Worked.TheVariants.{Number, Failed}
-use Rattle.num_exponential.specs.declared.exponential.Raised.{Raised}
-use Rattle.num_exponential.specs.declared.exponential.Raised.TheVariants.{Answered, Refused}
+use Rattle.num_working.specs.Working.{checked, or_else, ◌-ᵂ◌, ◌*ᵂ◌, ◌/ᵂ◌, Worked}
 
 -- s becomes 1 − (y/k)·s for k, k − 1, .., 1
 unfoldable pub series : Worked → ℕ → Worked → Worked
@@ -27,21 +23,21 @@ falling x = squared 10 (series (checked (Ieee.neg x) /ᵂ checked (whole 1024)) 
 unfoldable pub steps : Float → Worked
 steps x =
     cond (finite x)
-    (cond (Ieee.lt x (Ieee.neg (whole 700))) (Number (whole 0))
-    (cond (Ieee.lt (whole 700) x) Failed
+    (cond (Ieee.lt x (Ieee.neg (whole 700))) (Some (whole 0))
+    (cond (Ieee.lt (whole 700) x) None
     (cond (Ieee.le x (whole 0)) (falling x)
     (checked (whole 1) /ᵂ falling (Ieee.neg x)))))
-    Failed
+    None
 
 -- with an answer, whether the argument was below −36; where the exponential is refused, there is no answer to say it with
 unfoldable pub exponential : Float → Raised
-exponential x = or_else (steps x) Refused (λ e. Answered (record { value = e; fallen = Ieee.lt x (Ieee.neg (whole 36)) }))
+exponential x = or_else (steps x) None (λ e. Some (record { value = e; fallen = Ieee.lt x (Ieee.neg (whole 36)) }))
 
 -- ---- its users: the answer alone, where what it says is dropped on purpose; or what it says, which is passed on
 abbrev pub answer_alone : Raised → Worked
-answer_alone Refused = Failed
-answer_alone (Answered s) = Number s.value
+answer_alone None = None
+answer_alone (Some s) = Some s.value
 
 abbrev pub fell : Raised → Bool
-fell Refused = false
-fell (Answered s) = s.fallen
+fell None = false
+fell (Some s) = s.fallen

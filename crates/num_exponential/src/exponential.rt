@@ -6,7 +6,7 @@ ghost use Rattle.num_working.specs.Working.{checked};
 ghost use Rattle.num_exponential.specs.Exponential.{answer_alone, exponential, falling, series, squared, steps};
 ghost use Rattle.num_exponential.specs.Decay.{in_series};
 
-use num_working::{Worked, checked, is_finite};
+use num_working::{checked, is_finite};
 
 // An answer, and whether its argument was below −36.
 #[derive(Clone, Copy)]
@@ -16,12 +16,6 @@ pub struct Said {
 }
 
 // Where it is refused, there is no answer to say it with.
-#[derive(Clone, Copy)]
-pub enum Raised {
-    Answered(Said),
-    Refused,
-}
-
 // s becomes 1 − (y/k)·s for k = 14, 13, .., 1.
 fn series(y: f64) -> f64
     ensures { checked result ≡ series (checked y) 14 (checked (whole 1)) }
@@ -81,7 +75,7 @@ pub(crate) fn in_series(x: f64) -> bool
 }
 
 // Step 4: eˣ for x from −700 to 0.
-fn falling(x: f64) -> Worked
+fn falling(x: f64) -> Option<f64>
     ensures { result ≡ falling x }
 {
     let y = (-x) / 1024.0;
@@ -92,45 +86,45 @@ fn falling(x: f64) -> Worked
 }
 
 // The five steps in their order.
-fn steps(x: f64) -> Worked
+fn steps(x: f64) -> Option<f64>
     ensures { result ≡ steps x }
 {
     if is_finite(x) {} else {
-        return Worked::Failed;
+        return None;
     }
     if x < -700.0 {
-        return Worked::Number(0.0);
+        return Some(0.0);
     }
     if 700.0 < x {
-        return Worked::Failed;
+        return None;
     }
     if x <= 0.0 {
         return falling(x);
     }
-    let Worked::Number(e) = falling(-x) else {
-        return Worked::Failed;
+    let Some(e) = falling(-x) else {
+        return None;
     };
     checked(1.0 / e)
 }
 
-pub fn exponential(x: f64) -> Raised
+pub fn exponential(x: f64) -> Option<Said>
     ensures { result ≡ exponential x }
 {
-    let Worked::Number(value) = steps(x) else {
-        return Raised::Refused;
+    let Some(value) = steps(x) else {
+        return None;
     };
-    Raised::Answered(Said {
+    Some(Said {
         value,
         fallen: x < -36.0,
     })
 }
 
 // For a user that drops, on purpose, what the exponential says.
-pub fn answer_alone(r: Raised) -> Worked
+pub fn answer_alone(r: Option<Said>) -> Option<f64>
     ensures { result ≡ answer_alone r }
 {
     match r {
-        Raised::Answered(s) => Worked::Number(s.value),
-        Raised::Refused => Worked::Failed,
+        Some(s) => Some(s.value),
+        None => None,
     }
 }

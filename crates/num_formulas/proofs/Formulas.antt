@@ -1,4 +1,5 @@
 -- A formula worked in plain f64 and tested once at its end is the formula worked with a test of every number. Assumes nothing.
+use Rattle.std.specs.Prelude.{Some, None}
 use Prim.Native.Nat.{ℕ, zero, suc, ◌*◌}
 use mathlib.Core.Path.{◌≡◌, refl, sym, ap, ◌∙◌}
 use mathlib.Core.Bool.{Bool, true, false, not, cond}
@@ -8,14 +9,12 @@ use lib.Ieee as Ieee
 use lib.Ieee.{Float, nan, inf, fin, binary64}
 use lib.Ieee.Scale.{finite}
 use Rattle.num_working.specs.Number.{whole}
-use Rattle.num_working.specs.Working.{checked, over, plain, or_else, ◌+ᵂ◌, ◌-ᵂ◌, ◌*ᵂ◌, ◌/ᵂ◌}
+use Rattle.num_working.specs.Working.{checked, over, plain, or_else, ◌+ᵂ◌, ◌-ᵂ◌, ◌*ᵂ◌, ◌/ᵂ◌, Worked}
 use Rattle.num_powers.specs.Power.{◌^ᵂ◌}
 use Rattle.num_exponential.specs.Exponential.{exponential, answer_alone, steps}
 use Rattle.num_roots.specs.Root as Root
 use Rattle.num_roots.specs.Root.{root_bits, root_of, searched}
 use Rattle.num_formulas.specs.Formula.{Formula, num, ◌⊕◌, ◌⊖◌, ◌⊗◌, ◌⊘◌, ◌^^◌, minus, size, e^, root, absolute, value, work}
-use Rattle.num_working.specs.declared.Worked.{Worked}
-use Rattle.num_working.specs.declared.Worked.TheVariants.{Number, Failed}
 use Rattle.num_halving.specs.declared.Crossing.{Crossing}
 use Rattle.num_halving.specs.declared.Crossing.TheVariants.{At, Nowhere, Broke}
 use Rattle.num_roots.specs.declared.root.Exponent.{Exponent}
@@ -40,22 +39,22 @@ searched_sound m k x = or_else_sound (checked x ^ᵂ m) (λ t. root_of (root_bit
 pub root_sound : (e : Exponent) (x : Float) → T (sound (Root.root e x))
 unfolding Root.root whole Ieee.of_int
 root_sound e x =
-    cond_sound (ltb e.m (2 * e.k)) _ Failed
-    (cond_sound (finite x) _ Failed
+    cond_sound (ltb e.m (2 * e.k)) _ None
+    (cond_sound (finite x) _ None
     (cond_sound (Ieee.lt x (whole 0)) _ _ tt
     (cond_sound (Ieee.eq x (whole 0)) _ _ tt (searched_sound e.m e.k x))) tt) tt
 
 -- ---- an operation of one number
-checked_neg : (x : Float) → checked (Ieee.neg x) ≡ or_else (checked x) Failed (λ y. Number (Ieee.neg y))
+checked_neg : (x : Float) → checked (Ieee.neg x) ≡ or_else (checked x) None (λ y. Some (Ieee.neg y))
 unfolding Ieee.neg
 checked_neg nan = refl
 checked_neg (inf s) = refl
 checked_neg (fin s m e) = refl
 
-either_finite : (b s : Bool) (m : ℕ) (e : ℤ) → checked (cond b (fin (not s) m e) (fin s m e)) ≡ Number (cond b (fin (not s) m e) (fin s m e))
-either_finite b s m e = by_test (λ (x : Float). checked x ≡ Number x) b _ _ (λ _. refl) (λ _. refl)
+either_finite : (b s : Bool) (m : ℕ) (e : ℤ) → checked (cond b (fin (not s) m e) (fin s m e)) ≡ Some (cond b (fin (not s) m e) (fin s m e))
+either_finite b s m e = by_test (λ (x : Float). checked x ≡ Some x) b _ _ (λ _. refl) (λ _. refl)
 
-checked_absolute : (x : Float) → checked (absolute x) ≡ or_else (checked x) Failed (λ y. Number (absolute y))
+checked_absolute : (x : Float) → checked (absolute x) ≡ or_else (checked x) None (λ y. Some (absolute y))
 unfolding absolute Ieee.lt Ieee.neg whole Ieee.of_int
 checked_absolute nan = refl
 checked_absolute (inf true) = refl
@@ -63,37 +62,37 @@ checked_absolute (inf false) = refl
 checked_absolute (fin s m e) = either_finite (Ieee.lt (fin s m e) (whole 0)) s m e
 
 -- an operation that refuses what is not finite, and whose answers are finite
-checked_refusing : (f : Float → Worked) → ((x : Float) → T (sound (f x))) → f nan ≡ Failed → ((s : Bool) → f (inf s) ≡ Failed)
-    → (x : Float) → checked (plain (f x)) ≡ or_else (checked x) Failed f
+checked_refusing : (f : Float → Worked) → ((x : Float) → T (sound (f x))) → f nan ≡ None → ((s : Bool) → f (inf s) ≡ None)
+    → (x : Float) → checked (plain (f x)) ≡ or_else (checked x) None f
 checked_refusing f s n i nan = ap (λ (w : Worked). checked (plain w)) n
 checked_refusing f s n i (inf b) = ap (λ (w : Worked). checked (plain w)) (i b)
 checked_refusing f s n i (fin b m e) = checked_plain (f (fin b m e)) (s (fin b m e))
 
-checked_exponential : (x : Float) → checked (plain (answer_alone (exponential x))) ≡ or_else (checked x) Failed (λ y. answer_alone (exponential y))
+checked_exponential : (x : Float) → checked (plain (answer_alone (exponential x))) ≡ or_else (checked x) None (λ y. answer_alone (exponential y))
 unfolding exponential steps
 checked_exponential = checked_refusing (λ x. answer_alone (exponential x)) exponential_sound refl (λ s. refl)
 
-either_failed : (b : Bool) → cond b Failed Failed ≡ Failed
-either_failed b = by_test (λ (w : Worked). w ≡ Failed) b Failed Failed (λ _. refl) (λ _. refl)
+either_failed : (b : Bool) → cond b None None ≡ None
+either_failed b = by_test (λ (w : Worked). w ≡ None) b None None (λ _. refl) (λ _. refl)
 
-refused : (e : Exponent) → Root.root e nan ≡ Failed
+refused : (e : Exponent) → Root.root e nan ≡ None
 unfolding Root.root
 refused e = either_failed (ltb e.m (2 * e.k))
 
-refused_infinite : (e : Exponent) (s : Bool) → Root.root e (inf s) ≡ Failed
+refused_infinite : (e : Exponent) (s : Bool) → Root.root e (inf s) ≡ None
 unfolding Root.root
 refused_infinite e s = either_failed (ltb e.m (2 * e.k))
 
-checked_root : (e : Exponent) (x : Float) → checked (plain (Root.root e x)) ≡ or_else (checked x) Failed (Root.root e)
+checked_root : (e : Exponent) (x : Float) → checked (plain (Root.root e x)) ≡ or_else (checked x) None (Root.root e)
 checked_root e = checked_refusing (Root.root e) (root_sound e) (refused e) (refused_infinite e)
 
 -- ---- a quotient
-over_failed : (w : Worked) → Failed ≡ w /ᵂ Failed
+over_failed : (w : Worked) → None ≡ w /ᵂ None
 unfolding ◌/ᵂ◌
-over_failed Failed = refl
-over_failed (Number x) = refl
+over_failed None = refl
+over_failed (Some x) = refl
 
-by_nan : (x : Float) → checked (Ieee.div binary64 x nan) ≡ Failed
+by_nan : (x : Float) → checked (Ieee.div binary64 x nan) ≡ None
 unfolding Ieee.div
 by_nan nan = refl
 by_nan (inf s) = refl
@@ -116,19 +115,19 @@ once (a ⊖ b) = checked_sub (value a) (value b) ∙ of_both ◌-ᵂ◌ (once a)
 once (a ⊗ b) = checked_mul (value a) (value b) ∙ of_both ◌*ᵂ◌ (once a) (once b)
 once (a ⊘ b) = checked_over (value a) (value b) ∙ of_both ◌/ᵂ◌ (once a) (once b)
 once (a ^^ n) = checked_power (value a) n ∙ ap (λ (w : Worked). w ^ᵂ n) (once a)
-once (minus a) = checked_neg (value a) ∙ ap (λ (w : Worked). or_else w Failed (λ x. Number (Ieee.neg x))) (once a)
-once (size a) = checked_absolute (value a) ∙ ap (λ (w : Worked). or_else w Failed (λ x. Number (absolute x))) (once a)
-once (e^ a) = checked_exponential (value a) ∙ ap (λ (w : Worked). or_else w Failed (λ x. answer_alone (exponential x))) (once a)
-once (root e a) = checked_root e (value a) ∙ ap (λ (w : Worked). or_else w Failed (Root.root e)) (once a)
+once (minus a) = checked_neg (value a) ∙ ap (λ (w : Worked). or_else w None (λ x. Some (Ieee.neg x))) (once a)
+once (size a) = checked_absolute (value a) ∙ ap (λ (w : Worked). or_else w None (λ x. Some (absolute x))) (once a)
+once (e^ a) = checked_exponential (value a) ∙ ap (λ (w : Worked). or_else w None (λ x. answer_alone (exponential x))) (once a)
+once (root e a) = checked_root e (value a) ∙ ap (λ (w : Worked). or_else w None (Root.root e)) (once a)
 
 -- an exponential in a formula is the five steps of RULES 4.4: what it says beside is dropped
-pub exp_is : (a : Formula) → work (e^ a) ≡ or_else (work a) Failed steps
+pub exp_is : (a : Formula) → work (e^ a) ≡ or_else (work a) None steps
 unfolding work
 exp_is a = alone (work a)
   where
-    alone : (w : Worked) → or_else w Failed (λ x. answer_alone (exponential x)) ≡ or_else w Failed steps
-    alone Failed = refl
-    alone (Number x) = answer_is x
+    alone : (w : Worked) → or_else w None (λ x. answer_alone (exponential x)) ≡ or_else w None steps
+    alone None = refl
+    alone (Some x) = answer_is x
 
 -- an exponential or a root of a formula, as code calls it
 pub once_exp : (a : Formula) → answer_alone (exponential (value a)) ≡ work (e^ a)
@@ -146,19 +145,19 @@ power_sound w zero s = checked_sound (whole 1)
 power_sound w (suc zero) s = s
 power_sound w (suc (suc n)) s = both_sound (Ieee.mul binary64) (w ^ᵂ suc n) w
 
-neg_sound : (w : Worked) → T (sound w) → T (sound (or_else w Failed (λ x. Number (Ieee.neg x))))
+neg_sound : (w : Worked) → T (sound w) → T (sound (or_else w None (λ x. Some (Ieee.neg x))))
 unfolding Ieee.neg
-neg_sound Failed s = tt
-neg_sound (Number nan) s = s
-neg_sound (Number (inf b)) s = s
-neg_sound (Number (fin b m e)) s = tt
+neg_sound None s = tt
+neg_sound (Some nan) s = s
+neg_sound (Some (inf b)) s = s
+neg_sound (Some (fin b m e)) s = tt
 
-size_sound : (w : Worked) → T (sound w) → T (sound (or_else w Failed (λ x. Number (absolute x))))
+size_sound : (w : Worked) → T (sound w) → T (sound (or_else w None (λ x. Some (absolute x))))
 unfolding absolute Ieee.neg
-size_sound Failed s = tt
-size_sound (Number nan) s = absurd s
-size_sound (Number (inf b)) s = absurd s
-size_sound (Number (fin b m e)) s = by_test (λ (x : Float). T (finite x)) (Ieee.lt (fin b m e) (whole 0)) _ _ (λ _. tt) (λ _. tt)
+size_sound None s = tt
+size_sound (Some nan) s = absurd s
+size_sound (Some (inf b)) s = absurd s
+size_sound (Some (fin b m e)) s = by_test (λ (x : Float). T (finite x)) (Ieee.lt (fin b m e) (whole 0)) _ _ (λ _. tt) (λ _. tt)
 
 pub work_sound : (f : Formula) → T (sound (work f))
 unfolding work ◌+ᵂ◌ ◌-ᵂ◌ ◌*ᵂ◌ ◌/ᵂ◌

@@ -1,15 +1,13 @@
 -- RULES 4.1 and 4.2: formulas, and how one is worked. A number on the way that is not finite, or a root or an exponential that is refused, fails the whole.
 -- Of x⁰, which is 1, nothing is worked (RULES 4.3). Definitions only.
-use Rattle.std.specs.Prelude.{ℕ, cond, Float}
+use Rattle.std.specs.Prelude.{ℕ, cond, Float, Some, None}
 use Rattle.std.specs.Float.Ieee as Ieee
 use Rattle.std.specs.Float.{binary64}
 use Rattle.num_working.specs.Number.{whole}
-use Rattle.num_working.specs.Working.{checked, over, plain, or_else, ◌+ᵂ◌, ◌-ᵂ◌, ◌*ᵂ◌, ◌/ᵂ◌}
+use Rattle.num_working.specs.Working.{checked, over, plain, or_else, ◌+ᵂ◌, ◌-ᵂ◌, ◌*ᵂ◌, ◌/ᵂ◌, Worked}
 use Rattle.num_powers.specs.Power.{power, ◌^ᵂ◌}
 use Rattle.num_exponential.specs.Exponential.{exponential, answer_alone}
 use Rattle.num_roots.specs.Root as Root
-use Rattle.num_working.specs.declared.Worked.{Worked}
-use Rattle.num_working.specs.declared.Worked.TheVariants.{Number, Failed}
 use Rattle.num_roots.specs.declared.root.Exponent.{Exponent}
 
 infixl 6 ◌⊕◌ ◌⊖◌
@@ -41,10 +39,10 @@ work (a ⊖ b) = work a -ᵂ work b
 work (a ⊗ b) = work a *ᵂ work b
 work (a ⊘ b) = work a /ᵂ work b
 work (a ^^ n) = work a ^ᵂ n
-work (minus a) = or_else (work a) Failed (λ x. Number (Ieee.neg x))
-work (size a) = or_else (work a) Failed (λ x. Number (absolute x))
-work (e^ a) = or_else (work a) Failed (λ x. answer_alone (exponential x))
-work (root e a) = or_else (work a) Failed (Root.root e)
+work (minus a) = or_else (work a) None (λ x. Some (Ieee.neg x))
+work (size a) = or_else (work a) None (λ x. Some (absolute x))
+work (e^ a) = or_else (work a) None (λ x. answer_alone (exponential x))
+work (root e a) = or_else (work a) None (Root.root e)
 
 -- the same in plain f64, tested nowhere: what code works, and tests once at the end (`once`, proofs/Formulas.antt)
 unfoldable pub value : Formula → Float

@@ -1,5 +1,6 @@
 -- The shared facts about halving (RULES 4.5), over whatever figure is probed: what an answer means, when exactly there is no crossing, when exactly it fails,
 -- and that 63 halvings are enough. Assumes nothing.
+use Rattle.std.specs.Prelude.{Some, None}
 use mathlib.Core.Path.{◌≡◌, refl, sym, ap, ◌∙◌}
 use mathlib.Core.Bool.{Bool, true, false, cond, true≢false}
 use Prim.Native.Nat.{ℕ, zero, suc, ◌+◌, ◌-◌, ◌*◌, ◌^◌, ◌≤◌, ◌<◌}
@@ -10,13 +11,9 @@ use borrow.Author.Tests.{eqb-true, eqb-false, eq-eqb, ne_eqb, leb-true, leb-fals
 use lib.Ieee.{Float, lt, of_int}
 use lib.Ieee.Scale.{finite}
 use Rattle.num_working.specs.Number.{whole}
-use Rattle.num_halving.specs.Halving.{Figure, Side, low, high, broken, side, ends, middle, narrow, halve}
-use Rattle.num_halving.specs.Halving.{NotAbove, Above, Worthy, worthy, Unworthy, failed, unbounded, Found}
-use Rattle.num_halving.specs.Halving.{NoCrossing, met, first_above, second_not_above, Halves, ended, upper, lower, broke}
-use Rattle.num_halving.specs.Halving.{Breaks, at_first, at_second, at_middle}
+use Rattle.num_halving.specs.Halving.{Figure, Side, low, high, broken, side, ends, middle, narrow, halve, NotAbove, Above, Worthy, worthy, Unworthy, failed, unbounded, Found, NoCrossing, met, first_above, second_not_above, Halves, ended, upper, lower, broke, Breaks, at_first, at_second, at_middle}
 use Rattle.num_working.proofs.Cases.{by_test, never}
-use Rattle.num_working.specs.declared.Worked.{Worked}
-use Rattle.num_working.specs.declared.Worked.TheVariants.{Number, Failed}
+use Rattle.num_working.specs.Working.{Worked}
 use Rattle.num_halving.specs.declared.Crossing.{Crossing}
 use Rattle.num_halving.specs.declared.Crossing.TheVariants.{At, Nowhere, Broke}
 
@@ -46,14 +43,14 @@ data Stands (f : Figure) (t : Float) (k : ℕ) : Side → Type 0 where
 stands : (f : Figure) (t : Float) (k : ℕ) → Stands f t k (side t (f k))
 stands f t k = go (f k) refl
   where
-    num : (x : Float) (b c : Bool) → f k ≡ Number x → finite x ≡ b → lt t x ≡ c → Stands f t k (cond b (cond c high low) broken)
+    num : (x : Float) (b c : Bool) → f k ≡ Some x → finite x ≡ b → lt t x ≡ c → Stands f t k (cond b (cond c high low) broken)
     num x true true e h l = is_high (record { number = x; worked = e; bounded = h; stands = l })
     num x true false e h l = is_low (record { number = x; worked = e; bounded = h; stands = l })
     num x false c e h l = is_broken (unbounded x e h)
 
     go : (w : Worked) → f k ≡ w → Stands f t k (side t w)
-    go (Number x) e = num x (finite x) (lt t x) e refl refl
-    go Failed e = is_broken (failed e)
+    go (Some x) e = num x (finite x) (lt t x) e refl refl
+    go None e = is_broken (failed e)
 
 not_above_of : (f : Figure) (t : Float) (k : ℕ) (s : Side) → Stands f t k s → s ≡ low → NotAbove f t k
 not_above_of f t k low (is_low a) e = a
@@ -371,10 +368,10 @@ module _ (f : Figure) (t : Float) where
 
 -- ---- two crossings: the middle is rounded down, so the lower one is found
 two_crossings : Figure
-two_crossings zero = Number (whole 0)
-two_crossings (suc zero) = Number (whole 2)
-two_crossings (suc (suc zero)) = Number (whole 0)
-two_crossings (suc (suc (suc n))) = Number (whole 2)
+two_crossings zero = Some (whole 0)
+two_crossings (suc zero) = Some (whole 2)
+two_crossings (suc (suc zero)) = Some (whole 0)
+two_crossings (suc (suc (suc n))) = Some (whole 2)
 
 lower_found : halve two_crossings (whole 1) 0 3 ≡ At 0
 unfolding two_crossings halve narrow middle whole of_int lt

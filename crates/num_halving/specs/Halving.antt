@@ -1,9 +1,8 @@
 -- RULES 4.5: halving, over whatever figure is probed. Definitions only.
-use Rattle.std.specs.Prelude.{ℕ, zero, suc, ◌+◌, ◌-◌, ◌/◌, ◌≤◌, ◌≡◌, true, false, cond, leb, eqb, Float}
+use Rattle.std.specs.Prelude.{ℕ, zero, suc, ◌+◌, ◌-◌, ◌/◌, ◌≤◌, ◌≡◌, true, false, cond, leb, eqb, Float, Some, None}
 use Rattle.std.specs.Float.Ieee.{lt}
 use Rattle.std.specs.Float.Ieee.Scale.{finite}
-use Rattle.num_working.specs.declared.Worked.{Worked}
-use Rattle.num_working.specs.declared.Worked.TheVariants.{Number, Failed}
+use Rattle.num_working.specs.Working.{Worked}
 use Rattle.num_halving.specs.declared.Crossing.{Crossing}
 use Rattle.num_halving.specs.declared.Crossing.TheVariants.{At, Nowhere, Broke}
 
@@ -16,8 +15,8 @@ pub data Side : Type 0 where
   low high broken : Side
 
 abbrev pub side : Float → Worked → Side
-side t (Number x) = cond (finite x) (cond (lt t x) high low) broken
-side t Failed = broken
+side t (Some x) = cond (finite x) (cond (lt t x) high low) broken
+side t None = broken
 
 -- at lo, then at hi: not finite is a failure; above the target at lo, or not above it at hi, is no crossing
 abbrev pub ends : Side → Side → Crossing → Crossing
@@ -60,23 +59,23 @@ halve f t lo hi =
 -- the figure at k is a finite number that is not above the target; that is above it
 pub record NotAbove (f : Figure) (t : Float) (k : ℕ) : Type 0 where
   pub number : Float
-  pub worked : f k ≡ Number number
+  pub worked : f k ≡ Some number
   pub bounded : finite number ≡ true
   pub stands : lt t number ≡ false
 
 pub record Above (f : Figure) (t : Float) (k : ℕ) : Type 0 where
   pub number : Float
-  pub worked : f k ≡ Number number
+  pub worked : f k ≡ Some number
   pub bounded : finite number ≡ true
   pub stands : lt t number ≡ true
 
 -- the figure at k is a finite number, or it is not
 pub data Worthy (f : Figure) (k : ℕ) : Type 0 where
-  worthy : (x : Float) → f k ≡ Number x → finite x ≡ true → Worthy f k
+  worthy : (x : Float) → f k ≡ Some x → finite x ≡ true → Worthy f k
 
 pub data Unworthy (f : Figure) (k : ℕ) : Type 0 where
-  failed : f k ≡ Failed → Unworthy f k
-  unbounded : (x : Float) → f k ≡ Number x → finite x ≡ false → Unworthy f k
+  failed : f k ≡ None → Unworthy f k
+  unbounded : (x : Float) → f k ≡ Some x → finite x ≡ false → Unworthy f k
 
 -- an answer: r and the next lie within the ends, and the figure passes the target between them
 pub record Found (f : Figure) (t : Float) (lo hi r : ℕ) : Type 0 where

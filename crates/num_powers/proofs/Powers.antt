@@ -8,8 +8,7 @@ use native.Mathlib.Nat.{eq-or-lt_of_le, le_of_suc-le-suc}
 use native.Mathlib.Omega.{arith}
 use lib.ListN.{length, get_or, length-append, get_or-append}
 use lib.Ieee.{Float, nan, binary64, mul}
-use Rattle.num_working.specs.declared.Worked.{Worked}
-use Rattle.num_working.specs.Working.{checked, ◌*ᵂ◌}
+use Rattle.num_working.specs.Working.{Worked, checked, ◌*ᵂ◌}
 use Rattle.num_powers.specs.Power.{power, powers, ◌^ᵂ◌}
 use Rattle.num_working.proofs.Workings.{checked_mul}
 

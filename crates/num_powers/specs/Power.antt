@@ -3,8 +3,7 @@ use Rattle.std.specs.Prelude.{ℕ, zero, suc, List, [], ◌∷◌, ◌++◌, Flo
 use Rattle.std.specs.Float.Ieee as Ieee
 use Rattle.std.specs.Float.{binary64}
 use Rattle.num_working.specs.Number.{whole}
-use Rattle.num_working.specs.Working.{checked, ◌*ᵂ◌}
-use Rattle.num_working.specs.declared.Worked.{Worked}
+use Rattle.num_working.specs.Working.{checked, ◌*ᵂ◌, Worked}
 
 unfoldable pub power : Float → ℕ → Float
 power x zero = whole 1

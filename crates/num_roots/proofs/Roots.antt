@@ -1,4 +1,5 @@
 -- The k-th whole power rises with the bits, so that the place where it passes a target is the halving's answer, however it was come by. Assumes nothing.
+use Rattle.std.specs.Prelude.{Some, None}
 use mathlib.Core.Path.{◌≡◌, refl, sym, ap, ◌∙◌}
 use mathlib.Core.Bool.{Bool, true, false}
 use Prim.Native.Nat.{ℕ, zero, suc, ◌+◌, ◌-◌, ◌*◌, ◌≤◌, ◌<◌}
@@ -7,11 +8,9 @@ use borrow.Author.Tests.{le-ltb}
 use lib.Dec.{T}
 use lib.Ieee.{Float, nan, inf, fin, binary64, of_bits, to_bits, of_int, up, down, lt, mul}
 use lib.Ieee.Scale.{finite}
-use Rattle.num_working.specs.declared.Worked.{Worked}
-use Rattle.num_working.specs.declared.Worked.TheVariants.{Number, Failed}
+use Rattle.num_working.specs.Working.{Worked, checked}
 use Rattle.num_halving.specs.declared.Crossing.TheVariants.{At, Nowhere, Broke}
 use Rattle.num_working.specs.Number.{whole, nonneg}
-use Rattle.num_working.specs.Working.{checked}
 use Rattle.num_powers.specs.Power.{power, ◌^ᵂ◌}
 use Rattle.num_halving.specs.Halving.{halve, NotAbove, Above, worthy, failed, second_not_above, at_second}
 use Rattle.num_roots.specs.Root.{power_at, root_bits, root_of, searched}
@@ -36,7 +35,7 @@ pub power_at_is : (k b : ℕ) → power_at k b ≡ checked (power (of_bits binar
 unfolding power_at
 power_at_is k b = sym (checked_power (of_bits binary64 b) k)
 
-pub nonneg_checked : (x : Float) → T (nonneg x) → checked x ≡ Number x
+pub nonneg_checked : (x : Float) → T (nonneg x) → checked x ≡ Some x
 nonneg_checked nan p = absurd p
 nonneg_checked (inf s) p = absurd p
 nonneg_checked (fin s m e) p = refl
@@ -67,7 +66,7 @@ not_below_0 (inf s) p = absurd p
 not_below_0 (fin true m e) p = absurd p
 not_below_0 (fin false m e) p = le-ltb (m * up e * 1) (0 * down e) (omega arith)
 
-pub at_0 : (k : ℕ) → 1 ≤ k → power_at k 0 ≡ Number (whole 0)
+pub at_0 : (k : ℕ) → 1 ≤ k → power_at k 0 ≡ Some (whole 0)
 unfolding whole of_int
 at_0 zero h = absurd (omega arith)
 at_0 (suc k) h = power_at_is (suc k) 0 ∙ ap checked (power_of_0 k)
@@ -94,7 +93,7 @@ top_infinite (suc j) =
     ∙ ap (λ (x : Float). mul binary64 x (of_bits binary64 top)) (top_infinite j)
 
 -- ---- so, for k up to 51, every figure of the search is a number
-pub works : (k b : ℕ) → k ≤ 51 → b ≤ top → power_at k b ≡ Number (power (of_bits binary64 b) k)
+pub works : (k b : ℕ) → k ≤ 51 → b ≤ top → power_at k b ≡ Some (power (of_bits binary64 b) k)
 works k b h l = power_at_is k b ∙ nonneg_checked _ (figure_mono k b top l (omega arith) (top_finite k h)).first
 
 nonneg_finite : (x : Float) → T (nonneg x) → finite x ≡ true
@@ -109,16 +108,16 @@ bounded_at k b h l = nonneg_finite (power (of_bits binary64 b) k) (figure_mono k
 pub fails : (k : ℕ) (t : Float) → 52 ≤ k → root_bits k t ≡ Broke
 fails k t h =
     let e : k ≡ k - 52 + 52 = omega arith in
-    let f : power_at k top ≡ Failed =
+    let f : power_at k top ≡ None =
     power_at_is k top ∙ ap (λ (i : ℕ). checked (power (of_bits binary64 top) i)) e ∙ ap checked (top_infinite (k - 52)) in
     root_bits_is k t ∙ breaks_back (power_at k) t 0 top (omega arith) (omega arith) (at_second (failed f))
 
 -- a figure that code worked, and what it tested of it
 pub above_at : (k b : ℕ) (t x : Float) → k ≤ 51 → b ≤ top → x ≡ power (of_bits binary64 b) k → lt t x ≡ true → Above (power_at k) t b
-above_at k b t x h l e s = record { number = x; worked = works k b h l ∙ ap Number (sym e); bounded = ap finite e ∙ bounded_at k b h l; stands = s }
+above_at k b t x h l e s = record { number = x; worked = works k b h l ∙ ap Some (sym e); bounded = ap finite e ∙ bounded_at k b h l; stands = s }
 
 pub not_above_at : (k b : ℕ) (t x : Float) → k ≤ 51 → b ≤ top → x ≡ power (of_bits binary64 b) k → lt t x ≡ false → NotAbove (power_at k) t b
-not_above_at k b t x h l e s = record { number = x; worked = works k b h l ∙ ap Number (sym e); bounded = ap finite e ∙ bounded_at k b h l; stands = s }
+not_above_at k b t x h l e s = record { number = x; worked = works k b h l ∙ ap Some (sym e); bounded = ap finite e ∙ bounded_at k b h l; stands = s }
 
 module _ (k : ℕ) (t : Float) (one : 1 ≤ k) (few : k ≤ 51) (p : T (nonneg t)) where
   last_above : (b : ℕ) → b ≤ top → Above (power_at k) t b → Above (power_at k) t top
@@ -146,6 +145,6 @@ pub crossing_below : (k : ℕ) (t : Float) (b : ℕ) → root_bits k t ≡ At b 
 crossing_below k t b e = let h = answer (power_at k) t 0 top b (omega arith) (sym (root_bits_is k t) ∙ e) in omega arith
 
 -- past k = 51 the search fails, whatever x is
-pub search_fails : (m k : ℕ) (x : Float) → 52 ≤ k → searched m k x ≡ Failed
+pub search_fails : (m k : ℕ) (x : Float) → 52 ≤ k → searched m k x ≡ None
 unfolding searched
-search_fails m k x h = by_working (λ (w : Worked). w ≡ Failed) (checked x ^ᵂ m) Failed _ (λ _. refl) (λ t _. ap root_of (fails k t h))
+search_fails m k x h = by_working (λ (w : Worked). w ≡ None) (checked x ^ᵂ m) None _ (λ _. refl) (λ t _. ap root_of (fails k t h))

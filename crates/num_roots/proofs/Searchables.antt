@@ -1,4 +1,5 @@
 -- A searchable root is what `root_bits` finds with xᵐ as its target. Assumes nothing.
+use Rattle.std.specs.Prelude.{Some, None}
 use mathlib.Core.Path.{◌≡◌, refl, sym, ap, ◌∙◌}
 use mathlib.Core.Bool.{Bool, true, false, not, ◌&&◌}
 use Prim.Native.Nat.{ℕ, ◌+◌, ◌-◌, ◌*◌, ◌≤◌, ◌<◌}
@@ -7,9 +8,7 @@ use lib.Dec.{T, ltb, ltb→lt}
 use lib.Ieee.{Float, binary64, of_bits, lt, le, eq}
 use lib.Ieee.Scale.{finite}
 use Rattle.num_working.specs.Number.{whole, nonneg}
-use Rattle.num_working.specs.Working.{checked, or_else}
-use Rattle.num_working.specs.declared.Worked.{Worked}
-use Rattle.num_working.specs.declared.Worked.TheVariants.{Number, Failed}
+use Rattle.num_working.specs.Working.{checked, or_else, Worked}
 use Rattle.num_halving.specs.declared.Crossing.TheVariants.{At}
 use Rattle.num_roots.specs.declared.root.Exponent.{Exponent}
 use Rattle.num_roots.specs.Root.{root, searched, root_bits, root_of}
@@ -60,16 +59,16 @@ module _ (e : Exponent) (x t : Float) (at : ℕ) (c : Guessed e x t at) where
   unsigned_target y h = rw c.target (power_under x y e.m (unsigned e x c.searched) (rw c.target at h))
 
   -- the root is where the power passes it
-  told : (r : ℕ) → T (nonneg t) → root_bits e.k t ≡ At r → root e x ≡ Number (of_bits binary64 r)
+  told : (r : ℕ) → T (nonneg t) → root_bits e.k t ≡ At r → root e x ≡ Some (of_bits binary64 r)
   unfolding searched
   told r n b =
       searched_for e x c.searched
-      ∙ ap (λ (w : Worked). or_else w Failed (λ s. root_of (root_bits e.k s)))
+      ∙ ap (λ (w : Worked). or_else w None (λ s. root_of (root_bits e.k s)))
       (sym (checked_power x e.m) ∙ ap checked (sym c.target) ∙ nonneg_checked t n)
       ∙ ap root_of b
 
   module _ (below here above : Float) (powers : PowersAbout at e.k below here above) where
-    pub at_below : lt t here ≡ true → le below t ≡ true → root e x ≡ Number (of_bits binary64 (at - 1))
+    pub at_below : lt t here ≡ true → le below t ≡ true → root e x ≡ Some (of_bits binary64 (at - 1))
     at_below h l =
         let b = bounds e x c.searched in
         let n = unsigned_target here h in
@@ -78,7 +77,7 @@ module _ (e : Exponent) (x t : Float) (at : ℕ) (c : Guessed e x t at) where
         (not_above_at e.k (at - 1) t below b.1 (omega arith) powers.0 (le_not_lt below t n l))
         (above_at e.k at t here b.1 (omega arith) powers.1 h))
 
-    pub at_here : lt t here ≡ false → lt t above ≡ true → root e x ≡ Number (of_bits binary64 at)
+    pub at_here : lt t here ≡ false → lt t above ≡ true → root e x ≡ Some (of_bits binary64 at)
     at_here h l =
         let b = bounds e x c.searched in
         let n = unsigned_target above l in

@@ -1,5 +1,5 @@
 -- No second answer meets a public function's promise. Assumes nothing.
-use Rattle.num_working.specs.declared.Worked.{Worked}
+use Rattle.num_working.specs.Working.{Worked}
 use Rattle.num_working.proofs.Unique.{OneAnswer, by_equation}
 use Rattle.num_roots.specs.declared.side.TwoRoots.{TwoRoots}
 use Rattle.num_roots.specs.declared.side.ThreeRoots.{ThreeRoots}

@@ -1,14 +1,12 @@
 -- RULES 4.6: the root x^(m/k). Definitions only.
-use Rattle.std.specs.Prelude.{ℕ, ◌*◌, cond, ltb, Float}
+use Rattle.std.specs.Prelude.{ℕ, ◌*◌, cond, ltb, Float, Some, None}
 use Rattle.std.specs.Float.Ieee as Ieee
 use Rattle.std.specs.Float.{binary64}
 use Rattle.std.specs.Float.Ieee.Scale.{finite}
 use Rattle.num_working.specs.Number.{whole}
-use Rattle.num_working.specs.Working.{checked, or_else}
+use Rattle.num_working.specs.Working.{checked, or_else, Worked}
 use Rattle.num_powers.specs.Power.{◌^ᵂ◌}
 use Rattle.num_halving.specs.Halving.{Figure, halve}
-use Rattle.num_working.specs.declared.Worked.{Worked}
-use Rattle.num_working.specs.declared.Worked.TheVariants.{Number, Failed}
 use Rattle.num_halving.specs.declared.Crossing.{Crossing}
 use Rattle.num_halving.specs.declared.Crossing.TheVariants.{At, Nowhere, Broke}
 use Rattle.num_roots.specs.declared.root.Exponent.{Exponent}
@@ -23,13 +21,13 @@ root_bits k t = halve (power_at k) t (Ieee.to_bits binary64 (whole 0)) (Ieee.to_
 
 -- no crossing is refused, as a failure is
 abbrev pub root_of : Crossing → Worked
-root_of (At b) = Number (Ieee.of_bits binary64 b)
-root_of Nowhere = Failed
-root_of Broke = Failed
+root_of (At b) = Some (Ieee.of_bits binary64 b)
+root_of Nowhere = None
+root_of Broke = None
 
 -- with xᵐ as the target, refused where that is not finite
 unfoldable pub searched : ℕ → ℕ → Float → Worked
-searched m k x = or_else (checked x ^ᵂ m) Failed (λ t. root_of (root_bits k t))
+searched m k x = or_else (checked x ^ᵂ m) None (λ t. root_of (root_bits k t))
 
 -- an m/k that is not below 2, or with k = 0, is refused, and an x that is below 0 or not finite; of 0, of either sign, the root is 0; any other is searched for
 unfoldable pub root : Exponent → Float → Worked
@@ -37,7 +35,7 @@ root e x =
     let rest = searched e.m e.k x in
     cond (ltb e.m (2 * e.k))
     (cond (finite x)
-    (cond (Ieee.lt x (whole 0)) Failed
-    (cond (Ieee.eq x (whole 0)) (Number (whole 0)) rest))
-    Failed)
-    Failed
+    (cond (Ieee.lt x (whole 0)) None
+    (cond (Ieee.eq x (whole 0)) (Some (whole 0)) rest))
+    None)
+    None

@@ -11,7 +11,7 @@ ghost use Rattle.num_roots.specs.Side.{Guessed, PowersAbout, searchable};
 
 use num_halving::Crossing;
 use num_powers::whole_power;
-use num_working::{Worked, checked, is_finite};
+use num_working::{checked, is_finite};
 
 // m/k; `root` refuses one that is not below 2.
 #[derive(Clone, Copy)]
@@ -211,42 +211,42 @@ pub(crate) fn powers_about(at: u64, k: usize) -> Three
 }
 
 // For x above 0, and a k for which the ends of the search have a k-th whole power.
-fn searched(x: f64, m: usize, k: usize) -> Worked
+fn searched(x: f64, m: usize, k: usize) -> Option<f64>
     requires t { T (nonneg x) }
     requires le_k { (1 ≤ k) × (k ≤ 51) × (m < 102) }
     ensures { result ≡ searched m k x }
 {
-    let Worked::Number(t) = checked(whole_power(x, m)) else {
-        return Worked::Failed;
+    let Some(t) = checked(whole_power(x, m)) else {
+        return None;
     };
     match crossing(t, k, guess(about_log(x), Exponent { m, k }, t)) {
-        Crossing::At(b) => Worked::Number(f64::from_bits(b)),
-        Crossing::Nowhere => Worked::Failed,
-        Crossing::Broke => Worked::Failed,
+        Crossing::At(b) => Some(f64::from_bits(b)),
+        Crossing::Nowhere => None,
+        Crossing::Broke => None,
     }
 }
 
 // Any root, looked for from a guess outward.
-fn looked_for(x: f64, e: Exponent) -> Worked
+fn looked_for(x: f64, e: Exponent) -> Option<f64>
     ensures { result ≡ root e x }
 {
     let m = e.m;
     let k = e.k;
     if k <= m / 2 {
-        return Worked::Failed;
+        return None;
     }
     if is_finite(x) {} else {
-        return Worked::Failed;
+        return None;
     }
     if x < 0.0 {
-        return Worked::Failed;
+        return None;
     }
     if x == 0.0 {
-        return Worked::Number(0.0);
+        return Some(0.0);
     }
     // The 52nd whole power of 2²⁰ is not finite.
     if 51 < k {
-        return Worked::Failed;
+        return None;
     }
     searched(x, m, k)
 }
@@ -274,7 +274,7 @@ pub(crate) fn searchable(x: f64, e: Exponent) -> bool
 
 // As a rule the root is the guess or the float below it, and is looked for only where it is neither. Which of the two
 // it is no processor foresees: the place is chosen and not branched to.
-pub(crate) fn root_about(x: f64, e: Exponent, t: f64, at: u64, p: Three) -> Worked
+pub(crate) fn root_about(x: f64, e: Exponent, t: f64, at: u64, p: Three) -> Option<f64>
     requires guessed { Guessed e x t at }
     requires powers_about { PowersAbout at e.k p.below p.here p.above }
     ensures { result ≡ root e x }
@@ -283,12 +283,12 @@ pub(crate) fn root_about(x: f64, e: Exponent, t: f64, at: u64, p: Three) -> Work
     let place = if under { at - 1 } else { at };
     let shown = if under { p.below <= t } else { t < p.above };
     if shown {
-        return Worked::Number(f64::from_bits(place));
+        return Some(f64::from_bits(place));
     }
     looked_for(x, e)
 }
 
-pub fn root(x: f64, e: Exponent) -> Worked
+pub fn root(x: f64, e: Exponent) -> Option<f64>
     ensures { result ≡ root e x }
 {
     if searchable(x, e) {

@@ -1,4 +1,5 @@
 -- In reach of whole numbers an x has a size, the truncation is its cut, and the cut is at most x and one more is not. Assumes nothing.
+use Rattle.std.specs.Prelude.{Some, None}
 use Rattle.std.proofs.Common.{◌≡◌, ℕ, ◌+◌, ◌*◌, ◌/◌, ◌^◌, ◌<◌, ◌≤◌, Bool, true, false, cond, not, ◌&&◌, ◌||◌, T, eqb, ltb, ℤ, pos, sym, refl, ap, ◌∙◌, subst, inl, inr, true≢false, le_trans, le_of_eq, le_of_lt, lt_irrefl, div-lt_iff_lt-mul, eq-zero-or-pos, mul-pos, lt_of_not-le, le-div_iff_mul-le, zero-mul, mul-one, mul_right_comm, le_of_mul-le-mul_right, arith, eqb→eq, ltb→lt, lt→ltb}
 use native.Mathlib.Nat.{zero-div}
 use lib.Ieee.{Float, nan, inf, fin, binary64, up, down, lt, le, of_int, of_bits, to_unsigned}
@@ -11,9 +12,7 @@ use lib.Ieee.Positive.{num, den, den_pos}
 use lib.Ieee.Scale.{finite}
 use Rattle.num_working.specs.Number.{whole}
 use Rattle.num_working.proofs.Cases.{by_test}
-use Rattle.num_whole.specs.Whole.{cut, whole_below}
-use Rattle.num_whole.specs.declared.Below.{Below}
-use Rattle.num_whole.specs.declared.Below.TheVariants.{At, Out}
+use Rattle.num_whole.specs.Whole.{cut, whole_below, Below}
 
 -- up to 2⁵³ a whole number's value is itself
 whole_value : (n : ℕ) → n ≤ 2 ^ 53 → HasValue (whole n) false n 1
@@ -103,21 +102,21 @@ top x z t = lt_of_not-le (λ (k : 2 ^ 53 * den x ≤ num x).
     subst (λ (c : Bool). T c) t
     (reaches (whole (2 ^ 53)) x (2 ^ 53) (not_below x z) (whole_value (2 ^ 53) (omega arith)) (in_reach x z t) k))
 
-pub below_zero : (x : Float) → le (whole 0) x ≡ false → Out ≡ whole_below x
+pub below_zero : (x : Float) → le (whole 0) x ≡ false → None ≡ whole_below x
 unfolding whole_below
 below_zero x e = rw e refl
 
-pub past_the_top : (x : Float) → le (whole (2 ^ 53)) x ≡ true → Out ≡ whole_below x
+pub past_the_top : (x : Float) → le (whole (2 ^ 53)) x ≡ true → None ≡ whole_below x
 unfolding whole_below
-past_the_top x e = rw e (by_test (λ (b : Below). Out ≡ b) (le (whole 0) x) Out Out (λ _. refl) (λ _. refl))
+past_the_top x e = rw e (by_test (λ (b : Below). None ≡ b) (le (whole 0) x) None None (λ _. refl) (λ _. refl))
 
 abbrev found : Below → Bool
-found Out = false
-found (At n) = true
+found None = false
+found (Some n) = true
 
 abbrev number : Below → ℕ
-number Out = 0
-number (At n) = n
+number None = 0
+number (Some n) = n
 
 -- where x is in reach, its cut is at or below it and below 2⁵³
 cut_reached : (x : Float) → le (whole 0) x ≡ true → le (whole (2 ^ 53)) x ≡ false
@@ -140,11 +139,11 @@ cut_reached x z t =
     refuted false k = tt
 
 -- and what is answered is at or below x
-pub is_at_or_below : (x : Float) (n : ℕ) → whole_below x ≡ At n → (le (whole n) x ≡ true) × (le (whole (n + 1)) x ≡ false) × (n < 2 ^ 53)
+pub is_at_or_below : (x : Float) (n : ℕ) → whole_below x ≡ Some n → (le (whole n) x ≡ true) × (le (whole (n + 1)) x ≡ false) × (n < 2 ^ 53)
 unfolding whole_below
 is_at_or_below x n e = go (le (whole 0) x) refl (le (whole (2 ^ 53)) x) refl e
   where
-    go : (b : Bool) → le (whole 0) x ≡ b → (c : Bool) → le (whole (2 ^ 53)) x ≡ c → cond b (cond c Out (At (cut x))) Out ≡ At n
+    go : (b : Bool) → le (whole 0) x ≡ b → (c : Bool) → le (whole (2 ^ 53)) x ≡ c → cond b (cond c None (Some (cut x))) None ≡ Some n
         → (le (whole n) x ≡ true) × (le (whole (n + 1)) x ≡ false) × (n < 2 ^ 53)
     go true z false t q = subst (λ (k : ℕ). (le (whole k) x ≡ true) × (le (whole (k + 1)) x ≡ false) × (k < 2 ^ 53)) (ap number q) (cut_reached x z t)
     go true z true t q = absurd (true≢false (sym (ap found q)))

@@ -2,7 +2,7 @@
 use mathlib.Core.Path.{◌≡◌, sym, ◌∙◌}
 use mathlib.Core.Bool.{Bool}
 use lib.Ieee.{Float}
-use Rattle.num_working.specs.declared.Worked.{Worked}
+use Rattle.num_working.specs.Working.{Worked}
 use Rattle.num_working.proofs.checked.Reads as checked
 use Rattle.num_working.proofs.is_finite.Reads as is_finite
 use Rattle.num_working.proofs.over.Reads as over

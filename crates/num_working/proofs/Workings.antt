@@ -1,36 +1,36 @@
 -- A number is tested once at the end: what is not finite stays so through +, −, × and a division by a finite number. Assumes nothing.
+use Rattle.std.specs.Prelude.{Some, None}
 use mathlib.Core.Path.{◌≡◌, refl, sym}
 use mathlib.Core.Bool.{Bool, true, false, cond, not, true≢false, beq}
 use lib.Dec.{T, eqb}
 use lib.Ieee as Ieee
 use lib.Ieee.{Float, nan, inf, fin, binary64, unlike}
 use lib.Ieee.Scale.{finite}
-use Rattle.num_working.specs.declared.Worked.TheVariants.{Number, Failed}
 use Rattle.num_working.proofs.Cases.{never}
 use Rattle.num_working.specs.Working.{checked, ◌+ᵂ◌, ◌-ᵂ◌, ◌*ᵂ◌, ◌/ᵂ◌}
 
 -- ---- the test
-pub checked_finite : (x : Float) → finite x ≡ true → Number x ≡ checked x
+pub checked_finite : (x : Float) → finite x ≡ true → Some x ≡ checked x
 checked_finite nan h = absurd (true≢false (sym h))
 checked_finite (inf s) h = absurd (true≢false (sym h))
 checked_finite (fin s m e) h = refl
 
-pub checked_failed : (x : Float) → finite x ≡ false → Failed ≡ checked x
+pub checked_failed : (x : Float) → finite x ≡ false → None ≡ checked x
 checked_failed nan h = refl
 checked_failed (inf s) h = refl
 checked_failed (fin s m e) h = absurd (true≢false h)
 
-pub checked_number : (x y : Float) → checked x ≡ Number y → (x ≡ y) × T (finite x)
+pub checked_number : (x y : Float) → checked x ≡ Some y → (x ≡ y) × T (finite x)
 checked_number nan y e = never (cc)
 checked_number (inf s) y e = never (cc)
 checked_number (fin s m e) y g = (cc, tt)
 
 -- ---- the operations
-nan_or_inf : (b c : Bool) → checked (cond b nan (inf c)) ≡ Failed
+nan_or_inf : (b c : Bool) → checked (cond b nan (inf c)) ≡ None
 nan_or_inf true c = refl
 nan_or_inf false c = refl
 
-inf_or_nan : (b c : Bool) → checked (cond b (inf c) nan) ≡ Failed
+inf_or_nan : (b c : Bool) → checked (cond b (inf c) nan) ≡ None
 inf_or_nan true c = refl
 inf_or_nan false c = refl
 

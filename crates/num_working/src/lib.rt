@@ -5,12 +5,6 @@ ghost use Rattle.std.specs.Prelude.{◌≡◌};
 ghost use Rattle.std.specs.Float.Ieee.Scale.{finite};
 ghost use Rattle.num_working.specs.Working.{checked, over, plain};
 
-#[derive(Clone, Copy)]
-pub enum Worked {
-    Number(f64),
-    Failed,
-}
-
 pub fn is_finite(x: f64) -> bool
     ensures { result ≡ finite x }
 {
@@ -19,21 +13,21 @@ pub fn is_finite(x: f64) -> bool
 }
 
 // The one test at the end of a formula.
-pub fn checked(x: f64) -> Worked
+pub fn checked(x: f64) -> Option<f64>
     ensures { result ≡ checked x }
 {
     if is_finite(x) {
-        Worked::Number(x)
+        Some(x)
     } else {
-        Worked::Failed
+        None
     }
 }
 
 // For a formula that goes on in plain f64 and is tested at its end.
-pub fn plain(w: Worked) -> f64
+pub fn plain(w: Option<f64>) -> f64
     ensures { result ≡ plain w }
 {
-    let Worked::Number(x) = w else {
+    let Some(x) = w else {
         return 0.0 / 0.0;
     };
     x

@@ -5,13 +5,12 @@
 #![tactic(auto)]
 
 use door_answers::Answer;
-use door_conductivity::{Carried, Conducted, Conductivity, with_conductivity};
+use door_conductivity::{Carried, Conducted, with_conductivity};
 use door_density::from_density;
 use door_limits::document_01;
 use door_pressure::from_pressure;
 use eos_conductivity::{background_at, dilute_at};
 use eos_state::{Phase, State};
-use num_working::Worked;
 use run_print::bits::{STDOUT, say};
 use run_print::decimal::{Cell, Decimal, read_decimal, unit, value};
 
@@ -21,8 +20,8 @@ fn is_near(x: f64, d: Decimal) -> bool {
     if from < x { x < to } else { false }
 }
 
-fn is_printed(w: Worked, printed: &[u8]) -> bool {
-    let Worked::Number(x) = w else {
+fn is_printed(w: Option<f64>, printed: &[u8]) -> bool {
+    let Some(x) = w else {
         return false;
     };
     let Cell::Readable(d) = read_decimal(printed) else {
@@ -31,7 +30,7 @@ fn is_printed(w: Worked, printed: &[u8]) -> bool {
     is_near(x, d)
 }
 
-fn compare(what: &[u8], w: Worked, printed: &[u8]) {
+fn compare(what: &[u8], w: Option<f64>, printed: &[u8]) {
     say(what);
     say(b", printed ");
     say(printed);
@@ -42,18 +41,18 @@ fn compare(what: &[u8], w: Worked, printed: &[u8]) {
     }
 }
 
-fn in_milliwatts(w: Worked) -> Worked {
+fn in_milliwatts(w: Option<f64>) -> Worked {
     match w {
-        Worked::Number(x) => Worked::Number(1000.0 * x),
-        Worked::Failed => Worked::Failed,
+        Some(x) => Some(1000.0 * x),
+        None => None,
     }
 }
 
 fn conductivity_of(c: Carried) -> Worked {
     let k = c.conductivity;
     match k {
-        Conductivity::Is(x) => Worked::Number(x),
-        Conductivity::NotAsked => Worked::Failed,
+        Some(x) => Some(x),
+        None => None,
     }
 }
 
@@ -61,7 +60,7 @@ fn conductivity_of(c: Carried) -> Worked {
 fn by_density(t: f64, rho: f64) -> Worked {
     match with_conductivity(true, from_density(document_01(), t, rho)) {
         Conducted::State(c) => in_milliwatts(conductivity_of(c)),
-        Conducted::Refused(_) => Worked::Failed,
+        Conducted::Refused(_) => None,
     }
 }
 
@@ -73,7 +72,7 @@ fn without_enhancement(t: f64, rho: f64) -> Worked {
 fn without_enhancement_at(t: f64, p: f64) -> Worked {
     match from_pressure(document_01(), t, p) {
         Answer::State(s) => without_enhancement(s.t, s.rho),
-        Answer::Refused(_) => Worked::Failed,
+        Answer::Refused(_) => None,
     }
 }
 

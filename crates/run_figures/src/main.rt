@@ -14,7 +14,7 @@ use eos_non_analytic::figures::add_figures;
 use eos_non_analytic::parts::{at_critical, near_critical};
 use eos_rows::non_analytic_row;
 use eos_saturation::vapour_pressure;
-use eos_state::{Phase, State, Stated};
+use eos_state::{Phase, State};
 use eos_terms::term::at_density;
 use equation::{conductivity_at, curve_at, pressure_on, state_on};
 use num_working::checked;
@@ -43,8 +43,8 @@ fn state(t: f64, rho: f64) {
     at(b"state at ", t, rho);
     say(b" is");
     match state_on(curve_at(t), Phase::Supercritical, rho) {
-        Stated::Known(s) => carried(s),
-        Stated::Unknown => say(b" refused"),
+        Some(s) => carried(s),
+        None => say(b" refused"),
     }
     say(b"\n");
 }

@@ -3,7 +3,7 @@
 // (docs/READING.md, Saturation).
 use eos_densities::{liquid_density, vapour_density};
 use eos_saturation::vapour_pressure;
-use num_working::{Worked, plain};
+use num_working::{plain};
 use run_print::decimal::{Cell, value};
 use run_print::failure::judged;
 use run_print::table::{printed, says};
@@ -35,7 +35,7 @@ fn near(
     tally: Tally,
     column: usize,
     scale: f64,
-    worked: Worked,
+    worked: Option<f64>,
     uncertainty: f64,
 ) -> Tally {
     let Cell::Readable(d) = printed(text, line, column) else {

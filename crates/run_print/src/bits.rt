@@ -1,6 +1,6 @@
 // What the programs that run figures say, one a line: numbers as the sixteen hexadecimal digits of their bits, since a
 // printed decimal could hide the last one.
-use num_working::{Worked, is_finite};
+use num_working::{is_finite};
 
 // The number of standard output.
 pub const STDOUT: i32 = 1;
@@ -18,17 +18,17 @@ pub fn show(x: f64) {
 }
 
 // The end of a line: what was worked, or that it was refused.
-pub fn tell(w: Worked) {
+pub fn tell(w: Option<f64>) {
     say(b" is ");
     match w {
-        Worked::Number(x) => show(x),
-        Worked::Failed => say(b"refused"),
+        Some(x) => show(x),
+        None => say(b"refused"),
     }
     say(b"\n");
 }
 
 // A figure at x, or of it, as its name says.
-pub fn figure(name: &[u8], x: f64, w: Worked) {
+pub fn figure(name: &[u8], x: f64, w: Option<f64>) {
     say(name);
     show(x);
     tell(w);

@@ -3,7 +3,7 @@
 // (RULES 8.4), the states of docs/ARRANGEMENT.md, section 12, and what is no number; then doors that are asked for the
 // thermal conductivity too (RULES 5.5). Bits and counts worked elsewhere (crosscheck/doors.py).
 use door_answers::Answer;
-use door_conductivity::{Carried, Conducted, Conductivity, with_conductivity};
+use door_conductivity::{Carried, Conducted, with_conductivity};
 use door_density::from_density;
 use door_limits::document_01;
 use door_pressure::from_pressure;
@@ -36,8 +36,8 @@ fn tell_state(x: State) {
     io::print_decimal(STDOUT, x.fallen as u64);
 }
 
-fn tell_conductivity(c: Conductivity) {
-    if let Conductivity::Is(x) = c {
+fn tell_conductivity(c: Option<f64>) {
+    if let Some(x) = c {
         tell_number(b" conductivity ", x);
     }
 }

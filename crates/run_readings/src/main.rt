@@ -6,10 +6,9 @@
 mod doors;
 
 use eos_constants::{Printed, worked_as};
-use num_exponential::exponential::{Raised, exponential};
+use num_exponential::exponential::{exponential};
 use num_powers::whole_power;
 use num_roots::root::{Exponent, root};
-use num_working::Worked;
 use run_print::bits::{STDOUT, figure, say, show};
 
 fn numbered(text: &[u8], n: usize) {
@@ -29,7 +28,7 @@ fn printed_root_of(x: f64, name: &[u8], printed: Printed) {
 
 fn power_of(x: f64, n: usize) {
     numbered(b"power ", n);
-    figure(b" of ", x, Worked::Number(whole_power(x, n)));
+    figure(b" of ", x, Some(whole_power(x, n)));
 }
 
 // The answer, and whether it says that x was below −36.
@@ -38,11 +37,11 @@ fn e_to(x: f64) {
     show(x);
     say(b" is ");
     match exponential(x) {
-        Raised::Answered(s) => {
+        Some(s) => {
             show(s.value);
             numbered(b" fallen ", s.fallen as usize);
         }
-        Raised::Refused => say(b"refused"),
+        None => say(b"refused"),
     }
     say(b"\n");
 }

@@ -1,4 +1,5 @@
 -- A field's number has at most 10 digits, in the record too, so a float holds it; and the line that is read is that of the cylinder that is read.
+use Rattle.std.specs.Prelude.{Some, None}
 use mathlib.Core.Path.{◌≡◌, refl, sym, ◌∙◌}
 use mathlib.Core.List.{List}
 use mathlib.Core.Option.{Option, none, some}
@@ -10,8 +11,7 @@ use lib.Ieee.{binary64, in_float, of_int, of_bits}
 use Rattle.num_working.specs.Number.{whole}
 use Rattle.sheet_text.specs.Parse.{and_then, give}
 use Rattle.sheet_text.proofs.Parses.{read_once, none_or_some}
-use Rattle.sheet_text.specs.Field.{Small}
-use Rattle.sheet_text.specs.declared.Field.{Field}
+use Rattle.sheet_text.specs.Field.{Small, Field}
 use Rattle.sheet_line.specs.Cylinder.{AllSmall, cylinder}
 use Rattle.sheet_line.specs.Record.{recorded_of, record_of, SmallReading, SmallRecord}
 use Rattle.sheet_line.specs.Line.{line_of, line}
@@ -36,10 +36,10 @@ thousand = refl
 -- ---- the record of a cylinder
 
 small_reading : (k : Kind) (f : Field) → Small f → SmallReading (recorded_of k f)
-small_reading k Field.Blank h = tt
-small_reading Kind.Pressure (Field.Number n) h = h
-small_reading Kind.Density (Field.Number n) h = h
-small_reading Kind.Weighed (Field.Number n) h = tt
+small_reading k None h = tt
+small_reading Kind.Pressure (Some n) h = h
+small_reading Kind.Density (Some n) h = h
+small_reading Kind.Weighed (Some n) h = tt
 
 pub small_record : (c : Cylinder) → AllSmall c → SmallRecord (record_of c)
 small_record c h = record { temperature = h.temperature; reading = small_reading c.kind c.value h.value }

@@ -7,11 +7,10 @@ use lib.Dec.{eqb}
 use borrow.Author.Tests.{eqb-true}
 use Rattle.num_working.proofs.Cases.{by_test}
 use Rattle.sheet_text.specs.Parse.{byte}
-use Rattle.sheet_text.specs.Field.{Small, field_text, field_to, field_after}
+use Rattle.sheet_text.specs.Field.{Small, field_text, field_to, field_after, Field}
 use Rattle.sheet_text.proofs.Parses.{All, bind_all, pass_all, Says, then_says, byte_back, byte_says}
 use Rattle.sheet_text.proofs.Printed.{to_back, to_says, to_small, after_back, after_says, after_small}
 use Rattle.sheet_line.specs.Cylinder.{kind_letter, cylinder_text, AllSmall, kind, reading, cylinder}
-use Rattle.sheet_text.specs.declared.Field.{Field}
 use Rattle.sheet_line.specs.declared.cylinder.Kind.{Kind}
 use Rattle.sheet_line.specs.declared.cylinder.Kind.TheVariants.{Pressure, Density, Weighed}
 use Rattle.sheet_line.specs.declared.cylinder.Cylinder.{Cylinder}

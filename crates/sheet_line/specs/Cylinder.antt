@@ -2,9 +2,8 @@
 use Rattle.std.specs.Prelude.{ℕ, ◌≡◌, cond, List, [], ◌∷◌, ◌++◌, eqb}
 use Rattle.std.proofs.Math.Option.{Option, none, some}
 use Rattle.sheet_text.specs.Parse.{Parser, ◌>>=◌, ◌>>◌, give, byte}
-use Rattle.sheet_text.specs.Field.{Small, field_text, field_to, field_after}
+use Rattle.sheet_text.specs.Field.{Small, field_text, field_to, field_after, Field}
 use Rattle.sheet_text.specs.Place.{Leaves}
-use Rattle.sheet_text.specs.declared.Field.{Field}
 use Rattle.sheet_line.specs.declared.cylinder.Kind.{Kind}
 use Rattle.sheet_line.specs.declared.cylinder.Kind.TheVariants.{Pressure, Density, Weighed}
 use Rattle.sheet_line.specs.declared.cylinder.KindAt.{KindAt}

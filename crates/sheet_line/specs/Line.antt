@@ -1,26 +1,25 @@
 -- RULES 6.4: what a cylinder's line says. Definitions only.
-use Rattle.std.specs.Prelude.{ℕ, ◌≡◌, List}
+use Rattle.std.specs.Prelude.{ℕ, ◌≡◌, List, Some, None}
 use Rattle.std.proofs.Math.Option.{Option, none}
 use Rattle.std.specs.Float.{binary64}
 use Rattle.std.specs.Float.Ieee.{div}
 use Rattle.num_working.specs.Number.{whole}
 use Rattle.sheet_text.specs.Parse.{Parser, ◌>>=◌, give}
 use Rattle.sheet_text.specs.Place.{Leaves}
-use Rattle.sheet_text.specs.declared.Field.{Field}
+use Rattle.sheet_text.specs.Field.{Field}
 use Rattle.sheet_line.specs.Cylinder.{cylinder}
 use Rattle.sheet_line.specs.Record.{record_of}
 use Rattle.sheet_line.specs.declared.cylinder.Cylinder.{Cylinder}
 use Rattle.sheet_line.specs.declared.record.Recorded.{Recorded}
 use Rattle.sheet_line.specs.declared.record.Record.{Record}
-use Rattle.sheet_line.specs.declared.line.Temperature.{Temperature}
 use Rattle.sheet_line.specs.declared.line.Reading.{Reading}
 use Rattle.sheet_line.specs.declared.line.Line.{Line}
 use Rattle.sheet_line.specs.declared.line.LineAt.{LineAt}
 
 -- the number over 10000, in K, one division
 abbrev pub temperature_of : Field → Temperature
-temperature_of Field.Blank = Temperature.Blank
-temperature_of (Field.Number n) = Temperature.Kelvin (div binary64 (whole n) (whole 10000))
+temperature_of None = None
+temperature_of (Some n) = Some (div binary64 (whole n) (whole 10000))
 
 -- a pressure is the number, in Pa, a density the number over 1000, in kg/m³, one division; grams stay what they are
 abbrev pub reading_of : Recorded → Reading
@@ -38,7 +37,7 @@ line_of c = line_from (record_of c)
 
 -- where a sheet has no line
 abbrev pub blank_line : Line
-blank_line = record { number = Field.Blank; temperature = Temperature.Blank; reading = Reading.Blank; volume = Field.Blank }
+blank_line = record { number = None; temperature = None; reading = Reading.Blank; volume = None }
 
 -- the line of the cylinder at the front of a text
 unfoldable pub line : Parser Line

@@ -1,7 +1,6 @@
 -- RULES 6.4: a cylinder's line in the sheet's whole numbers. Definitions only.
-use Rattle.std.specs.Prelude.{◌<◌}
-use Rattle.sheet_text.specs.Field.{Small}
-use Rattle.sheet_text.specs.declared.Field.{Field}
+use Rattle.std.specs.Prelude.{◌<◌, Some, None}
+use Rattle.sheet_text.specs.Field.{Small, Field}
 use Rattle.sheet_mass.specs.Mass.{as_grams}
 use Rattle.sheet_line.specs.declared.cylinder.Kind.{Kind}
 use Rattle.sheet_line.specs.declared.cylinder.Cylinder.{Cylinder}
@@ -10,10 +9,10 @@ use Rattle.sheet_line.specs.declared.record.Record.{Record}
 
 -- a number stays with its kind, and a blank has none: `P -`, `D -` and `W -` are the same
 abbrev pub recorded_of : Kind → Field → Recorded
-recorded_of k Field.Blank = Recorded.Blank
-recorded_of Kind.Pressure (Field.Number n) = Recorded.Pressure n
-recorded_of Kind.Density (Field.Number n) = Recorded.Density n
-recorded_of Kind.Weighed (Field.Number n) = Recorded.Weighed (as_grams n)
+recorded_of k None = Recorded.Blank
+recorded_of Kind.Pressure (Some n) = Recorded.Pressure n
+recorded_of Kind.Density (Some n) = Recorded.Density n
+recorded_of Kind.Weighed (Some n) = Recorded.Weighed (as_grams n)
 
 abbrev pub record_of : Cylinder → Record
 record_of c = record { number = c.number; temperature = c.temperature; reading = recorded_of c.kind c.value; volume = c.volume }

@@ -3,7 +3,7 @@
 ghost use Rattle.std.specs.Prelude.{drop};
 ghost use Rattle.sheet_line.specs.Cylinder.{kind, reading, cylinder, KindIs, CylinderIs};
 
-use sheet_text::{Field, FieldAt, Place, read_field_after, read_field_to, skip};
+use sheet_text::{FieldAt, read_field_after, read_field_to, skip};
 
 #[derive(Clone, Copy)]
 pub enum Kind {
@@ -21,11 +21,11 @@ pub enum KindAt {
 
 #[derive(Clone, Copy)]
 pub struct Cylinder {
-    pub number: Field,
-    pub temperature: Field,
+    pub number: Option<u64>,
+    pub temperature: Option<u64>,
     pub kind: Kind,
-    pub value: Field,
-    pub volume: Field,
+    pub value: Option<u64>,
+    pub volume: Option<u64>,
 }
 
 // A cylinder and the place after its line.
@@ -55,13 +55,13 @@ fn read_kind(s: &[u8], at: usize) -> KindAt
 }
 
 // The rest of a line whose number and temperature are read.
-fn read_reading(s: &[u8], at: usize, number: Field, temperature: Field) -> CylinderAt
+fn read_reading(s: &[u8], at: usize, number: Option<u64>, temperature: Option<u64>) -> CylinderAt
     ensures { CylinderIs s.now at (reading number temperature (drop at s.now)) result }
 {
     let KindAt::Found(kind, space_at) = read_kind(s, at) else {
         return CylinderAt::Bad;
     };
-    let Place::At(value_at) = skip(s, space_at, b' ') else {
+    let Some(value_at) = skip(s, space_at, b' ') else {
         return CylinderAt::Bad;
     };
     let FieldAt::Found(value, volume_at) = read_field_to(s, value_at, b' ') else {

@@ -9,13 +9,6 @@ ghost use Rattle.sheet_line.specs.Line.{temperature_of, reading_of, line_from, l
 use crate::cylinder::{Cylinder, CylinderAt, read_cylinder};
 use crate::record::{Record, Recorded, record_of};
 use sheet_mass::Grams;
-use sheet_text::Field;
-
-#[derive(Clone, Copy)]
-pub enum Temperature {
-    Blank,
-    Kelvin(f64),
-}
 
 // With its kind.
 #[derive(Clone, Copy)]
@@ -28,10 +21,10 @@ pub enum Reading {
 
 #[derive(Clone, Copy)]
 pub struct Line {
-    pub number: Field,
-    pub temperature: Temperature,
+    pub number: Option<u64>,
+    pub temperature: Option<f64>,
     pub reading: Reading,
-    pub volume: Field,
+    pub volume: Option<u64>,
 }
 
 // A line and the place after it.
@@ -42,13 +35,13 @@ pub enum LineAt {
 }
 
 // From 0.1 mK.
-fn temperature_of(f: Field) -> Temperature
+fn temperature_of(f: Option<u64>) -> Option<f64>
     requires { Small f }
     ensures { result ≡ temperature_of f }
 {
     match f {
-        Field::Blank => Temperature::Blank,
-        Field::Number(n) => Temperature::Kelvin(n as f64 / 10000.0),
+        None => None,
+        Some(n) => Some(n as f64 / 10000.0),
     }
 }
 

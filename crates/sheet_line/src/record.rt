@@ -4,7 +4,6 @@ ghost use Rattle.sheet_line.specs.Record.{recorded_of, record_of};
 
 use crate::cylinder::{Cylinder, Kind};
 use sheet_mass::Grams;
-use sheet_text::Field;
 
 // In Pa, g/m³ or g. A blank has no kind.
 #[derive(Clone, Copy)]
@@ -18,18 +17,18 @@ pub enum Recorded {
 // The temperature in 0.1 mK, the volume in mL.
 #[derive(Clone, Copy)]
 pub struct Record {
-    pub number: Field,
-    pub temperature: Field,
+    pub number: Option<u64>,
+    pub temperature: Option<u64>,
     pub reading: Recorded,
-    pub volume: Field,
+    pub volume: Option<u64>,
 }
 
-fn recorded_of(k: Kind, f: Field) -> Recorded
+fn recorded_of(k: Kind, f: Option<u64>) -> Recorded
     ensures { result ≡ recorded_of k f }
 {
     match f {
-        Field::Blank => Recorded::Blank,
-        Field::Number(n) => match k {
+        None => Recorded::Blank,
+        Some(n) => match k {
             Kind::Pressure => Recorded::Pressure(n),
             Kind::Density => Recorded::Density(n),
             Kind::Weighed => Recorded::Weighed(Grams(n)),

@@ -1,8 +1,7 @@
 -- RULES 2.4 and 6.7: a mass that was weighed, in grams, and its milligrams. Definitions only.
-use Rattle.std.specs.Prelude.{ℕ, ◌*◌, Bool, cond, ◌&&◌, leb}
+use Rattle.std.specs.Prelude.{ℕ, ◌*◌, Bool, cond, ◌&&◌, leb, Some, None}
 use Rattle.sheet_mass.specs.declared.Grams.{Grams}
 use Rattle.sheet_mass.specs.declared.Milligrams.{Milligrams}
-use Rattle.sheet_mass.specs.declared.Scaled.{Scaled}
 
 -- so many grams, so many milligrams
 abbrev pub as_grams : ℕ → Grams
@@ -20,4 +19,4 @@ unfoldable pub milligrams_of : Grams → Milligrams
 milligrams_of x = as_milligrams (1000 * x.0)
 
 unfoldable pub from_scale : Grams → Scaled
-from_scale x = cond (is_mass x.0) (Scaled.At (milligrams_of x)) Scaled.Out
+from_scale x = cond (is_mass x.0) (Some (milligrams_of x)) None

@@ -13,12 +13,6 @@ pub struct Grams(pub u64);
 pub struct Milligrams(pub u64);
 
 // A weighed mass in milligrams, or that it is out of its range.
-#[derive(Clone, Copy)]
-pub enum Scaled {
-    At(Milligrams),
-    Out,
-}
-
 fn is_mass(g: u64) -> bool
     ensures { result ≡ is_mass g }
 {
@@ -32,11 +26,11 @@ fn milligrams_of(g: Grams) -> Milligrams
     Milligrams(1000 * g.0)
 }
 
-pub fn from_scale(g: Grams) -> Scaled
+pub fn from_scale(g: Grams) -> Option<Milligrams>
     ensures { result ≡ from_scale g }
 {
     if is_mass(g.0) {
-        return Scaled::At(milligrams_of(g));
+        return Some(milligrams_of(g));
     }
-    Scaled::Out
+    None
 }

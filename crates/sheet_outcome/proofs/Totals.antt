@@ -1,4 +1,5 @@
 -- The total, line by line from the front: what was added, and then what is left. Assumes nothing.
+use Rattle.std.specs.Prelude.{Some, None}
 use mathlib.Core.Path.{◌≡◌, refl, sym, ap, ◌∙◌}
 use mathlib.Core.List.{List}
 use Prim.Native.Nat.{ℕ, suc, ◌+◌, ◌≤◌, ◌<◌}
@@ -9,25 +10,24 @@ use lib.ListN.{length, drop, get_or, drop_of_length-le}
 use lib.Seq.{drop-cons}
 use Rattle.sheet_mass.specs.Mass.{as_milligrams}
 use Rattle.sheet_mass.specs.declared.Milligrams.{Milligrams}
-use Rattle.sheet_outcome.specs.Outcome.{plus, total}
+use Rattle.sheet_outcome.specs.Outcome.{plus, total, Summed}
 use Rattle.sheet_outcome.specs.declared.Weighed.{Weighed}
 use Rattle.sheet_outcome.specs.declared.Mark.{Mark}
-use Rattle.sheet_outcome.specs.declared.Summed.{Summed}
 
 abbrev summed : ℕ → Summed
-summed n = Summed.Sum (as_milligrams n)
+summed n = Some (as_milligrams n)
 
 abbrev pub onto : ℕ → Summed → Summed
-onto s (Summed.Sum t) = summed (s + t.0)
-onto s Summed.Refused = Summed.Refused
+onto s (Some t) = summed (s + t.0)
+onto s None = None
 
 pub onto_none : (t : Summed) → t ≡ onto 0 t
-onto_none (Summed.Sum t) = ap summed (omega arith)
-onto_none Summed.Refused = refl
+onto_none (Some t) = ap summed (omega arith)
+onto_none None = refl
 
 onto_plus : (s : ℕ) (mg : Milligrams) (t : Summed) → onto s (plus (Weighed.Mass mg) t) ≡ onto (s + mg.0) t
-onto_plus s mg (Summed.Sum t) = ap summed (sym (add_assoc s mg.0 t.0))
-onto_plus s mg Summed.Refused = refl
+onto_plus s mg (Some t) = ap summed (sym (add_assoc s mg.0 t.0))
+onto_plus s mg None = refl
 
 -- ---- one turn of the loop that adds them
 
@@ -37,7 +37,7 @@ module _ (ms : List Mark) (s i : ℕ) (e : total ms ≡ onto s (total (drop i ms
   at_end h = sym (e ∙ rw (drop_of_length-le ms h) (ap summed (omega arith)))
 
   module _ (d : Mark) (h : i < length ms) where
-    pub one_refused : (n : ℕ) → (get_or ms i d).weighed ≡ Weighed.Refused n → Summed.Refused ≡ total ms
+    pub one_refused : (n : ℕ) → (get_or ms i d).weighed ≡ Weighed.Refused n → None ≡ total ms
     unfolding total
     one_refused n r = sym (e ∙ rw (drop-cons ms i d h, r))
 

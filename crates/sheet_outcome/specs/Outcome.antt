@@ -1,12 +1,11 @@
 -- RULES 3.4 and 7.2: what a sheet comes to. Definitions only.
-use Rattle.std.specs.Prelude.{ℕ, ◌+◌, Bool, not, cond, ◌&&◌, List, [], ◌∷◌, leb, ltb, eqb, take}
-use Rattle.sheet_text.specs.declared.Field.{Field}
+use Rattle.std.specs.Prelude.{ℕ, ◌+◌, Bool, not, cond, ◌&&◌, List, [], ◌∷◌, leb, ltb, eqb, take, Some, None}
+use Rattle.sheet_text.specs.Field.{Field}
 use Rattle.sheet_mass.specs.Mass.{as_milligrams}
 use Rattle.sheet_outcome.specs.declared.Weighed.{Weighed}
 use Rattle.sheet_outcome.specs.declared.Mark.{Mark}
 use Rattle.sheet_outcome.specs.declared.Marks.{Marks}
 use Rattle.sheet_outcome.specs.declared.Admitted.{Admitted}
-use Rattle.sheet_outcome.specs.declared.Summed.{Summed}
 use Rattle.sheet_outcome.specs.declared.Ending.{Ending}
 
 -- ---- before the lines are worked: 14, 10, 11, 12, in this order
@@ -17,8 +16,8 @@ is_need mg = leb 1 mg && leb mg 9_999_999_999
 
 -- 12 where the agent needed is blank or out of its range
 abbrev pub needed : Field → Admitted
-needed Field.Blank = Admitted.SentBack 12
-needed (Field.Number mg) = cond (is_need mg) (Admitted.Need mg) (Admitted.SentBack 12)
+needed None = Admitted.SentBack 12
+needed (Some mg) = cond (is_need mg) (Admitted.Need mg) (Admitted.SentBack 12)
 
 -- 14 where the text is not in the form, 10 where there is no cylinder line, 11 where there are more than 32
 unfoldable pub admitted : Bool → ℕ → Field → Admitted
@@ -35,18 +34,18 @@ abbrev pub marks_of : Marks → List Mark
 marks_of m = take m.count m.marks
 
 abbrev pub plus : Weighed → Summed → Summed
-plus (Weighed.Mass mg) (Summed.Sum rest) = Summed.Sum (as_milligrams (mg.0 + rest.0))
-plus (Weighed.Mass mg) Summed.Refused = Summed.Refused
-plus (Weighed.Refused n) t = Summed.Refused
+plus (Weighed.Mass mg) (Some rest) = Some (as_milligrams (mg.0 + rest.0))
+plus (Weighed.Mass mg) None = None
+plus (Weighed.Refused n) t = None
 
 -- the exact sum of the lines' milligrams, or that some line was refused
 unfoldable pub total : List Mark → Summed
-total [] = Summed.Sum (as_milligrams 0)
+total [] = Some (as_milligrams 0)
 total (m ∷ ms) = plus m.weighed (total ms)
 
 -- ---- after them
 
 -- 13 where some line was refused; else covered where the sum is the need or more, and short where it is less
 unfoldable pub ending : ℕ → Summed → Ending
-ending need Summed.Refused = Ending.SentBack 13
-ending need (Summed.Sum mg) = cond (leb need mg.0) (Ending.Covered mg) (Ending.Short mg)
+ending need None = Ending.SentBack 13
+ending need (Some mg) = cond (leb need mg.0) (Ending.Covered mg) (Ending.Short mg)

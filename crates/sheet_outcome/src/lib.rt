@@ -6,7 +6,6 @@ ghost use Rattle.std.specs.Prelude.{◌≡◌};
 ghost use Rattle.sheet_outcome.specs.Outcome.{is_need, needed, admitted, ending};
 
 use sheet_mass::Milligrams;
-use sheet_text::Field;
 
 // A cylinder line's milligrams, or the number of its refusal.
 #[derive(Clone, Copy)]
@@ -51,22 +50,16 @@ pub enum Admitted {
 }
 
 // The milligrams of all lines, or that some line was refused.
-#[derive(Clone, Copy)]
-pub enum Summed {
-    Sum(Milligrams),
-    Refused,
-}
-
 fn is_need(mg: u64) -> bool
     ensures { result ≡ is_need mg }
 {
     mg >= 1 && mg <= 9_999_999_999
 }
 
-fn need_of(need: Field) -> Admitted
+fn need_of(need: Option<u64>) -> Admitted
     ensures { result ≡ needed need }
 {
-    let Field::Number(mg) = need else {
+    let Some(mg) = need else {
         return Admitted::SentBack(12);
     };
     if is_need(mg) {
@@ -77,7 +70,7 @@ fn need_of(need: Field) -> Admitted
 
 // ok: the text is in the form.
 #[tactic(auto, unfolding(crate::specs::Outcome::admitted))]
-pub fn admit(ok: bool, count: usize, need: Field) -> Admitted
+pub fn admit(ok: bool, count: usize, need: Option<u64>) -> Admitted
     ensures { result ≡ admitted ok count need }
 {
     if !ok {
@@ -92,10 +85,10 @@ pub fn admit(ok: bool, count: usize, need: Field) -> Admitted
     need_of(need)
 }
 
-pub fn conclude(need: u64, t: Summed) -> Ending
+pub fn conclude(need: u64, t: Option<Milligrams>) -> Ending
     ensures { result ≡ ending need t }
 {
-    let Summed::Sum(mg) = t else {
+    let Some(mg) = t else {
         return Ending::SentBack(13);
     };
     if mg.0 >= need {

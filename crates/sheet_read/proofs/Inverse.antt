@@ -11,8 +11,7 @@ use lib.ListN.{length, length-append}
 use borrow.Author.Tests.{le-leb, leb-true}
 use Rattle.num_working.proofs.Cases.{by_test}
 use Rattle.sheet_text.specs.Parse.{and_then}
-use Rattle.sheet_text.specs.Field.{Small, field_text, field_after}
-use Rattle.sheet_text.specs.declared.Field.{Field}
+use Rattle.sheet_text.specs.Field.{Small, field_text, field_after, Field}
 use Rattle.sheet_text.proofs.Parses.{All, Says}
 use Rattle.sheet_text.proofs.Printed.{after_back, after_says, after_small}
 use Rattle.sheet_line.specs.Cylinder.{AllSmall, cylinder_text, cylinder}

@@ -2,8 +2,7 @@
 use Rattle.std.specs.Prelude.{ℕ, zero, suc, cond, List, [], ◌∷◌, ◌++◌, leb, length}
 use Rattle.std.proofs.Math.Option.{Option, none, some, map}
 use Rattle.sheet_text.specs.Parse.{and_then}
-use Rattle.sheet_text.specs.Field.{Small, field_text, field_after}
-use Rattle.sheet_text.specs.declared.Field.{Field}
+use Rattle.sheet_text.specs.Field.{Small, field_text, field_after, Field}
 use Rattle.sheet_line.specs.Cylinder.{AllSmall, cylinder_text, cylinder}
 use Rattle.sheet_line.specs.declared.cylinder.Cylinder.{Cylinder}
 

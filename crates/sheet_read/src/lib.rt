@@ -8,13 +8,13 @@ ghost use Rattle.sheet_line.specs.Line.{blank_line};
 ghost use Rattle.sheet_read.specs.Form.{cylinders, with_need, in_form};
 ghost use Rattle.sheet_read.specs.Sheet.{sheet_read};
 
-use sheet_line::line::{Line, LineAt, Reading, Temperature, read_line};
-use sheet_text::{Field, FieldAt, read_field_after};
+use sheet_line::line::{Line, LineAt, Reading, read_line};
+use sheet_text::{FieldAt, read_field_after};
 
 // The first 32 lines, and how many there are.
 #[derive(Clone, Copy)]
 pub struct Sheet {
-    pub need: Field,
+    pub need: Option<u64>,
     pub lines: [Line; 32],
     pub count: usize,
 }
@@ -31,10 +31,10 @@ fn blank_line() -> Line
     ensures { result ≡ blank_line }
 {
     Line {
-        number: Field::Blank,
-        temperature: Temperature::Blank,
+        number: None,
+        temperature: None,
         reading: Reading::Blank,
-        volume: Field::Blank,
+        volume: None,
     }
 }
 
@@ -45,7 +45,7 @@ fn not_in_form() -> SheetRead
     SheetRead {
         ok: false,
         sheet: Sheet {
-            need: Field::Blank,
+            need: None,
             lines: [l; 32],
             count: 0,
         },
@@ -53,7 +53,7 @@ fn not_in_form() -> SheetRead
 }
 
 // Lines beyond 32 are read for their form, and counted.
-fn read_lines(s: &[u8], from: usize, need: Field) -> SheetRead
+fn read_lines(s: &[u8], from: usize, need: Option<u64>) -> SheetRead
     requires { from ≤ length s.now }
     ensures { result ≡ sheet_read (with_need need (cylinders (length s.now) (drop from s.now))) }
 {

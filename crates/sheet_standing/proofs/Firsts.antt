@@ -1,4 +1,5 @@
 -- RULES 14.3: the first line that has a number, and that it is the one that is named. Assumes nothing.
+use Rattle.std.specs.Prelude.{Some, None}
 use mathlib.Core.Path.{◌≡◌, refl, sym, ap, ◌∙◌}
 use mathlib.Core.Bool.{Bool, true, false, cond, ◌||◌, false≢true, or-false}
 use mathlib.Core.List.{List, [], ◌∷◌}
@@ -7,7 +8,7 @@ use native.Mathlib.Omega.{arith}
 use lib.ListN.{length, take, drop, get_or, drop_of_length-le}
 use lib.Seq.{drop-cons}
 use borrow.Author.Tests.{eqb-true}
-use Rattle.sheet_text.specs.declared.Field.{Field}
+use Rattle.sheet_text.specs.Field.{Field}
 use Rattle.sheet_line.specs.declared.line.Line.{Line}
 use Rattle.door_checks.specs.declared.Check.TheVariants.{Passed, No}
 use Rattle.sheet_standing.specs.Standing.{if_numbered, lacking, is_on, onto, numbers, standing, first_with}
@@ -36,24 +37,24 @@ module _ (ls : List Line) (n i : ℕ) (from : 1 ≤ i) (e : first_with 1 ls n �
 record Is (ls : List Line) (i n j : ℕ) : Type 0 where
   before : j < i
   listed : j < length ls
-  number : (d : Line) → (get_or ls j d).number ≡ Field.Number n
+  number : (d : Line) → (get_or ls j d).number ≡ Some n
   none_before : is_on (numbers (take j ls)) n ≡ false
 
-its_number : (l : Line) (n : ℕ) → is_on (numbers (l ∷ [])) n ≡ true → l.number ≡ Field.Number n
+its_number : (l : Line) (n : ℕ) → is_on (numbers (l ∷ [])) n ≡ true → l.number ≡ Some n
 unfolding is_on numbers
 its_number l n = go l.number
   where
-    go : (f : Field) → is_on (onto f []) n ≡ true → f ≡ Field.Number n
-    go Field.Blank e = absurd (false≢true e)
-    go (Field.Number m) e = ap Field.Number (eqb-true m n (sym (or-false _) ∙ e))
+    go : (f : Field) → is_on (onto f []) n ≡ true → f ≡ Some n
+    go None e = absurd (false≢true e)
+    go (Some m) e = ap Some (eqb-true m n (sym (or-false _) ∙ e))
 
 in_front : (l : Line) (ls : List Line) (n : ℕ) → is_on (numbers (l ∷ ls)) n ≡ (is_on (numbers (l ∷ [])) n || is_on (numbers ls) n)
 unfolding is_on numbers
 in_front l ls n = go l.number
   where
     go : (f : Field) → is_on (onto f (numbers ls)) n ≡ (is_on (onto f []) n || is_on (numbers ls) n)
-    go Field.Blank = refl
-    go (Field.Number m) = rw (or-false) refl
+    go None = refl
+    go (Some m) = rw (or-false) refl
 
 module _ (l : Line) (ls : List Line) (i n : ℕ) where
   here : is_on (numbers (l ∷ [])) n ≡ true → Is (l ∷ ls) (suc i) n 0
@@ -92,7 +93,7 @@ pub record First (ls : List Line) (i n j : ℕ) : Type 0 where
   pub from_one : 1 ≤ j
   pub before : j ≤ i
   pub listed : j ≤ length ls
-  pub number : (d : Line) → (get_or ls (j - 1) d).number ≡ Field.Number n
+  pub number : (d : Line) → (get_or ls (j - 1) d).number ≡ Some n
   pub none_before : is_on (numbers (take (j - 1) ls)) n ≡ false
 
 -- where a line before the i-th has the number
@@ -111,7 +112,7 @@ first ls i n e =
 
 -- so where a line after them is refused by 30
 pub first_of_again : (ls : List Line) (i : ℕ) (l : Line) → standing (numbers (take i ls)) l ≡ No 30
-    → (n : ℕ) × (l.number ≡ Field.Number n) × First ls i n (first_with 1 ls n)
+    → (n : ℕ) × (l.number ≡ Some n) × First ls i n (first_with 1 ls n)
 unfolding standing
 first_of_again ls i l = by_number l.number
   where
@@ -124,6 +125,6 @@ first_of_again ls i l = by_number l.number
     told false false e = let z : ◌≡◌ {A = ℕ} 0 1 = cc in absurd (omega arith)
 
     by_number : (f : Field) → if_numbered f (λ n. cond (lacking l) (No 1) (cond (is_on (numbers (take i ls)) n) (No 30) Passed)) ≡ No 30
-        → (n : ℕ) × (f ≡ Field.Number n) × First ls i n (first_with 1 ls n)
-    by_number Field.Blank e = no e (λ h. omega (arith, h))
-    by_number (Field.Number n) e = (n, refl, first ls i n (told (lacking l) (is_on (numbers (take i ls)) n) e))
+        → (n : ℕ) × (f ≡ Some n) × First ls i n (first_with 1 ls n)
+    by_number None e = no e (λ h. omega (arith, h))
+    by_number (Some n) e = (n, refl, first ls i n (told (lacking l) (is_on (numbers (take i ls)) n) e))

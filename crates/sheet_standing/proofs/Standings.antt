@@ -1,4 +1,5 @@
 -- Whether a number is among others, one after the other; and the numbers of lines that are joined. Assumes nothing.
+use Rattle.std.specs.Prelude.{Some, None}
 use mathlib.Core.Path.{◌≡◌, refl, sym, ap, ◌∙◌}
 use mathlib.Core.Bool.{true, false}
 use mathlib.Core.List.{List, [], ◌∷◌, ◌++◌}
@@ -8,7 +9,7 @@ use native.Mathlib.Omega.{arith}
 use lib.ListN.{length, drop, get_or, drop_of_length-le}
 use lib.Seq.{drop-cons}
 use borrow.Author.Tests.{eq-eqb, ne_eqb}
-use Rattle.sheet_text.specs.declared.Field.{Field}
+use Rattle.sheet_text.specs.Field.{Field}
 use Rattle.sheet_line.specs.declared.line.Line.{Line}
 use Rattle.sheet_standing.specs.Standing.{is_on, onto, numbers}
 
@@ -35,8 +36,8 @@ numbers_joined [] ms = refl
 numbers_joined (l ∷ ls) ms = ap (onto l.number) (numbers_joined ls ms) ∙ sym (go l.number)
   where
     go : (f : Field) → onto f (numbers ls) ++ numbers ms ≡ onto f (numbers ls ++ numbers ms)
-    go Field.Blank = refl
-    go (Field.Number n) = refl
+    go None = refl
+    go (Some n) = refl
 
 -- no more than there are lines
 pub numbers_most : (ls : List Line) → length (numbers ls) ≤ length ls
@@ -45,5 +46,5 @@ numbers_most [] = omega arith
 numbers_most (l ∷ ls) = go l.number (numbers_most ls)
   where
     go : (f : Field) → length (numbers ls) ≤ length ls → length (onto f (numbers ls)) ≤ suc (length ls)
-    go Field.Blank h = omega arith
-    go (Field.Number n) h = omega arith
+    go None h = omega arith
+    go (Some n) h = omega arith

@@ -1,9 +1,9 @@
 -- RULES 3.2, 6.6 and 6.7: the first checks of a line, before it is worked, by its own fields and by the cylinder numbers of the lines before it. Definitions only.
-use Rattle.std.specs.Prelude.{ℕ, ◌+◌, Bool, true, false, cond, ◌||◌, List, [], ◌∷◌, eqb}
+use Rattle.std.specs.Prelude.{ℕ, ◌+◌, Bool, true, false, cond, ◌||◌, List, [], ◌∷◌, eqb, Some, None}
 use Rattle.door_checks.specs.declared.Check.{Check}
 use Rattle.door_checks.specs.declared.Check.TheVariants.{Passed, No}
-use Rattle.sheet_text.specs.declared.Field.{Field}
-use Rattle.sheet_line.specs.declared.line.Temperature.{Temperature}
+use Rattle.sheet_text.specs.Field.{Field}
+use Rattle.sheet_line.specs.Line.{Temperature}
 use Rattle.sheet_line.specs.declared.line.Reading.{Reading}
 use Rattle.sheet_line.specs.declared.line.Line.{Line}
 
@@ -11,17 +11,17 @@ use Rattle.sheet_line.specs.declared.line.Line.{Line}
 
 -- its cylinder number
 abbrev pub if_numbered : Field → (ℕ → Check) → Check
-if_numbered Field.Blank f = No 1
-if_numbered (Field.Number n) f = f n
+if_numbered None f = No 1
+if_numbered (Some n) f = f n
 
 -- its volume
 abbrev pub no_volume : Field → Bool
-no_volume Field.Blank = true
-no_volume (Field.Number v) = false
+no_volume None = true
+no_volume (Some v) = false
 
 abbrev pub no_temperature : Temperature → Bool
-no_temperature Temperature.Blank = true
-no_temperature (Temperature.Kelvin t) = false
+no_temperature None = true
+no_temperature (Some t) = false
 
 -- its value, or, where a door is asked with it, its temperature: a mass that was weighed requires none
 abbrev pub no_reading : Temperature → Reading → Bool
@@ -41,8 +41,8 @@ is_on (m ∷ ms) n = eqb m n || is_on ms n
 
 -- the cylinder numbers of lines, in their order: a blank is none, and so never the same as another
 abbrev pub onto : Field → List ℕ → List ℕ
-onto Field.Blank ms = ms
-onto (Field.Number n) ms = n ∷ ms
+onto None ms = ms
+onto (Some n) ms = n ∷ ms
 
 unfoldable pub numbers : List Line → List ℕ
 numbers [] = []

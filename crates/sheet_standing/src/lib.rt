@@ -6,16 +6,15 @@ ghost use Rattle.std.specs.Prelude.{◌≡◌, [], ◌∷◌};
 ghost use Rattle.sheet_standing.specs.Standing.{no_temperature, lacking, is_on, numbers, standing, first_with};
 
 use door_checks::Check;
-use sheet_line::line::{Line, Reading, Temperature};
+use sheet_line::line::{Line, Reading};
 use sheet_read::Sheet;
-use sheet_text::Field;
 
-fn is_blank(k: Temperature) -> bool
+fn is_blank(k: Option<f64>) -> bool
     ensures { result ≡ no_temperature k }
 {
     match k {
-        Temperature::Blank => true,
-        Temperature::Kelvin(_) => false,
+        None => true,
+        Some(_) => false,
     }
 }
 
@@ -26,7 +25,7 @@ fn is_lacking(l: Line) -> bool
     let temperature = l.temperature;
     let reading = l.reading;
     let volume = l.volume;
-    let Field::Number(_) = volume else {
+    let Some(_) = volume else {
         return true;
     };
     match reading {
@@ -55,7 +54,7 @@ pub fn standing_of(numbers: &[u64], l: Line) -> Check
     ensures { result ≡ standing numbers.now l }
 {
     let number = l.number;
-    let Field::Number(n) = number else {
+    let Some(n) = number else {
         return Check::No(1);
     };
     if is_lacking(l) {
@@ -71,7 +70,7 @@ fn has_number(l: Line, n: u64) -> bool
     ensures { result ≡ is_on (numbers (l ∷ [])) n }
 {
     let number = l.number;
-    let Field::Number(m) = number else {
+    let Some(m) = number else {
         return false;
     };
     m == n

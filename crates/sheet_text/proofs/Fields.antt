@@ -1,4 +1,5 @@
 -- One step of reading a field, by what stands at the place.
+use Rattle.std.specs.Prelude.{Some, None}
 use mathlib.Core.Path.{◌≡◌}
 use mathlib.Core.Bool.{true, false, and-eq-true_iff}
 use mathlib.Core.List.{List}
@@ -8,9 +9,7 @@ use lib.ListN.{length, drop, get_or, drop_of_length-le}
 use lib.Dec.{leb}
 use borrow.Author.Tests.{leb-true, lt-leb, le-leb, ne_eqb}
 use Rattle.sheet_text.specs.Parse.{byte}
-use Rattle.sheet_text.specs.Field.{digit, field, digits_after, field_to}
-use Rattle.sheet_text.specs.declared.Field.{Field}
-use Rattle.sheet_text.specs.declared.Field.TheVariants.{Blank, Number}
+use Rattle.sheet_text.specs.Field.{digit, field, digits_after, field_to, Field}
 use Rattle.sheet_text.proofs.Parses.{front}
 
 pub digit_low : (b : ℕ) → digit b ≡ true → 48 ≤ b
@@ -25,7 +24,7 @@ module _ (s : List ℕ) (at : ℕ) where
   field_end h = rw (drop_of_length-le s h)
 
   module _ (h : at < length s) where
-    pub field_blank : get_or s at 0 ≡ 45 → field (drop at s) ≡ some (Blank, drop (at + 1) s)
+    pub field_blank : get_or s at 0 ≡ 45 → field (drop at s) ≡ some (None, drop (at + 1) s)
     unfolding field
     field_blank e = rw (front s at h, e)
 
@@ -39,12 +38,12 @@ module _ (s : List ℕ) (at : ℕ) where
     field_digits n e v ev = rw (front s at h, ne_eqb _ _ n, e, ev)
 
 module _ (s : List ℕ) (i v : ℕ) where
-  pub after_end : length s ≤ i → digits_after v (drop i s) ≡ some (Number v, drop i s)
+  pub after_end : length s ≤ i → digits_after v (drop i s) ≡ some (Some v, drop i s)
   unfolding digits_after
   after_end h = rw (drop_of_length-le s h)
 
   module _ (h : i < length s) where
-    pub after_stop : digit (get_or s i 0) ≡ false → digits_after v (drop i s) ≡ some (Number v, drop i s)
+    pub after_stop : digit (get_or s i 0) ≡ false → digits_after v (drop i s) ≡ some (Some v, drop i s)
     unfolding digits_after
     after_stop e = rw (front s i h, e)
 

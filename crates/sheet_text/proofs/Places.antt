@@ -1,14 +1,14 @@
 -- What the relations of specs/Place say: each has one solution, and what is read from a later place on is read past an earlier one.
+use Rattle.std.specs.Prelude.{Some, None}
 use mathlib.Core.Path.{◌≡◌, refl, sym, ap, ◌∙◌}
 use mathlib.Core.List.{List}
 use mathlib.Core.Option.{Option}
 use Prim.Native.Nat.{ℕ, ◌≤◌, ◌<◌}
 use native.Mathlib.Omega.{arith}
 use lib.ListN.{length, drop, length-drop}
-use Rattle.sheet_text.specs.Place.{Leaves, FieldIs, PlaceIs}
-use Rattle.sheet_text.specs.declared.Field.{Field}
+use Rattle.sheet_text.specs.Place.{Leaves, FieldIs, PlaceIs, Place}
+use Rattle.sheet_text.specs.Field.{Field}
 use Rattle.sheet_text.specs.declared.FieldAt.{FieldAt}
-use Rattle.sheet_text.specs.declared.Place.{Place}
 use Rattle.sheet_text.proofs.Parses.{read_once, none_or_some}
 
 -- the rest has one place only, by its length
@@ -25,10 +25,10 @@ field_is_once s at p (FieldAt.Found f n) FieldAt.Bad x y = absurd (none_or_some 
 field_is_once s at p (FieldAt.Found f n) (FieldAt.Found g m) x y = let e = leaves_once s at p f g n m x y in let a = e.0 in let b = e.1 in cc
 
 pub place_is_once : (s : List ℕ) (at : ℕ) (p : Option (Unit {0} × List ℕ)) (r t : Place) → PlaceIs s at p r → PlaceIs s at p t → r ≡ t
-place_is_once s at p Place.Bad Place.Bad x y = refl
-place_is_once s at p Place.Bad (Place.At n) x y = absurd (none_or_some x y.0)
-place_is_once s at p (Place.At n) Place.Bad x y = absurd (none_or_some y x.0)
-place_is_once s at p (Place.At n) (Place.At m) x y = let b = (leaves_once s at p tt tt n m x y).1 in cc
+place_is_once s at p None None x y = refl
+place_is_once s at p None (Some n) x y = absurd (none_or_some x y.0)
+place_is_once s at p (Some n) None x y = absurd (none_or_some y x.0)
+place_is_once s at p (Some n) (Some m) x y = let b = (leaves_once s at p tt tt n m x y).1 in cc
 
 pub field_from : (s : List ℕ) (at from : ℕ) (p : Option (Field × List ℕ)) (r : FieldAt) → FieldIs s from p r → at < from → FieldIs s at p r
 field_from s at from p FieldAt.Bad x h = x

@@ -1,4 +1,5 @@
 -- Reading a field and printing it undo each other, and what is read has 10 digits at most.
+use Rattle.std.specs.Prelude.{Some, None}
 use mathlib.Core.Path.{◌≡◌, refl, ap, subst, ◌∙◌}
 use mathlib.Core.Bool.{true, false}
 use mathlib.Core.List.{List, [], ◌∷◌, ◌++◌, append_assoc}
@@ -11,9 +12,7 @@ use borrow.Author.Tests.{le-leb, lt-leb, ne_eqb, eqb-true, eqb-false, leb-false}
 use Rattle.num_working.proofs.Cases.{by_test}
 use Rattle.sheet_text.specs.Parse.{byte}
 use Rattle.sheet_text.specs.Decimal.{decimal}
-use Rattle.sheet_text.specs.Field.{Small, digit, field_text, field, digits_after, field_to, field_after}
-use Rattle.sheet_text.specs.declared.Field.{Field}
-use Rattle.sheet_text.specs.declared.Field.TheVariants.{Blank, Number}
+use Rattle.sheet_text.specs.Field.{Small, digit, field_text, field, digits_after, field_to, field_after, Field}
 use Rattle.sheet_text.proofs.Decimals.{decimal_small, decimal_large}
 use Rattle.sheet_text.proofs.Parses.{All, bind_all, pass_all, Says, then_says, longer_says, byte_back, byte_says}
 use Rattle.sheet_text.proofs.Fields.{digit_low, digit_high, to_some}
@@ -45,14 +44,14 @@ digits_back (suc k) n h g u =
           (digits_back k (n / 10) (omega arith) (omega arith) ((48 + n % 10) ∷ u) ∙ more_digits n (omega arith) g u)
     ]
 
-digits_end : (n sep : ℕ) → digit sep ≡ false → (rest : List ℕ) → digits_after n (sep ∷ rest) ≡ some (Number n, sep ∷ rest)
+digits_end : (n sep : ℕ) → digit sep ≡ false → (rest : List ℕ) → digits_after n (sep ∷ rest) ≡ some (Some n, sep ∷ rest)
 unfolding digits_after
 digits_end n sep e rest = rw e
 
 pub field_back : (sep : ℕ) → digit sep ≡ false → (f : Field) → Small f → (rest : List ℕ) → field (field_text f ++ (sep ∷ rest)) ≡ some (f, sep ∷ rest)
 unfolding field field_text
-field_back sep e Blank h rest = refl
-field_back sep e (Number n) h rest = digits_back n n (omega arith) h (sep ∷ rest) ∙ digits_end n sep e rest
+field_back sep e None h rest = refl
+field_back sep e (Some n) h rest = digits_back n n (omega arith) h (sep ∷ rest) ∙ digits_end n sep e rest
 
 pub to_back : (sep : ℕ) → digit sep ≡ false → (f : Field) → Small f → (rest : List ℕ) → field_to sep (field_text f ++ (sep ∷ rest)) ≡ some (f, rest)
 to_back sep e f h rest = to_some sep _ (field_back sep e f h rest) (byte_back sep rest)

@@ -2,7 +2,7 @@
 use contract.Lifetimes.{Lfts}
 use Rattle.num_working.proofs.Unique.{OneAnswer}
 use Rattle.sheet_text.specs.declared.FieldAt.{FieldAt}
-use Rattle.sheet_text.specs.declared.Place.{Place}
+use Rattle.sheet_text.specs.Place.{Place}
 use Rattle.sheet_text.proofs.Places.{field_is_once, place_is_once}
 use Rattle.sheet_text.proofs.skip.Reads as skip
 use Rattle.sheet_text.proofs.read_field_to.Reads as read_field_to

@@ -7,12 +7,6 @@ ghost use Rattle.sheet_text.specs.Parse.{byte};
 ghost use Rattle.sheet_text.specs.Field.{digit, field, field_to, field_after};
 ghost use Rattle.sheet_text.specs.Place.{FieldIs, PlaceIs};
 
-#[derive(Clone, Copy)]
-pub enum Field {
-    Blank,
-    Number(u64),
-}
-
 // A field and the place after it.
 #[derive(Clone, Copy)]
 pub enum FieldAt {
@@ -21,12 +15,6 @@ pub enum FieldAt {
 }
 
 // The place after a byte.
-#[derive(Clone, Copy)]
-pub enum Place {
-    Bad,
-    At(usize),
-}
-
 fn is_digit(b: u8) -> bool
     ensures { result ≡ digit b }
 {
@@ -49,7 +37,7 @@ fn read_field(s: &[u8], at: usize) -> FieldAt
     }
     let b = s[at];
     if b == b'-' {
-        return FieldAt::Found(Field::Blank, at + 1);
+        return FieldAt::Found(None, at + 1);
     }
     if !is_digit(b) {
         return FieldAt::Bad;
@@ -59,7 +47,7 @@ fn read_field(s: &[u8], at: usize) -> FieldAt
     while i < s.len() {
         let d = s[i];
         if !is_digit(d) {
-            return FieldAt::Found(Field::Number(v), i);
+            return FieldAt::Found(Some(v), i);
         }
         if v == 0 {
             return FieldAt::Bad;
@@ -71,20 +59,20 @@ fn read_field(s: &[u8], at: usize) -> FieldAt
         v = next;
         i += 1;
     }
-    FieldAt::Found(Field::Number(v), i)
+    FieldAt::Found(Some(v), i)
 }
 
 // Past the one byte b.
-pub fn skip(s: &[u8], at: usize, b: u8) -> Place
+pub fn skip(s: &[u8], at: usize, b: u8) -> Option<usize>
     ensures { PlaceIs s.now at (byte b (drop at s.now)) result }
 {
     if at >= s.len() {
-        return Place::Bad;
+        return None;
     }
     if s[at] == b {
-        return Place::At(at + 1);
+        return Some(at + 1);
     }
-    Place::Bad
+    None
 }
 
 // A field and the byte that ends it.
@@ -94,7 +82,7 @@ pub fn read_field_to(s: &[u8], at: usize, end: u8) -> FieldAt
     let FieldAt::Found(f, n) = read_field(s, at) else {
         return FieldAt::Bad;
     };
-    let Place::At(next) = skip(s, n, end) else {
+    let Some(next) = skip(s, n, end) else {
         return FieldAt::Bad;
     };
     FieldAt::Found(f, next)
@@ -104,10 +92,10 @@ pub fn read_field_to(s: &[u8], at: usize, end: u8) -> FieldAt
 pub fn read_field_after(s: &[u8], at: usize, letter: u8, end: u8) -> FieldAt
     ensures { FieldIs s.now at (field_after letter end (drop at s.now)) result }
 {
-    let Place::At(space) = skip(s, at, letter) else {
+    let Some(space) = skip(s, at, letter) else {
         return FieldAt::Bad;
     };
-    let Place::At(next) = skip(s, space, b' ') else {
+    let Some(next) = skip(s, space, b' ') else {
         return FieldAt::Bad;
     };
     read_field_to(s, next, end)

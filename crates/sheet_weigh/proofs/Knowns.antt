@@ -1,4 +1,5 @@
 -- The cylinder numbers that were read so far, in an array of 32. Assumes nothing.
+use Rattle.std.specs.Prelude.{Some, None}
 use mathlib.Core.Path.{◌≡◌, refl, sym, ◌∙◌}
 use mathlib.Core.List.{List, [], ◌∷◌, ◌++◌, append-nil}
 use Prim.Native.Nat.{ℕ, ◌+◌, ◌≤◌, ◌<◌}
@@ -6,7 +7,7 @@ use native.Mathlib.Numerals.{add-one}
 use native.Mathlib.Omega.{arith}
 use lib.ListN.{length, take, get_or, set, length-append, length-take}
 use lib.Seq.{take-suc}
-use Rattle.sheet_text.specs.declared.Field.{Field}
+use Rattle.sheet_text.specs.Field.{Field}
 use Rattle.sheet_line.specs.declared.line.Line.{Line}
 use Rattle.sheet_read.specs.Padded.{padded}
 use Rattle.sheet_read.proofs.Paddings.{padded_length, padded_set, taken_back}
@@ -38,13 +39,13 @@ module _ {ls : List Line} {i : ℕ} {ns : List ℕ} {known : ℕ} (k : Known ls 
     more : numbers (take (i + 1) ls) ≡ numbers (take i ls) ++ numbers (get_or ls i d ∷ [])
     more = rw (add-one, take-suc ls i d h) (numbers_joined (take i ls) (get_or ls i d ∷ []))
 
-    pub one_blank : (get_or ls i d).number ≡ Field.Blank → Known ls (i + 1) ns known
+    pub one_blank : (get_or ls i d).number ≡ None → Known ls (i + 1) ns known
     unfolding numbers
     one_blank e =
         let same : numbers (take (i + 1) ls) ≡ numbers (take i ls) = more ∙ rw e (append-nil (numbers (take i ls))) in
         record { all = rw same k.all; count = rw same k.count }
 
-    pub one_known : (x : ℕ) → i < 32 → (get_or ls i d).number ≡ Field.Number x → Known ls (i + 1) (set ns known x) (known + 1)
+    pub one_known : (x : ℕ) → i < 32 → (get_or ls i d).number ≡ Some x → Known ls (i + 1) (set ns known x) (known + 1)
     unfolding numbers
     one_known x room e =
         let joined : numbers (take (i + 1) ls) ≡ numbers (take i ls) ++ (x ∷ []) = more ∙ rw e refl in

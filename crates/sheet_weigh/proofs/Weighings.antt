@@ -8,8 +8,7 @@ use lib.IntN.{pos}
 use lib.Ieee.{Float, binary64, mul, in_float}
 use borrow.Author.Tests.{leb-true}
 use Rattle.num_working.specs.Number.{whole}
-use Rattle.num_whole.specs.Whole.{whole_below}
-use Rattle.num_whole.specs.declared.Below.{Below}
+use Rattle.num_whole.specs.Whole.{whole_below, Below}
 use Rattle.sheet_outcome.specs.declared.Weighed.{Weighed}
 use Rattle.sheet_weigh.specs.Weighing.{is_volume, filled, mass, milligrams}
 

@@ -1,4 +1,5 @@
 -- A line's milligrams are below 2⁵³, whatever its figures are. Assumes nothing.
+use Rattle.std.specs.Prelude.{Some, None}
 use mathlib.Core.Path.{◌≡◌, refl}
 use mathlib.Core.List.{List}
 use Prim.Native.Nat.{ℕ, ◌^◌, ◌<◌}
@@ -6,8 +7,7 @@ use native.Mathlib.Omega.{arith}
 use lib.Ieee.{Float, binary64, mul}
 use Rattle.num_working.specs.Number.{whole}
 use Rattle.num_working.proofs.Cases.{by_test}
-use Rattle.num_whole.specs.Whole.{whole_below}
-use Rattle.num_whole.specs.declared.Below.{Below}
+use Rattle.num_whole.specs.Whole.{whole_below, Below}
 use Rattle.num_whole.proofs.Wholes.{is_at_or_below}
 use Rattle.equation.specs.Equation.{of1996}
 use Rattle.door_limits.specs.declared.Limits.{Limits}
@@ -15,11 +15,10 @@ use Rattle.door_checks.specs.declared.Check.{Check}
 use Rattle.door_answers.specs.declared.Answer.{Answer}
 use Rattle.door_pressure.specs.PressureDoor.{pressure_door}
 use Rattle.door_density.specs.DensityDoor.{density_door}
-use Rattle.sheet_text.specs.declared.Field.{Field}
-use Rattle.sheet_mass.specs.Mass.{from_scale}
-use Rattle.sheet_mass.specs.declared.Scaled.{Scaled}
+use Rattle.sheet_text.specs.Field.{Field}
+use Rattle.sheet_mass.specs.Mass.{from_scale, Scaled}
 use Rattle.sheet_mass.proofs.Masses.{Most, scaled_most}
-use Rattle.sheet_line.specs.declared.line.Temperature.{Temperature}
+use Rattle.sheet_line.specs.Line.{Temperature}
 use Rattle.sheet_line.specs.declared.line.Reading.{Reading}
 use Rattle.sheet_line.specs.declared.line.Line.{Line}
 use Rattle.sheet_standing.specs.Standing.{standing}
@@ -32,8 +31,8 @@ Under (Weighed.Mass mg) = mg.0 < 2 ^ 53
 Under (Weighed.Refused n) = Unit {0}
 
 mass_under : (x : Float) (b : Below) → whole_below x ≡ b → Under (mass b)
-mass_under x (Below.At n) e = (is_at_or_below x n e).2
-mass_under x Below.Out e = tt
+mass_under x (Some n) e = (is_at_or_below x n e).2
+mass_under x None e = tt
 
 answered_under : (a : Answer) (v : ℕ) → Under (by_answer a v)
 unfolding milligrams
@@ -41,16 +40,16 @@ answered_under (Answer.State s) v = let x = mul binary64 s.rho (whole v) in mass
 answered_under (Answer.Refused n) v = tt
 
 number_under : (f : Field) (g : ℕ → Weighed) → ((n : ℕ) → Under (g n)) → Under (if_number f g)
-number_under Field.Blank g h = tt
-number_under (Field.Number n) g h = h n
+number_under None g h = tt
+number_under (Some n) g h = h n
 
 kelvin_under : (k : Temperature) (g : Float → Weighed) → ((t : Float) → Under (g t)) → Under (if_kelvin k g)
-kelvin_under Temperature.Blank g h = tt
-kelvin_under (Temperature.Kelvin t) g h = h t
+kelvin_under None g h = tt
+kelvin_under (Some t) g h = h t
 
 scaled_under : (s : Scaled) → Most s → Under (on_scale s)
-scaled_under (Scaled.At mg) h = omega (arith, h)
-scaled_under Scaled.Out h = tt
+scaled_under (Some mg) h = omega (arith, h)
+scaled_under None h = tt
 
 filled_under : (v : ℕ) (w : Weighed) → Under w → Under (filled v w)
 unfolding filled

@@ -1,20 +1,18 @@
 -- RULES 3.2: a line's working, refused by 1, then by 30, then by 2, then by 23, then by what its door says, then by 7 of the product. Definitions only.
-use Rattle.std.specs.Prelude.{ℕ, Bool, cond, ◌&&◌, List, leb, Float}
+use Rattle.std.specs.Prelude.{ℕ, Bool, cond, ◌&&◌, List, leb, Float, Some, None}
 use Rattle.std.specs.Float.{binary64}
 use Rattle.std.specs.Float.Ieee.{mul}
 use Rattle.num_working.specs.Number.{whole}
-use Rattle.num_whole.specs.Whole.{whole_below}
-use Rattle.num_whole.specs.declared.Below.{Below}
+use Rattle.num_whole.specs.Whole.{whole_below, Below}
 use Rattle.equation.specs.Equation.{of1996}
 use Rattle.door_limits.specs.declared.Limits.{Limits}
 use Rattle.door_checks.specs.declared.Check.{Check}
 use Rattle.door_answers.specs.declared.Answer.{Answer}
 use Rattle.door_pressure.specs.PressureDoor.{pressure_door}
 use Rattle.door_density.specs.DensityDoor.{density_door}
-use Rattle.sheet_text.specs.declared.Field.{Field}
-use Rattle.sheet_mass.specs.Mass.{as_milligrams, from_scale}
-use Rattle.sheet_mass.specs.declared.Scaled.{Scaled}
-use Rattle.sheet_line.specs.declared.line.Temperature.{Temperature}
+use Rattle.sheet_text.specs.Field.{Field}
+use Rattle.sheet_mass.specs.Mass.{as_milligrams, from_scale, Scaled}
+use Rattle.sheet_line.specs.Line.{Temperature}
 use Rattle.sheet_line.specs.declared.line.Reading.{Reading}
 use Rattle.sheet_line.specs.declared.line.Line.{Line}
 use Rattle.sheet_standing.specs.Standing.{standing}
@@ -29,12 +27,12 @@ if_passed Check.Passed w = w
 -- ---- 1: a field that the line requires is blank
 
 abbrev pub if_number : Field → (ℕ → Weighed) → Weighed
-if_number Field.Blank f = Weighed.Refused 1
-if_number (Field.Number n) f = f n
+if_number None f = Weighed.Refused 1
+if_number (Some n) f = f n
 
 abbrev pub if_kelvin : Temperature → (Float → Weighed) → Weighed
-if_kelvin Temperature.Blank f = Weighed.Refused 1
-if_kelvin (Temperature.Kelvin t) f = f t
+if_kelvin None f = Weighed.Refused 1
+if_kelvin (Some t) f = f t
 
 -- ---- 2: the volume is out of its range
 
@@ -48,15 +46,15 @@ filled v w = cond (is_volume v) w (Weighed.Refused 2)
 -- ---- RULES 6.7: what the scale showed; 23 where it is out of its range
 
 abbrev pub on_scale : Scaled → Weighed
-on_scale (Scaled.At mg) = Weighed.Mass mg
-on_scale Scaled.Out = Weighed.Refused 23
+on_scale (Some mg) = Weighed.Mass mg
+on_scale None = Weighed.Refused 23
 
 -- ---- RULES 6.5: what the door answers
 
 -- the whole number at or below a product; 7 where the product is below 0, or 2⁵³ and more, or not a number
 abbrev pub mass : Below → Weighed
-mass (Below.At mg) = Weighed.Mass (as_milligrams mg)
-mass Below.Out = Weighed.Refused 7
+mass (Some mg) = Weighed.Mass (as_milligrams mg)
+mass None = Weighed.Refused 7
 
 -- of ρ times the volume, one product
 unfoldable pub milligrams : Float → ℕ → Weighed

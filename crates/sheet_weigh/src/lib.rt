@@ -15,13 +15,12 @@ use door_checks::{Check, number_of};
 use door_density::from_density;
 use door_limits::Limits;
 use door_pressure::from_pressure;
-use num_whole::{Below, whole_below};
-use sheet_line::line::{Line, Reading, Temperature};
-use sheet_mass::{Grams, Milligrams, Scaled, from_scale};
-use sheet_outcome::{Admitted, Ending, Mark, Marks, Outcome, Summed, Weighed, admit, conclude};
+use num_whole::{whole_below};
+use sheet_line::line::{Line, Reading};
+use sheet_mass::{Grams, Milligrams, from_scale};
+use sheet_outcome::{Admitted, Ending, Mark, Marks, Outcome, Weighed, admit, conclude};
 use sheet_read::{Sheet, SheetRead};
 use sheet_standing::standing_of;
-use sheet_text::Field;
 
 pub fn is_volume(v: u64) -> bool
     ensures { result ≡ is_volume v }
@@ -33,7 +32,7 @@ fn milligrams(rho: f64, v: u64) -> Weighed
     requires { v ≤ 1_000_000 }
     ensures { result ≡ milligrams rho v }
 {
-    let Below::At(mg) = whole_below(rho * (v as f64)) else {
+    let Some(mg) = whole_below(rho * (v as f64)) else {
         return Weighed::Refused(7);
     };
     Weighed::Mass(Milligrams(mg))
@@ -50,10 +49,10 @@ fn by_answer(a: Answer, v: u64) -> Weighed
     milligrams(s.rho, v)
 }
 
-fn by_pressure(limits: Limits, k: Temperature, p: f64, v: u64) -> Weighed
+fn by_pressure(limits: Limits, k: Option<f64>, p: f64, v: u64) -> Weighed
     ensures { result ≡ by_reading limits k v (Reading.Pressure p) }
 {
-    let Temperature::Kelvin(t) = k else {
+    let Some(t) = k else {
         return Weighed::Refused(1);
     };
     if !is_volume(v) {
@@ -62,10 +61,10 @@ fn by_pressure(limits: Limits, k: Temperature, p: f64, v: u64) -> Weighed
     by_answer(from_pressure(limits, t, p), v)
 }
 
-fn by_density(limits: Limits, k: Temperature, d: f64, v: u64) -> Weighed
+fn by_density(limits: Limits, k: Option<f64>, d: f64, v: u64) -> Weighed
     ensures { result ≡ by_reading limits k v (Reading.Density d) }
 {
-    let Temperature::Kelvin(t) = k else {
+    let Some(t) = k else {
         return Weighed::Refused(1);
     };
     if !is_volume(v) {
@@ -81,14 +80,14 @@ fn by_scale(g: Grams, v: u64) -> Weighed
     if !is_volume(v) {
         return Weighed::Refused(2);
     }
-    let Scaled::At(mg) = from_scale(g) else {
+    let Some(mg) = from_scale(g) else {
         return Weighed::Refused(23);
     };
     Weighed::Mass(mg)
 }
 
 // A reading that asks a door takes the temperature with it.
-fn by_reading(limits: Limits, k: Temperature, v: u64, r: Reading) -> Weighed
+fn by_reading(limits: Limits, k: Option<f64>, v: u64, r: Reading) -> Weighed
     ensures { result ≡ by_reading limits k v r }
 {
     match r {
@@ -106,10 +105,10 @@ pub fn weigh(limits: Limits, l: Line) -> Weighed
     let volume = l.volume;
     let temperature = l.temperature;
     let reading = l.reading;
-    let Field::Number(_) = number else {
+    let Some(_) = number else {
         return Weighed::Refused(1);
     };
-    let Field::Number(v) = volume else {
+    let Some(v) = volume else {
         return Weighed::Refused(1);
     };
     by_reading(limits, temperature, v, reading)
@@ -144,7 +143,7 @@ fn weigh_all(limits: Limits, s: Sheet) -> Marks
         let number = l.number;
         let w = weigh_after(limits, &numbers[..known], l);
         marks[i - 1] = Mark { weighed: w };
-        if let Field::Number(x) = number {
+        if let Some(x) = number {
             numbers[known] = x;
             known += 1;
         }
@@ -156,7 +155,7 @@ fn weigh_all(limits: Limits, s: Sheet) -> Marks
     }
 }
 
-fn total(m: Marks) -> Summed
+fn total(m: Marks) -> Option<Milligrams>
     requires count_bound { m.count ≤ 32 }
     requires light { Light (marks_of m) }
     ensures { result ≡ total (marks_of m) }
@@ -168,12 +167,12 @@ fn total(m: Marks) -> Summed
         let mark = m.marks[i];
         let w = mark.weighed;
         let Weighed::Mass(mg) = w else {
-            return Summed::Refused;
+            return None;
         };
         sum += mg.0;
         i += 1;
     }
-    Summed::Sum(Milligrams(sum))
+    Some(Milligrams(sum))
 }
 
 // A sheet that is sent back before its lines are worked.

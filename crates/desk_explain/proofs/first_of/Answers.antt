@@ -2,5 +2,5 @@
 use mathlib.Core.Path.{◌∙◌}
 use Rattle.desk_explain.proofs.first_of.Goals as goal
 
-pub returns-in-Number : goal.returns-in-Number
-returns-in-Number c = c.first_with.ensures ∙ rw c.in-Number.is
+pub returns-in-Some : goal.returns-in-Some
+returns-in-Some c = c.first_with.ensures ∙ rw c.in-Some.is

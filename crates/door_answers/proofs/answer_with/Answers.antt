@@ -3,5 +3,5 @@ use mathlib.Core.Path.{sym, ap}
 use Rattle.door_answers.specs.Answer.{answer_with}
 use Rattle.door_answers.proofs.answer_with.Goals as goal
 
-pub returns-in-Known : goal.returns-in-Known
-returns-in-Known c = sym (ap answer_with c.in-Known.is)
+pub returns-in-Some : goal.returns-in-Some
+returns-in-Some c = sym (ap answer_with c.in-Some.is)

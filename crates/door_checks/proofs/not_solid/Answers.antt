@@ -9,8 +9,8 @@ returns-in_default c = rw c.in_default.is refl
 
 pub returns-then-m-p : goal.returns-then-m-p
 unfolding solid
-returns-then-m-p c = rw (c.in-Number.is, c.if-m-p.true) refl
+returns-then-m-p c = rw (c.in-Some.is, c.if-m-p.true) refl
 
 pub returns : goal.returns
 unfolding solid
-returns c = rw (c.in-Number.is, c.if-m-p.false) refl
+returns c = rw (c.in-Some.is, c.if-m-p.false) refl

@@ -9,4 +9,4 @@ returns-in_default c = rw (sym c.conductivity_at.ensures ∙ c.in_default.is) re
 
 pub returns : goal.returns
 unfolding conducted.conducting
-returns c = rw (sym c.conductivity_at.ensures ∙ c.in-Number.is) refl
+returns c = rw (sym c.conductivity_at.ensures ∙ c.in-Some.is) refl

@@ -1,7 +1,7 @@
 -- Each step is the definition's. Assumes nothing.
+use Rattle.std.specs.Prelude.{Some}
 use mathlib.Core.Path.{◌≡◌, sym, ap, ◌∙◌}
 use mathlib.Core.Bool.{false}
-use Rattle.num_working.specs.declared.Worked.TheVariants.{Number}
 use Rattle.equation.specs.Equation.{of1996}
 use Rattle.equation.proofs.Curves.{on_curve, state_on_curve}
 use Rattle.door_limits.specs.Limits.{outside}
@@ -16,13 +16,13 @@ worked : (c : After-pressure_on) → (let a = c.args in of1996.pressure a.t a.rh
 worked c = rw (← on_curve c.args.t, ← c.curve_at-curve.ensures) (sym c.pressure_on.ensures)
 
 -- past 5: the pressure is a number, and lies in its range; and the check of the melting line that was made
-number_is : (c : After-not_solid-c) → (let a = c.args in of1996.pressure a.t a.rho ≡ Number c.in-Number.p)
-number_is c = worked c.before.before.before.before.before.before ∙ c.in-Number.is
+number_is : (c : After-not_solid-c) → (let a = c.args in of1996.pressure a.t a.rho ≡ Some c.in-Some.p)
+number_is c = worked c.before.before.before.before.before.before ∙ c.in-Some.is
 
-inside : (c : After-not_solid-c) → (outside c.args.l.asked.pressure c.in-Number.p ≡ false)
+inside : (c : After-not_solid-c) → (outside c.args.l.asked.pressure c.in-Some.p ≡ false)
 inside c = sym c.is_outside.ensures ∙ c.if-is_outside.false
 
-check_is : (c : After-not_solid-c) → (solid (of1996.melting_pressure c.args.t) c.in-Number.p ≡ c.not_solid-c.result)
+check_is : (c : After-not_solid-c) → (solid (of1996.melting_pressure c.args.t) c.in-Some.p ≡ c.not_solid-c.result)
 check_is c = rw (← c.melting_pressure.ensures) (sym c.not_solid-c.ensures)
 
 pub returns-in_default : goal.returns-in_default
@@ -32,7 +32,7 @@ returns-in_default c = rw (worked (goal.at.returns-in_default c).After-pressure_
 pub returns-then-is_outside : goal.returns-then-is_outside
 unfolding in_phase
 returns-then-is_outside c =
-    rw (worked (goal.at.returns-then-is_outside c).After-pressure_on ∙ c.in-Number.is, sym c.is_outside.ensures ∙ c.if-is_outside.true)
+    rw (worked (goal.at.returns-then-is_outside c).After-pressure_on ∙ c.in-Some.is, sym c.is_outside.ensures ∙ c.if-is_outside.true)
 
 pub returns-in_default-c : goal.returns-in_default-c
 unfolding in_phase

@@ -18,11 +18,11 @@ returns-in_default c = rw (end_is (goal.at.returns-in_default c).After-scaled �
 
 pub search_at-requires : goal.search_at-requires
 search_at-requires c =
-    let x = scaled_reached search_ends.liquid _ _ searchable.liquid (lawful.liquid _) (end_is (goal.at.search_at-requires c).After-scaled ∙ c.in-Number.is) in
+    let x = scaled_reached search_ends.liquid _ _ searchable.liquid (lawful.liquid _) (end_is (goal.at.search_at-requires c).After-scaled ∙ c.in-Some.is) in
     let s = subst Searchable (sym c.search_ends-ends.ensures) searchable in
     record { t = x.nonneg; t_2 = s.to.nonneg; t_3 = s.to.fits }
 
 pub returns : goal.returns
 unfolding liquid
 returns c =
-    c.search_at.ensures ∙ rw (c.search_ends-ends.ensures, end_is (goal.at.returns c).After-scaled ∙ c.in-Number.is)
+    c.search_at.ensures ∙ rw (c.search_ends-ends.ensures, end_is (goal.at.returns c).After-scaled ∙ c.in-Some.is)

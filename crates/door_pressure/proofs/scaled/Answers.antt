@@ -9,4 +9,4 @@ returns-in_default c = rw c.in_default.is
 
 pub returns : goal.returns
 unfolding value
-returns c = rw c.in-Number.is (sym (tested _ _ _ refl c.checked.ensures))
+returns c = rw c.in-Some.is (sym (tested _ _ _ refl c.checked.ensures))

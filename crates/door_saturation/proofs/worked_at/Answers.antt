@@ -10,14 +10,14 @@ returns-in_default c = rw (sym c.vapour_pressure.ensures ∙ c.in_default.is) re
 pub returns-in_default-vapour_density : goal.returns-in_default-vapour_density
 unfolding worked_at
 returns-in_default-vapour_density c =
-    rw (sym c.vapour_pressure.ensures ∙ c.in-Number.is, sym c.vapour_density.ensures ∙ c.in_default-vapour_density.is) refl
+    rw (sym c.vapour_pressure.ensures ∙ c.in-Some.is, sym c.vapour_density.ensures ∙ c.in_default-vapour_density.is) refl
 
 pub returns-in_default-liquid_density : goal.returns-in_default-liquid_density
 unfolding worked_at
 returns-in_default-liquid_density c =
     rw (
-      sym c.vapour_pressure.ensures ∙ c.in-Number.is,
-      sym c.vapour_density.ensures ∙ c.in-Number-vapour_density.is,
+      sym c.vapour_pressure.ensures ∙ c.in-Some.is,
+      sym c.vapour_density.ensures ∙ c.in-Some-vapour_density.is,
       sym c.liquid_density.ensures ∙ c.in_default-liquid_density.is,
     )
     refl
@@ -26,8 +26,8 @@ pub returns : goal.returns
 unfolding worked_at
 returns c =
     rw (
-      sym c.vapour_pressure.ensures ∙ c.in-Number.is,
-      sym c.vapour_density.ensures ∙ c.in-Number-vapour_density.is,
-      sym c.liquid_density.ensures ∙ c.in-Number-liquid_density.is,
+      sym c.vapour_pressure.ensures ∙ c.in-Some.is,
+      sym c.vapour_density.ensures ∙ c.in-Some-vapour_density.is,
+      sym c.liquid_density.ensures ∙ c.in-Some-liquid_density.is,
     )
     refl

@@ -7,8 +7,8 @@ use Rattle.eos_densities.proofs.above_zero.Goals as goal
 
 pub returns-then-x : goal.returns-then-x
 unfolding of_bits of_int whole
-returns-then-x c = simp c.if-x.true at (sym (ap above_zero c.in-Number.is))
+returns-then-x c = simp c.if-x.true at (sym (ap above_zero c.in-Some.is))
 
 pub returns-else-x : goal.returns-else-x
 unfolding of_bits of_int whole
-returns-else-x c = simp c.if-x.false at (sym (ap above_zero c.in-Number.is))
+returns-else-x c = simp c.if-x.false at (sym (ap above_zero c.in-Some.is))

@@ -1,6 +1,6 @@
 -- One test at the end of each stands for all. Assumes nothing.
 use mathlib.Core.Path.{◌≡◌, ◌∙◌}
-use Rattle.num_working.specs.declared.Worked.{Worked}
+use Rattle.num_working.specs.Working.{Worked}
 use Rattle.num_formulas.specs.Formula.{num, ◌⊗◌, value}
 use Rattle.num_formulas.proofs.Formulas.{once}
 use Rattle.eos_ideal.specs.declared.Ideal.{Ideal}

@@ -17,10 +17,10 @@ returns-in_default c = rw (delta_is (goal.at.returns-in_default c).After-checked
 pub returns-in_default-slope_at : goal.returns-in_default-slope_at
 unfolding pressure_on
 returns-in_default-slope_at c =
-    rw (delta_is (goal.at.returns-in_default-slope_at c).After-checked ∙ c.in-Number.is, sym c.slope_at.ensures ∙ c.in_default-slope_at.is)
+    rw (delta_is (goal.at.returns-in_default-slope_at c).After-checked ∙ c.in-Some.is, sym c.slope_at.ensures ∙ c.in_default-slope_at.is)
 
 pub returns : goal.returns
 unfolding pressure_on
 returns c =
-    rw (delta_is (goal.at.returns c).After-checked ∙ c.in-Number.is, sym c.slope_at.ensures ∙ c.in-Number-slope_at.is)
+    rw (delta_is (goal.at.returns c).After-checked ∙ c.in-Some.is, sym c.slope_at.ensures ∙ c.in-Some-slope_at.is)
     (sym (tested _ _ _ c.pressure_of.ensures c.checked-2.ensures))

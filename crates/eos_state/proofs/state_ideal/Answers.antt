@@ -12,10 +12,10 @@ pub returns-in_default-second : goal.returns-in_default-second
 unfolding state_ideal
 returns-in_default-second c =
     let i = c.ideal_part-i.ensures in
-    rw (sym (ap (λ (i : Ideal). i.first) i) ∙ c.in-Number.is, sym (ap (λ (i : Ideal). i.second) i) ∙ c.in_default-second.is)
+    rw (sym (ap (λ (i : Ideal). i.first) i) ∙ c.in-Some.is, sym (ap (λ (i : Ideal). i.second) i) ∙ c.in_default-second.is)
 
 pub returns : goal.returns
 unfolding state_ideal
 returns c =
     let i = c.ideal_part-i.ensures in
-    c.state_of.ensures ∙ rw (sym (ap (λ (i : Ideal). i.first) i) ∙ c.in-Number.is, sym (ap (λ (i : Ideal). i.second) i) ∙ c.in-Number-second.is)
+    c.state_of.ensures ∙ rw (sym (ap (λ (i : Ideal). i.first) i) ∙ c.in-Some.is, sym (ap (λ (i : Ideal). i.second) i) ∙ c.in-Some-second.is)

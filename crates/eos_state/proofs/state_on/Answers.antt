@@ -19,14 +19,14 @@ returns-in_default c = rw (delta_is (goal.at.returns-in_default c).After-checked
 pub returns-in_default-summed : goal.returns-in_default-summed
 unfolding state_on residual_part
 returns-in_default-summed c =
-    rw (delta_is (goal.at.returns-in_default-summed c).After-checked ∙ c.in-Number.is, sym (ap (λ (r : Residual). r.sums) c.residual_part-r.ensures) ∙ c.in_default-summed.is)
+    rw (delta_is (goal.at.returns-in_default-summed c).After-checked ∙ c.in-Some.is, sym (ap (λ (r : Residual). r.sums) c.residual_part-r.ensures) ∙ c.in_default-summed.is)
 
 pub returns : goal.returns
 unfolding state_on residual_part
 returns c =
     c.state_ideal.ensures
     ∙ rw (
-      delta_is (goal.at.returns c).After-checked ∙ c.in-Number.is,
-      sym (ap (λ (r : Residual). r.sums) c.residual_part-r.ensures) ∙ c.in-Summed.is,
+      delta_is (goal.at.returns c).After-checked ∙ c.in-Some.is,
+      sym (ap (λ (r : Residual). r.sums) c.residual_part-r.ensures) ∙ c.in-Some.is,
       ap (λ (r : Residual). r.fallen) c.residual_part-r.ensures,
     )

@@ -1,15 +1,13 @@
 -- Three numbers at a time, a state is known where each is finite. Assumes nothing.
+use Rattle.std.specs.Prelude.{Some, None}
 use mathlib.Core.Path.{◌≡◌, refl, sym, ap, ◌∙◌}
 use mathlib.Core.Bool.{Bool, true, false, cond, ◌&&◌}
 use lib.Ieee.{Float}
 use lib.Ieee.Scale.{finite}
 use Rattle.num_working.specs.Working.{checked, or_else}
-use Rattle.num_working.specs.declared.Worked.TheVariants.{Number}
 use Rattle.num_working.proofs.Cases.{tested_choice}
-use Rattle.eos_state.specs.State.{stated}
+use Rattle.eos_state.specs.State.{stated, Stated}
 use Rattle.eos_state.specs.declared.State.{State}
-use Rattle.eos_state.specs.declared.Stated.{Stated}
-use Rattle.eos_state.specs.declared.Stated.TheVariants.{Known, Unknown}
 use Rattle.eos_state.proofs.tested.Goals as goal
 
 merged : (a b c : Bool) (x z : Stated) → cond a (cond b (cond c x z) z) z ≡ cond (a && (b && c)) x z
@@ -18,10 +16,10 @@ merged true false c x z = refl
 merged false b c x z = refl
 
 three : (x y z : Float) (f : Float → Float → Float → Stated)
-    → or_else (checked x) Unknown (λ x. or_else (checked y) Unknown (λ y. or_else (checked z) Unknown (λ z. f x y z)))
-    ≡ cond (finite x && (finite y && finite z)) (f x y z) Unknown
+    → or_else (checked x) None (λ x. or_else (checked y) None (λ y. or_else (checked z) None (λ z. f x y z)))
+    ≡ cond (finite x && (finite y && finite z)) (f x y z) None
 three x y z f =
-    tested_choice x Unknown _ ∙ rw (tested_choice y Unknown _, tested_choice z Unknown _) (merged (finite x) (finite y) (finite z) (f x y z) Unknown)
+    tested_choice x None _ ∙ rw (tested_choice y None _, tested_choice z None _) (merged (finite x) (finite y) (finite z) (f x y z) None)
 
 abbrev all_tested : State → Stated
 all_tested x = stated x.phase x.fallen x.t x.rho (checked x.p) (checked x.u) (checked x.h) (checked x.cv) (checked x.cp) (checked x.w)
@@ -29,13 +27,13 @@ all_tested x = stated x.phase x.fallen x.t x.rho (checked x.p) (checked x.u) (ch
 -- by two tests of three numbers each
 choice : (x : State)
     → all_tested x
-    ≡ cond (finite x.p && (finite x.u && finite x.h)) (cond (finite x.cv && (finite x.cp && finite x.w)) (Known x) Unknown) Unknown
+    ≡ cond (finite x.p && (finite x.u && finite x.h)) (cond (finite x.cv && (finite x.cp && finite x.w)) (Some x) None) None
 choice x =
     three x.p x.u x.h
-    (λ p u h. stated x.phase x.fallen x.t x.rho (Number p) (Number u) (Number h) (checked x.cv) (checked x.cp) (checked x.w))
-    ∙ ap (λ (s : Stated). cond (finite x.p && (finite x.u && finite x.h)) s Unknown)
+    (λ p u h. stated x.phase x.fallen x.t x.rho (Some p) (Some u) (Some h) (checked x.cv) (checked x.cp) (checked x.w))
+    ∙ ap (λ (s : Stated). cond (finite x.p && (finite x.u && finite x.h)) s None)
     (three x.cv x.cp x.w
-    (λ cv cp w. Known (record { t = x.t; p = x.p; rho = x.rho; u = x.u; h = x.h; cv = cv; cp = cp; w = w; phase = x.phase; fallen = x.fallen })))
+    (λ cv cp w. Some (record { t = x.t; p = x.p; rho = x.rho; u = x.u; h = x.h; cv = cv; cp = cp; w = w; phase = x.phase; fallen = x.fallen })))
 
 pub returns-then-are_finite-2 : goal.returns-then-are_finite-2
 returns-then-are_finite-2 c =

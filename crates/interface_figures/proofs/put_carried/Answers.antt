@@ -10,4 +10,4 @@ returns-in_default c =
 pub returns : goal.returns
 returns c =
     let a = c.args in
-    asked_in _ _ _ a.c _ _ c.in-Is.is c.put_counted-number.ensures c.put_at.ensures
+    asked_in _ _ _ a.c _ _ c.in-Some.is c.put_counted-number.ensures c.put_at.ensures

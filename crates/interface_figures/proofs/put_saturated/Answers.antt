@@ -8,10 +8,10 @@ use Rattle.interface_figures.proofs.put_saturated.Goals as goal
 pub returns-then-figures-lt3 : goal.returns-then-figures-lt3
 returns-then-figures-lt3 c = too_few 3 _ _ _ c.if-figures-lt3.true
 
-pub returns-in-Is : goal.returns-in-Is
-returns-in-Is c =
+pub returns-in-Some : goal.returns-in-Some
+returns-in-Some c =
     let old = c.args.figures.now in
-    let e = sym c.in-Is.is in
+    let e = sym c.in-Some.is in
     enough 3 _ _ _ _ _ c.if-figures-lt3.false (ap saturated_number e) (c.put_three.ensures ∙ ap (λ (s : Saturated). saturated_of s old) e)
 
 pub returns-in-Refused : goal.returns-in-Refused

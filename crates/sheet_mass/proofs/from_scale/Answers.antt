@@ -1,7 +1,7 @@
 -- What is in its range is turned into milligrams, and nothing else is. Assumes nothing.
+use Rattle.std.specs.Prelude.{Some}
 use mathlib.Core.Path.{sym, ap, ◌∙◌}
 use Rattle.sheet_mass.specs.Mass.{from_scale}
-use Rattle.sheet_mass.specs.declared.Scaled.TheVariants.{At}
 use Rattle.sheet_mass.proofs.Masses.{mass_most}
 use Rattle.sheet_mass.proofs.from_scale.Goals as goal
 
@@ -10,7 +10,7 @@ milligrams_of-requires c = mass_most c.args.g.0 (sym c.is_mass.ensures ∙ c.if-
 
 pub returns-then-is_mass : goal.returns-then-is_mass
 unfolding from_scale
-returns-then-is_mass c = rw (sym c.is_mass.ensures ∙ c.if-is_mass.true) (ap At c.milligrams_of.ensures)
+returns-then-is_mass c = rw (sym c.is_mass.ensures ∙ c.if-is_mass.true) (ap Some c.milligrams_of.ensures)
 
 pub returns : goal.returns
 unfolding from_scale

@@ -6,7 +6,7 @@ pub returns-in_default : goal.returns-in_default
 returns-in_default c = rw c.in_default.is
 
 pub returns-then-is_need : goal.returns-then-is_need
-returns-then-is_need c = rw (c.in-Number.is, sym c.is_need.ensures ∙ c.if-is_need.true)
+returns-then-is_need c = rw (c.in-Some.is, sym c.is_need.ensures ∙ c.if-is_need.true)
 
 pub returns : goal.returns
-returns c = rw (c.in-Number.is, sym c.is_need.ensures ∙ c.if-is_need.false)
+returns c = rw (c.in-Some.is, sym c.is_need.ensures ∙ c.if-is_need.false)

@@ -10,4 +10,4 @@ returns-in_default c = rw c.in_default.is refl
 
 pub returns : goal.returns
 unfolding is_on numbers
-returns c = sym (rw c.in-Number.is (or-false _))
+returns c = sym (rw c.in-Some.is (or-false _))

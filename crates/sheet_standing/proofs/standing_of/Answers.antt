@@ -10,14 +10,14 @@ returns-in_default c = rw c.in_default.is
 pub returns-then-is_lacking : goal.returns-then-is_lacking
 unfolding standing lacking
 returns-then-is_lacking c =
-    rw (c.in-Number.is, sym c.is_lacking.ensures ∙ c.if-is_lacking.true)
+    rw (c.in-Some.is, sym c.is_lacking.ensures ∙ c.if-is_lacking.true)
 
 pub returns-then-is_on : goal.returns-then-is_on
 unfolding standing lacking
 returns-then-is_on c =
-    rw (c.in-Number.is, sym c.is_lacking.ensures ∙ c.if-is_lacking.false, sym c.is_on.ensures ∙ c.if-is_on.true)
+    rw (c.in-Some.is, sym c.is_lacking.ensures ∙ c.if-is_lacking.false, sym c.is_on.ensures ∙ c.if-is_on.true)
 
 pub returns : goal.returns
 unfolding standing lacking
 returns c =
-    rw (c.in-Number.is, sym c.is_lacking.ensures ∙ c.if-is_lacking.false, sym c.is_on.ensures ∙ c.if-is_on.false)
+    rw (c.in-Some.is, sym c.is_lacking.ensures ∙ c.if-is_lacking.false, sym c.is_on.ensures ∙ c.if-is_on.false)

@@ -16,7 +16,7 @@ returns-in_default c = rw c.in_default.is
 pub returns-then-not-is_volume : goal.returns-then-not-is_volume
 unfolding by_reading
 returns-then-not-is_volume c =
-    rw c.in-Kelvin.is (out_of_range _ _ (sym c.is_volume.ensures ∙ c.if-not-is_volume.true))
+    rw c.in-Some.is (out_of_range _ _ (sym c.is_volume.ensures ∙ c.if-not-is_volume.true))
 
 pub by_answer-requires : goal.by_answer-requires
 by_answer-requires c = volume_most _ (is_in_range (goal.at.by_answer-requires c).Else-not-is_volume)
@@ -24,4 +24,4 @@ by_answer-requires c = volume_most _ (is_in_range (goal.at.by_answer-requires c)
 pub returns : goal.returns
 unfolding by_reading
 returns c =
-    rw (c.in-Kelvin.is, ← c.from_pressure.ensures) (c.by_answer.ensures ∙ in_range _ _ (is_in_range (goal.at.returns c).Else-not-is_volume))
+    rw (c.in-Some.is, ← c.from_pressure.ensures) (c.by_answer.ensures ∙ in_range _ _ (is_in_range (goal.at.returns c).Else-not-is_volume))

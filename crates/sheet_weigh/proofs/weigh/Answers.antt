@@ -9,9 +9,9 @@ returns-in_default c = rw c.in_default.is
 
 pub returns-in_default-volume : goal.returns-in_default-volume
 unfolding weighed
-returns-in_default-volume c = rw (c.in-Number.is, c.in_default-volume.is)
+returns-in_default-volume c = rw (c.in-Some.is, c.in_default-volume.is)
 
 pub returns : goal.returns
 unfolding weighed
 returns c =
-    c.by_reading.ensures ∙ rw (c.in-Number.is, c.in-Number-volume.is)
+    c.by_reading.ensures ∙ rw (c.in-Some.is, c.in-Some-volume.is)

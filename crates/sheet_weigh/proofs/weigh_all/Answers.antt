@@ -12,7 +12,7 @@ use Rattle.sheet_weigh.specs.Sheet.{marks_for, marked_after, marked}
 use Rattle.sheet_weigh.proofs.Knowns.{Known, none_known, known_most, known_room, known_taken, one_blank, one_known}
 use Rattle.sheet_weigh.proofs.Markings.{marked_length, held, held_more}
 use Rattle.sheet_weigh.proofs.weigh_all.Goals as goal
-use Rattle.sheet_weigh.proofs.weigh_all.Goals.{in-Number, in_default}
+use Rattle.sheet_weigh.proofs.weigh_all.Goals.{in-Some, in_default}
 
 pub loop-i-init : goal.loop-i-init
 unfolding marks_for marked marked_after padded
@@ -50,7 +50,7 @@ loop-i-preserved c =
     let more = held_more L ls (i - 1) blank_line _ _ (omega arith) (omega arith) w c.loop-i.invariant.2 in
     let after : Known ls (i - 1 + 1) c.match-number.numbers c.match-number.known =
     elim c.match-number.branch [
-      | in-Number w ↦ rw (w.numbers-is, w.known-is) (one_known k blank_line (omega arith) _ (omega arith) w.in-Number.is)
+      | in-Some w ↦ rw (w.numbers-is, w.known-is) (one_known k blank_line (omega arith) _ (omega arith) w.in-Some.is)
       | in_default w ↦ rw (w.numbers-is, w.known-is) (one_blank k blank_line (omega arith) w.in_default.is)
     ] in
     (omega arith, omega arith, more ∙ ap (held L ls) next, rw (← next) after)

@@ -9,9 +9,9 @@ returns-in_default c = rw c.in_default.is refl
 
 pub returns-in_default-volume : goal.returns-in_default-volume
 unfolding gauge
-returns-in_default-volume c = rw (c.in-Number.is, c.in_default-volume.is) refl
+returns-in_default-volume c = rw (c.in-Some.is, c.in_default-volume.is) refl
 
 pub returns : goal.returns
 unfolding gauge
 returns c =
-    c.gauge_at.ensures ∙ rw (c.in-Number.is, c.in-Number-volume.is) refl
+    c.gauge_at.ensures ∙ rw (c.in-Some.is, c.in-Some-volume.is) refl

@@ -6,4 +6,4 @@ pub returns-in_default : goal.returns-in_default
 returns-in_default c = rw c.in_default.is refl
 
 pub returns : goal.returns
-returns c = rw (c.in-Kelvin.is, ← c.from_pressure.ensures) c.held_with.ensures
+returns c = rw (c.in-Some.is, ← c.from_pressure.ensures) c.held_with.ensures

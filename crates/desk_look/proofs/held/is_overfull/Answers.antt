@@ -5,11 +5,11 @@ use Rattle.sheet_weigh.proofs.Weighings.{volume_most}
 use Rattle.desk_look.proofs.held.is_overfull.Goals as goal
 
 pub overflow_mul-result : goal.overflow_mul-result
-overflow_mul-result c = record { fits = omega (arith, volume_most c.in-Number.v (sym c.is_volume.ensures ∙ c.if-is_volume.true)) }
+overflow_mul-result c = record { fits = omega (arith, volume_most c.in-Some.v (sym c.is_volume.ensures ∙ c.if-is_volume.true)) }
 
 pub returns-then-is_volume : goal.returns-then-is_volume
 returns-then-is_volume c =
-    rw (c.in-Number.is, sym c.is_volume.ensures ∙ c.if-is_volume.true) refl
+    rw (c.in-Some.is, sym c.is_volume.ensures ∙ c.if-is_volume.true) refl
 
 pub returns : goal.returns
-returns c = rw (c.in-Number.is, sym c.is_volume.ensures ∙ c.if-is_volume.false) refl
+returns c = rw (c.in-Some.is, sym c.is_volume.ensures ∙ c.if-is_volume.false) refl

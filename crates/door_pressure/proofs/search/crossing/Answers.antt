@@ -31,5 +31,5 @@ returns-in_default-pressure_on c =
 
 pub between-requires : goal.between-requires
 between-requires c =
-    let low = sym c.pressure_on.ensures ∙ c.in-Number.is in
-    record { from_lt_to = omega arith; to_bound = omega arith; from_value = low; to_value = sym c.pressure_on-2.ensures ∙ c.in-Number-pressure_on.is }
+    let low = sym c.pressure_on.ensures ∙ c.in-Some.is in
+    record { from_lt_to = omega arith; to_bound = omega arith; from_value = low; to_value = sym c.pressure_on-2.ensures ∙ c.in-Some-pressure_on.is }

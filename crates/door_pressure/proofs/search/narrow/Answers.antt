@@ -28,7 +28,7 @@ pub loop-lo-preserved-then-p-x : goal.loop-lo-preserved-then-p-x
 unfolding middle
 loop-lo-preserved-then-p-x c =
     let a = c.args in
-    let e = sym c.pressure_on.ensures ∙ c.in-Number.is in
+    let e = sym c.pressure_on.ensures ∙ c.in-Some.is in
     let s = is_above a.curve a.p _ _ e c.if-p-x.true in
     (omega arith, to_lower (figure (pressure_on a.curve)) a.p _ c.loop-lo.lo c.loop-lo.hi c.loop-lo.invariant.1 (λ e. omega arith) s)
 
@@ -36,7 +36,7 @@ pub loop-lo-preserved : goal.loop-lo-preserved
 unfolding middle
 loop-lo-preserved c =
     let a = c.args in
-    let e = sym c.pressure_on.ensures ∙ c.in-Number.is in
+    let e = sym c.pressure_on.ensures ∙ c.in-Some.is in
     let s = is_not_above a.curve a.p _ _ e c.if-p-x.false in
     (omega arith, to_upper (figure (pressure_on a.curve)) a.p _ c.loop-lo.lo c.loop-lo.hi c.loop-lo.invariant.1 (λ e. omega arith) s)
 

@@ -11,4 +11,4 @@ returns-in_default c = rw (← c.steps.ensures, c.in_default.is) refl
 
 pub returns : goal.returns
 unfolding exponential of_bits of_int whole
-returns c = rw (← c.steps.ensures, c.in-Number.is) refl
+returns c = rw (← c.steps.ensures, c.in-Some.is) refl

@@ -1,9 +1,8 @@
 -- Each return is the arm of the definition that the tests before it lead to. Assumes nothing.
 use mathlib.Core.Path.{◌≡◌, sym, ap, ◌∙◌}
 use lib.Ieee.{of_bits, of_int}
-use Rattle.num_working.specs.declared.Worked.{Worked}
+use Rattle.num_working.specs.Working.{Worked, checked, ◌/ᵂ◌}
 use Rattle.num_working.specs.Number.{whole}
-use Rattle.num_working.specs.Working.{checked, ◌/ᵂ◌}
 use Rattle.num_exponential.specs.Exponential.{steps}
 use Rattle.num_exponential.proofs.exponential.steps.Goals as goal
 use Rattle.num_exponential.proofs.exponential.steps.Goals.{After-falling-2}
@@ -40,4 +39,4 @@ returns-in_default c = sym (rising (goal.at.returns-in_default c).After-falling-
 pub returns : goal.returns
 unfolding ◌/ᵂ◌ of_bits of_int whole
 returns c =
-    c.checked.ensures ∙ sym (rising (goal.at.returns c).After-falling-2 ∙ ap (λ (w : Worked). checked (whole 1) /ᵂ w) c.in-Number.is)
+    c.checked.ensures ∙ sym (rising (goal.at.returns c).After-falling-2 ∙ ap (λ (w : Worked). checked (whole 1) /ᵂ w) c.in-Some.is)

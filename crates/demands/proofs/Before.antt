@@ -1,6 +1,7 @@
 -- With the melting line every answer is what it was, or 19, or 7 where there is no melting pressure, which within the limits of RULES 2.2 there is: both
 -- doors take the same steps, and the check of the line is one of them. Assumes nothing.
-use Rattle.std.specs.Prelude.{Some, None}
+use Rattle.refusal.specs.Refused.{refused}
+use Rattle.std.specs.Prelude.{Some, None, Ok, Err}
 use mathlib.Core.Path.{◌≡◌, refl}
 use mathlib.Core.Bool.{Bool, true, false, cond, ◌&&◌, not, true≢false}
 use lib.Ieee.{Float, nan, inf, fin, lt, le}
@@ -16,12 +17,8 @@ use Rattle.door_limits.specs.Limits.{document01, outside}
 use Rattle.door_limits.specs.declared.Range.{Range}
 use Rattle.door_limits.specs.declared.Limits.{Limits}
 use Rattle.door_checks.specs.Check as check
-use Rattle.door_checks.specs.Check.{ranged, boxed}
-use Rattle.door_checks.specs.declared.Check.{Check}
-use Rattle.door_checks.specs.declared.Check.TheVariants.{Passed, No}
-use Rattle.door_answers.specs.Answer.{passed, answer_with}
-use Rattle.door_answers.specs.declared.Answer.{Answer}
-use Rattle.door_answers.specs.declared.Answer.TheVariants as answer
+use Rattle.door_checks.specs.Check.{ranged, boxed, Check}
+use Rattle.door_answers.specs.Answer.{passed, answer_with, Answer}
 use Rattle.door_pressure.specs.PressureDoor as pressure
 use Rattle.door_pressure.proofs.from_pressure.Reads as from_pressure
 use Rattle.door_density.specs.DensityDoor as density
@@ -31,7 +28,7 @@ use Rattle.demands.specs.Before.{never_solid, Kept, same, solid, no_melting, AsB
 use Rattle.demands.proofs.Checks.{stops, passes, finds, melts, first}
 
 -- no pressure is above the infinity
-unreached : (p : Float) → check.solid (Some (inf false)) p ≡ Passed
+unreached : (p : Float) → check.solid (Some (inf false)) p ≡ (Ok tt)
 unfolding check.solid lt
 unreached nan = refl
 unreached (inf true) = refl
@@ -41,8 +38,8 @@ unreached (fin s m e) = refl
 -- ---- a step that both take keeps what is kept after it
 module _ {w : Worked} where
   after_check : (c : Check) {a b : Answer} → Kept w a b → Kept w (passed c a) (passed c b)
-  after_check (No n) k = same refl
-  after_check Passed k = k
+  after_check (Err n) k = same refl
+  after_check (Ok tt) k = k
 
   after_test : (t : Bool) {a b x y : Answer} → Kept w a x → Kept w b y → Kept w (cond t a b) (cond t x y)
   after_test true h k = h
@@ -72,8 +69,8 @@ module _ (E : Equation) (L : Limits) where
   pressure_kept t p = after_check (ranged L.asked.temperature L.asked.pressure t p) (thawed_kept t p)
 
   -- ---- the density door
-  by_pressure : (v : Worked) (q : Float → Bool) (a : Answer) → or_else v (answer.Refused 7) (λ p. cond (q p) (answer.Refused 5) (passed (check.solid (Some (inf false)) p) a))
-      ≡ or_else v (answer.Refused 7) (λ p. cond (q p) (answer.Refused 5) a)
+  by_pressure : (v : Worked) (q : Float → Bool) (a : Answer) → or_else v (refused 7) (λ p. cond (q p) (refused 5) (passed (check.solid (Some (inf false)) p) a))
+      ≡ or_else v (refused 7) (λ p. cond (q p) (refused 5) a)
   by_pressure None q a = refl
   by_pressure (Some p) q a = rw (unreached p) refl
 

@@ -1,5 +1,6 @@
 -- The checks on the inputs and that of the melting line, by what they find. Assumes nothing.
-use Rattle.std.specs.Prelude.{Some, None}
+use Rattle.refusal.specs.Refused.{refused}
+use Rattle.std.specs.Prelude.{Some, None, Ok, Err}
 use Prim.Native.Nat.{ℕ}
 use mathlib.Core.Path.{◌≡◌, refl, sym}
 use mathlib.Core.Bool.{Bool, true, false, ◌&&◌, not, true≢false}
@@ -10,12 +11,8 @@ use Rattle.num_working.proofs.Cases.{by_test, by_working}
 use Rattle.equation.specs.Equation.{Equation}
 use Rattle.door_limits.specs.Limits.{outside}
 use Rattle.door_limits.specs.declared.Range.{Range}
-use Rattle.door_checks.specs.Check.{ranged, solid}
-use Rattle.door_checks.specs.declared.Check.{Check}
-use Rattle.door_checks.specs.declared.Check.TheVariants.{Passed, No}
-use Rattle.door_answers.specs.Answer.{passed}
-use Rattle.door_answers.specs.declared.Answer.{Answer}
-use Rattle.door_answers.specs.declared.Answer.TheVariants as answer
+use Rattle.door_checks.specs.Check.{ranged, solid, Check}
+use Rattle.door_answers.specs.Answer.{passed, Answer}
 use Rattle.demands.specs.Demands.{OutOfRange, no_number, no_temperature, no_value, InRange, Fluid}
 
 -- ---- both are numbers
@@ -30,8 +27,8 @@ second false b h = absurd (true≢false (sym h))
 -- ---- 3, 4 and 5
 module _ (temperature value : Range) (t x : Float) where
   pub data Finds (c : Check) : Type 0 where
-    stops : (n : ℕ) → c ≡ No n → OutOfRange temperature value t x n → Finds c
-    passes : c ≡ Passed → InRange temperature value t x → Finds c
+    stops : (n : ℕ) → c ≡ Err n → OutOfRange temperature value t x n → Finds c
+    passes : c ≡ (Ok tt) → InRange temperature value t x → Finds c
 
   pub finds : Finds (ranged temperature value t x)
   unfolding ranged
@@ -41,27 +38,27 @@ module _ (temperature value : Range) (t x : Float) where
       (λ f. by_test Finds (outside value x) _ _ (λ g. stops 5 refl (no_value (not-false _ e) f g))
       (λ g. passes refl (record { numbers = not-false _ e; temperature = f; value = g }))))
 
-  pub stops_back : {n : ℕ} → OutOfRange temperature value t x n → ranged temperature value t x ≡ No n
+  pub stops_back : {n : ℕ} → OutOfRange temperature value t x n → ranged temperature value t x ≡ Err n
   unfolding ranged
   stops_back (no_number e) = rw e refl
   stops_back (no_temperature e f) = rw (e, f) refl
   stops_back (no_value e f g) = rw (e, f, g) refl
 
-  pub passes_back : InRange temperature value t x → ranged temperature value t x ≡ Passed
+  pub passes_back : InRange temperature value t x → ranged temperature value t x ≡ (Ok tt)
   unfolding ranged
   passes_back p = rw (p.numbers, p.temperature, p.value) refl
 
 -- ---- 19
 module _ (E : Equation) (t p : Float) where
   -- what holds of 7, of 19 and of the answer a where p is fluid, holds of what comes of the check
-  pub melts : (P : Answer → Type 0) (a : Answer) → (E.melting_pressure t ≡ None → P (answer.Refused 7))
-      → ((m : Float) → E.melting_pressure t ≡ Some m → lt m p ≡ true → P (answer.Refused 19)) → (Fluid E t p → P a)
+  pub melts : (P : Answer → Type 0) (a : Answer) → (E.melting_pressure t ≡ None → P (refused 7))
+      → ((m : Float) → E.melting_pressure t ≡ Some m → lt m p ≡ true → P (refused 19)) → (Fluid E t p → P a)
       → P (passed (solid (E.melting_pressure t) p) a)
   unfolding solid
   melts P a f s h =
       by_working (λ (c : Check). P (passed c a)) (E.melting_pressure t) _ _ f
       (λ m e. by_test (λ (c : Check). P (passed c a)) (lt m p) _ _ (s m e) (λ q. h (record { melting = m; worked = e; not_above = q })))
 
-  pub thawed_back : Fluid E t p → solid (E.melting_pressure t) p ≡ Passed
+  pub thawed_back : Fluid E t p → solid (E.melting_pressure t) p ≡ (Ok tt)
   unfolding solid
   thawed_back f = rw (f.worked, f.not_above) refl

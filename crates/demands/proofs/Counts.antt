@@ -1,14 +1,13 @@
 -- An answer's state was worked at its temperature and density, so its count is the equation's there, of any equation that is lawful; and no step of a door
 -- looks at a count, of any equation. Over any limits, of 1996, and of the public functions. Assumes nothing.
-use Rattle.std.specs.Prelude.{Some, None}
+use Rattle.num_halving.specs.declared.Missed.TheVariants.{Nowhere, Broke}
+use Rattle.std.specs.Prelude.{Some, None, Ok, Err}
 use Prim.Native.Nat.{ℕ}
 use mathlib.Core.Path.{◌≡◌, refl, sym, ap, ◌∙◌}
 use mathlib.Core.Bool.{Bool, true, false, cond, ◌&&◌, not}
 use lib.Ieee.{Float, binary64, eq, lt, le, of_bits, to_bits}
 use Rattle.num_working.specs.Working.{or_else, Worked}
-use Rattle.num_halving.specs.Halving.{halve}
-use Rattle.num_halving.specs.declared.Crossing.{Crossing}
-use Rattle.num_halving.specs.declared.Crossing.TheVariants.{At, Nowhere, Broke}
+use Rattle.num_halving.specs.Halving.{halve, Crossing}
 use Rattle.num_formulas.specs.Formula.{work}
 use Rattle.eos_constants.specs.Reduced.{delta}
 use Rattle.eos_isotherm.specs.Isotherm.{isotherm}
@@ -27,12 +26,8 @@ use Rattle.equation.specs.Equation.{Equation, Lawful, of1996, curve, state_on}
 use Rattle.equation.proofs.Laws.{lawful}
 use Rattle.door_limits.specs.Limits.{outside, search_ends}
 use Rattle.door_limits.specs.declared.Limits.{Limits}
-use Rattle.door_checks.specs.Check.{ranged, boxed, solid}
-use Rattle.door_checks.specs.declared.Check.{Check}
-use Rattle.door_checks.specs.declared.Check.TheVariants.{Passed, No}
-use Rattle.door_answers.specs.Answer.{passed, answer_with}
-use Rattle.door_answers.specs.declared.Answer.{Answer}
-use Rattle.door_answers.specs.declared.Answer.TheVariants as answer
+use Rattle.door_checks.specs.Check.{ranged, boxed, solid, Check}
+use Rattle.door_answers.specs.Answer.{passed, answer_with, Answer}
 use Rattle.door_pressure.specs.Search.{figure, found, searched}
 use Rattle.door_pressure.specs.PressureDoor as pressure
 use Rattle.door_pressure.proofs.from_pressure.Reads as from_pressure
@@ -65,16 +60,16 @@ module _ (E : Equation) (L : Limits) (lawful : Lawful E) where
       let b = density_answers E L lawful t x.rho y f in
       lawful.fallen t y.phase x.rho y b.stated ∙ ap (λ (s : Float). E.fallen s x.rho) (sym a.temperature) ∙ sym (pressure_counts t p x e)
 
-pub from_pressure_counts : Whatever (from_pressure.Post tt) (λ a r. (x : State) → r ≡ answer.State x → x.fallen ≡ fallen_at x.t x.rho)
+pub from_pressure_counts : Whatever (from_pressure.Post tt) (λ a r. (x : State) → r ≡ Ok x → x.fallen ≡ fallen_at x.t x.rho)
 unfolding of1996
 from_pressure_counts a r s h x e = pressure_counts of1996 a.0 lawful a.1.0 a.1.1.0 x (sym h ∙ e)
 
-pub from_density_counts : Whatever (from_density.Post tt) (λ a r. (x : State) → r ≡ answer.State x → x.fallen ≡ fallen_at x.t x.rho)
+pub from_density_counts : Whatever (from_density.Post tt) (λ a r. (x : State) → r ≡ Ok x → x.fallen ≡ fallen_at x.t x.rho)
 unfolding of1996
 from_density_counts a r s h x e = density_counts of1996 a.0 lawful a.1.0 a.1.1.0 x (sym h ∙ e)
 
-pub from_density_same_count : Whatever (from_pressure.Post tt) (λ a r. (x : State) → r ≡ answer.State x
-    → Whatever (from_density.Post tt) (λ b q. b.0 ≡ a.0 → b.1.0 ≡ a.1.0 → b.1.1.0 ≡ x.rho → (y : State) → q ≡ answer.State y → y.fallen ≡ x.fallen))
+pub from_density_same_count : Whatever (from_pressure.Post tt) (λ a r. (x : State) → r ≡ Ok x
+    → Whatever (from_density.Post tt) (λ b q. b.0 ≡ a.0 → b.1.0 ≡ a.1.0 → b.1.1.0 ≡ x.rho → (y : State) → q ≡ Ok y → y.fallen ≡ x.fallen))
 from_density_same_count a r s h x e b q u k o f g y l =
     same_count of1996 a.0 lawful a.1.0 a.1.1.0 x y (sym h ∙ e) (rw (← o, ← f, ← g) (sym k ∙ l))
 
@@ -96,24 +91,24 @@ record Was (before now : Answer) : Type 0 where
   pub is : forgotten_of now ≡ before
 
 after_check : (c : Check) {a b : Answer} → Was b a → Was (passed c b) (passed c a)
-after_check (No n) h = record { is = refl }
-after_check Passed h = h
+after_check (Err n) h = record { is = refl }
+after_check (Ok tt) h = h
 
 after_test : (t : Bool) {a b x y : Answer} → Was x a → Was y b → Was (cond t x y) (cond t a b)
 after_test true h k = h
 after_test false h k = k
 
-after_working : (w : Worked) (n : ℕ) (f g : Float → Answer) → ((x : Float) → Was (g x) (f x)) → Was (or_else w (answer.Refused n) g) (or_else w (answer.Refused n) f)
+after_working : (w : Worked) (n : ℕ) (f g : Float → Answer) → ((x : Float) → Was (g x) (f x)) → Was (or_else w (Err n) g) (or_else w (Err n) f)
 after_working None n f g h = record { is = refl }
 after_working (Some x) n f g h = h x
 
-refuses : (n : ℕ) → Was (answer.Refused n) (answer.Refused n)
+refuses : (n : ℕ) → Was (Err n) (Err n)
 refuses n = record { is = refl }
 
 after_search : (s : Float → Stated) (c : Crossing) → Was (found (λ rho. forgotten_in (s rho)) c) (found s c)
-after_search s (At b) = record { is = of_state (s (of_bits binary64 b)) }
-after_search s Nowhere = refuses 9
-after_search s Broke = refuses 7
+after_search s (Ok b) = record { is = of_state (s (of_bits binary64 b)) }
+after_search s (Err Nowhere) = refuses 9
+after_search s (Err Broke) = refuses 7
 
 -- ---- the state of 1996
 ideal_before : (phase : Phase) (n : ℕ) (t : Float) (iso : Isotherm) (rho : Float) (sums : Five)

@@ -1,5 +1,6 @@
 -- RULES 10.1, over any lawful equation and any limits, of 1996, and of the public functions: whatever meets a door's promise has them. Assumes nothing.
-use Rattle.std.specs.Prelude.{Some}
+use Rattle.refusal.specs.Refused.{refused}
+use Rattle.std.specs.Prelude.{Some, Ok, Err}
 use Prim.Native.Nat.{ℕ, ◌+◌}
 use mathlib.Core.Path.{◌≡◌, refl, sym, subst, ◌∙◌}
 use native.Mathlib.Omega.{arith}
@@ -15,8 +16,7 @@ use Rattle.equation.specs.Equation.{Equation, Lawful, of1996}
 use Rattle.equation.proofs.Laws.{lawful}
 use Rattle.door_limits.specs.declared.Range.{Range}
 use Rattle.door_limits.specs.declared.Limits.{Limits}
-use Rattle.door_answers.specs.declared.Answer.{Answer}
-use Rattle.door_answers.specs.declared.Answer.TheVariants as answer
+use Rattle.door_answers.specs.Answer.{Answer}
 use Rattle.door_pressure.specs.Search.{figure}
 use Rattle.door_pressure.specs.PressureDoor.{pressure_door}
 use Rattle.door_pressure.proofs.from_pressure.Reads as from_pressure
@@ -29,12 +29,12 @@ use Rattle.demands.proofs.PressureDoors.{ends, pressure_refusals, pressure_answe
 use Rattle.demands.proofs.DensityDoors.{density_refusals, density_answers}
 
 -- ---- DEMAND 1: every input is answered or refused, and each refusal is given exactly under its condition
-pub from_pressure_refuses : Whatever (from_pressure.Post tt) (λ a r. (n : ℕ) → Exactly (r ≡ answer.Refused n) (RefusesP of1996 a.0 a.1.0 a.1.1.0 n))
+pub from_pressure_refuses : Whatever (from_pressure.Post tt) (λ a r. (n : ℕ) → Exactly (r ≡ Err n) (RefusesP of1996 a.0 a.1.0 a.1.1.0 n))
 from_pressure_refuses a r s h n =
     let w = pressure_refusals of1996 a.0 lawful a.1.0 a.1.1.0 n in
     (λ e. w.0 (sym h ∙ e), λ q. h ∙ w.1 q)
 
-pub from_density_refuses : Whatever (from_density.Post tt) (λ a r. (n : ℕ) → Exactly (r ≡ answer.Refused n) (RefusesD of1996 a.0 a.1.0 a.1.1.0 n))
+pub from_density_refuses : Whatever (from_density.Post tt) (λ a r. (n : ℕ) → Exactly (r ≡ Err n) (RefusesD of1996 a.0 a.1.0 a.1.1.0 n))
 from_density_refuses a r s h n =
     let w = density_refusals of1996 a.0 lawful a.1.0 a.1.1.0 n in
     (λ e. w.0 (sym h ∙ e), λ q. h ∙ w.1 q)
@@ -70,9 +70,9 @@ of_density (no_melting q r e f m) = to_9 7 (omega arith) (omega arith)
 of_density (solid_there q r e f m h) = is_19
 of_density (no_state q r e f m g) = to_9 7 (omega arith) (omega arith)
 
-settled : (r : Answer) → ((n : ℕ) → r ≡ answer.Refused n → Numbered 3 n) → Settled r
-settled (answer.State x) h = given x refl
-settled (answer.Refused n) h = not_given n refl (h n refl)
+settled : (r : Answer) → ((n : ℕ) → r ≡ Err n → Numbered 3 n) → Settled r
+settled (Ok x) h = given x refl
+settled (Err n) h = not_given n refl (h n refl)
 
 pub pressure_settles : (L : Limits) (t p : Float) → Settled (pressure_door of1996 L t p)
 pressure_settles L t p = settled _ (λ n e. of_pressure ((pressure_refusals of1996 L lawful t p n).0 e))
@@ -87,19 +87,19 @@ pub from_density_settles : Whatever (from_density.Post tt) (λ a r. Settled r)
 from_density_settles a r s h = rw h (density_settles a.0 a.1.0 a.1.1.0)
 
 -- ---- DEMAND 3: the density and the next float lie in the range, and the pressure passes the one asked for between them; 9 exactly where there is no crossing
-pub from_pressure_answers : Whatever (from_pressure.Post tt) (λ a r. (x : State) → r ≡ answer.State x → Answered of1996 a.0 a.1.0 a.1.1.0 x)
+pub from_pressure_answers : Whatever (from_pressure.Post tt) (λ a r. (x : State) → r ≡ Ok x → Answered of1996 a.0 a.1.0 a.1.1.0 x)
 from_pressure_answers a r s h x e = pressure_answers of1996 a.0 lawful a.1.0 a.1.1.0 x (sym h ∙ e)
 
 pub from_pressure_nowhere : Whatever (from_pressure.Post tt) (λ a r.
     let t = a.1.0 in
     let p = a.1.1.0 in
     (phase : Phase) (from to : Float) → PastP of1996 a.0 t p → Ranged of1996 a.0 t p phase from to
-    → Exactly (r ≡ answer.Refused 9) (NoCrossing (figure (of1996.pressure t)) p (to_bits binary64 from) (to_bits binary64 to)))
+    → Exactly (r ≡ refused 9) (NoCrossing (figure (of1996.pressure t)) p (to_bits binary64 from) (to_bits binary64 to)))
 from_pressure_nowhere a r s h phase from to past ranged =
     let w = no_crossing_exactly of1996 a.0 lawful a.1.0 a.1.1.0 phase from to past ranged in
     (λ e. w.0 (sym h ∙ e), λ q. h ∙ w.1 q)
 
-pub from_density_answers : Whatever (from_density.Post tt) (λ a r. (x : State) → r ≡ answer.State x → AnsweredD of1996 a.0 a.1.0 a.1.1.0 x)
+pub from_density_answers : Whatever (from_density.Post tt) (λ a r. (x : State) → r ≡ Ok x → AnsweredD of1996 a.0 a.1.0 a.1.1.0 x)
 from_density_answers a r s h x e = density_answers of1996 a.0 lawful a.1.0 a.1.1.0 x (sym h ∙ e)
 
 module _ (E : Equation) (L : Limits) (lawful : Lawful E) where
@@ -126,7 +126,7 @@ module _ (E : Equation) (L : Limits) (lawful : Lawful E) where
       let r = lawful.density t x.phase (of_bits binary64 a.bits) x a.worked in
       lawful.same t x.phase y.phase x.rho x y (subst (λ (d : Float). E.state t x.phase d ≡ Some x) (sym r) a.worked) b.stated
 
-pub from_density_agrees : Whatever (from_pressure.Post tt) (λ a r. (x : State) → r ≡ answer.State x
-    → Whatever (from_density.Post tt) (λ b q. b.0 ≡ a.0 → b.1.0 ≡ a.1.0 → b.1.1.0 ≡ x.rho → (y : State) → q ≡ answer.State y → eight y ≡ eight x))
+pub from_density_agrees : Whatever (from_pressure.Post tt) (λ a r. (x : State) → r ≡ Ok x
+    → Whatever (from_density.Post tt) (λ b q. b.0 ≡ a.0 → b.1.0 ≡ a.1.0 → b.1.1.0 ≡ x.rho → (y : State) → q ≡ Ok y → eight y ≡ eight x))
 from_density_agrees a r s h x e b q u k o f g y l =
     doors_agree of1996 a.0 lawful a.1.0 a.1.1.0 x y (sym h ∙ e) (rw (← o, ← f, ← g) (sym k ∙ l))

@@ -1,5 +1,6 @@
 -- The density door, over any equation and any limits: each refusal exactly under its condition, and what an answer means. Assumes nothing.
-use Rattle.std.specs.Prelude.{Some, None}
+use Rattle.refusal.specs.Refused.{refused}
+use Rattle.std.specs.Prelude.{Some, None, Ok, Err}
 use Prim.Native.Nat.{ℕ}
 use mathlib.Core.Path.{◌≡◌, refl, sym, ap, subst, ◌∙◌}
 use mathlib.Core.Bool.{Bool, true, false, cond, ◌&&◌, not}
@@ -13,12 +14,8 @@ use Rattle.eos_state.specs.State.{Stated}
 use Rattle.equation.specs.Equation.{Equation, Lawful}
 use Rattle.door_limits.specs.Limits.{outside}
 use Rattle.door_limits.specs.declared.Limits.{Limits}
-use Rattle.door_checks.specs.Check.{solid, boxed}
-use Rattle.door_checks.specs.declared.Check.{Check}
-use Rattle.door_checks.specs.declared.Check.TheVariants.{Passed, No}
-use Rattle.door_answers.specs.Answer.{passed, answer_with}
-use Rattle.door_answers.specs.declared.Answer.{Answer}
-use Rattle.door_answers.specs.declared.Answer.TheVariants as answer
+use Rattle.door_checks.specs.Check.{solid, boxed, Check}
+use Rattle.door_answers.specs.Answer.{passed, answer_with, Answer}
 use Rattle.door_density.specs.DensityDoor.{in_phase, beneath, entered, unboxed, density_door}
 use Rattle.demands.specs.Demands.{Fluid, InRangeD, in_box_d, PastD, Phased, above_critical, as_vapour, as_liquid, RefusesD, out_of_ranges, in_the_box, no_vapour, no_liquid, between, no_pressure, pressure_outside, no_melting, solid_there, no_state, AnsweredD, DensityRefusals, DensityAnswers}
 use Rattle.demands.proofs.Checks.{stops, passes, finds, stops_back, passes_back, melts}
@@ -26,8 +23,8 @@ use Rattle.demands.proofs.Checks.{stops, passes, finds, stops_back, passes_back,
 module _ (E : Equation) (L : Limits) (lawful : Lawful E) (t rho : Float) where
   -- ---- an answer of the door, explained
   pub data Explains (a : Answer) : Type 0 where
-    refuses : (n : ℕ) → a ≡ answer.Refused n → RefusesD E L t rho n → Explains a
-    answers : (x : State) → a ≡ answer.State x → AnsweredD E L t rho x → Explains a
+    refuses : (n : ℕ) → a ≡ Err n → RefusesD E L t rho n → Explains a
+    answers : (x : State) → a ≡ Ok x → AnsweredD E L t rho x → Explains a
 
   module _ (past : PastD E L t rho) where
     of_state : (phase : Phase) → Phased E L t rho phase → (p : Float) → E.pressure t rho ≡ Some p → outside L.asked.pressure p ≡ false → Fluid E t p
@@ -59,7 +56,7 @@ module _ (E : Equation) (L : Limits) (lawful : Lawful E) (t rho : Float) where
 
     sides : le E.critical t ≡ false → (v l : Float) → E.vapour_density t ≡ Some v → E.liquid_density t ≡ Some l
         → (a b : Bool) → lt v rho ≡ a → lt rho l ≡ b
-        → Explains (cond (a && b) (answer.Refused 8) (cond (not a) (in_phase E L Vapour t rho) (in_phase E L Liquid t rho)))
+        → Explains (cond (a && b) (refused 8) (cond (not a) (in_phase E L Vapour t rho) (in_phase E L Liquid t rho)))
     sides cold v l e f true true g h = refuses 8 refl (between past cold e f g h)
     sides cold v l e f true false g h = of_phase Liquid (as_liquid cold e f g h)
     sides cold v l e f false b g h = of_phase Vapour (as_vapour cold e f g)
@@ -78,7 +75,7 @@ module _ (E : Equation) (L : Limits) (lawful : Lawful E) (t rho : Float) where
   of_unboxed : InRangeD E L t rho → Explains (unboxed E L t rho)
   unfolding unboxed boxed
   of_unboxed r =
-      by_test (λ (c : Check). Explains (passed c (entered E L t rho))) (in_box_d E L t rho) (No 6) Passed (λ e. refuses 6 refl (in_the_box r e))
+      by_test (λ (c : Check). Explains (passed c (entered E L t rho))) (in_box_d E L t rho) (refused 6) (Ok tt) (λ e. refuses 6 refl (in_the_box r e))
       (λ e. of_entered (record { ranged = r; unboxed = e }))
 
   pub explained : Explains (density_door E L t rho)
@@ -99,7 +96,7 @@ module _ (E : Equation) (L : Limits) (lawful : Lawful E) (t rho : Float) where
   has_phase past (as_vapour cold e f g) = enters past ∙ rw (cold, e, f, g) refl
   has_phase past (as_liquid cold e f g h) = enters past ∙ rw (cold, e, f, g, h) refl
 
-  pub refuses_back : {n : ℕ} → RefusesD E L t rho n → density_door E L t rho ≡ answer.Refused n
+  pub refuses_back : {n : ℕ} → RefusesD E L t rho n → density_door E L t rho ≡ Err n
   unfolding density_door unboxed boxed entered beneath in_phase solid
   refuses_back (out_of_ranges b) = ap (λ (c : Check). passed c (unboxed E L t rho)) (stops_back L.asked.temperature L.asked.density t rho b)
   refuses_back (in_the_box r e) = rw (passes_back L.asked.temperature L.asked.density t rho r, e) refl
@@ -117,7 +114,7 @@ module _ (E : Equation) (L : Limits) (lawful : Lawful E) where
   pub density_refusals : DensityRefusals E L
   density_refusals t rho n = (go (explained E L lawful t rho), refuses_back E L lawful t rho)
     where
-      go : Explains E L lawful t rho (density_door E L t rho) → density_door E L t rho ≡ answer.Refused n → RefusesD E L t rho n
+      go : Explains E L lawful t rho (density_door E L t rho) → density_door E L t rho ≡ Err n → RefusesD E L t rho n
       go (refuses m f w) e = let q : m ≡ n = cc in subst (RefusesD E L t rho) q w
       go (answers x f a) e = let z : ◌≡◌ {A = ℕ} 0 1 = cc in absurd (omega arith)
 

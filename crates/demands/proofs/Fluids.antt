@@ -1,6 +1,7 @@
 -- What the pressure door answers, the density door never calls solid: the pressure worked at the density found is not above the one asked, and that is not
 -- above the melting pressure. Over any lawful equation and any limits, and of the public functions. Assumes nothing.
-use Rattle.std.specs.Prelude.{Some}
+use Rattle.refusal.specs.Refused.{refused}
+use Rattle.std.specs.Prelude.{Some, Ok}
 use Prim.Native.Nat.{ℕ}
 use mathlib.Core.Path.{◌≡◌, refl, sym, ap, ◌∙◌}
 use mathlib.Core.Bool.{true, true≢false}
@@ -13,7 +14,6 @@ use Rattle.equation.specs.Equation.{Equation, Lawful, of1996}
 use Rattle.equation.proofs.Laws.{lawful}
 use Rattle.door_limits.specs.declared.Range.{Range}
 use Rattle.door_limits.specs.declared.Limits.{Limits}
-use Rattle.door_answers.specs.declared.Answer.TheVariants as answer
 use Rattle.door_pressure.proofs.from_pressure.Reads as from_pressure
 use Rattle.door_density.proofs.from_density.Reads as from_density
 use Rattle.demands.specs.Demands.{Whatever, OutOfRange, no_number, no_temperature, no_value, Answered, FluidBothWays, RefusesD, out_of_ranges, in_the_box, no_vapour, no_liquid, between, no_pressure, pressure_outside, no_melting, solid_there, no_state}
@@ -62,7 +62,7 @@ module _ (E : Equation) (L : Limits) (lawful : Lawful E) where
   pub fluid_both_ways : FluidBothWays E L
   fluid_both_ways t p x e s = at_the_density t p x (pressure_answers E L lawful t p x e) (of_19 ((density_refusals E L lawful t x.rho 19).0 s) refl)
 
-pub from_density_fluid : Whatever (from_pressure.Post tt) (λ a r. (x : State) → r ≡ answer.State x
-    → Whatever (from_density.Post tt) (λ b q. b.0 ≡ a.0 → b.1.0 ≡ a.1.0 → b.1.1.0 ≡ x.rho → q ≡ answer.Refused 19 → ⊥))
+pub from_density_fluid : Whatever (from_pressure.Post tt) (λ a r. (x : State) → r ≡ Ok x
+    → Whatever (from_density.Post tt) (λ b q. b.0 ≡ a.0 → b.1.0 ≡ a.1.0 → b.1.1.0 ≡ x.rho → q ≡ refused 19 → ⊥))
 from_density_fluid a r s h x e b q u k o f g l =
     fluid_both_ways of1996 a.0 lawful a.1.0 a.1.1.0 x (sym h ∙ e) (rw (← o, ← f, ← g) (sym k ∙ l))

@@ -1,4 +1,5 @@
 -- How long a report is, whatever the text: at most 32 lines of 46 bytes and an ending of 40, since each number has 20 digits at most. Assumes nothing.
+use Rattle.std.specs.Prelude.{Ok, Err}
 use Prim.Native.Nat.{ℕ, suc, ◌+◌, ◌*◌, ◌^◌, ◌≤◌, ◌<◌}
 use mathlib.Core.Path.{◌≡◌, refl, ◌∙◌}
 use mathlib.Core.List.{List, [], ◌∷◌, ◌++◌, map}
@@ -16,7 +17,7 @@ use Rattle.sheet_weigh.proofs.Markings.{marked_length, all_light}
 use Rattle.sheet_write.specs.Writing.{ascii}
 use Rattle.sheet_report.specs.Report.{line_bytes, lines_bytes, ending_bytes}
 use Rattle.sheet_outcome.specs.declared.Mark.{Mark}
-use Rattle.sheet_outcome.specs.declared.Weighed.{Weighed}
+use Rattle.sheet_outcome.specs.Outcome.{Weighed}
 use Rattle.sheet_outcome.specs.declared.Ending.{Ending}
 use Rattle.sheet_report.proofs.Reports.{between_length, number_of, line_size}
 use Rattle.sheet_score.specs.Score.{report}
@@ -47,8 +48,8 @@ number_most : (L : Limits) (cs : List Cylinder) (i : ℕ) → i < length cs → 
 number_most L cs i h = go (came L cs i) refl
   where
     go : (w : Weighed) → came L cs i ≡ w → number_of w < 10 ^ 20
-    go (Weighed.Refused n) e = at_most (number_at ((refusals_at L cs i h n).0 e))
-    go (Weighed.Mass mg) e =
+    go (Err n) e = at_most (number_at ((refusals_at L cs i h n).0 e))
+    go (Ok mg) e =
         let m = marked_length L (map line_of cs) in
         let u = all_light L (map line_of cs) i mg no_mark (omega (arith, m, length-map cs line_of)) e in
         omega (arith, u)

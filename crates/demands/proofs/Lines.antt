@@ -1,5 +1,6 @@
 -- A line: each refusal exactly under its condition, and what its milligrams are. Assumes nothing.
-use Rattle.std.specs.Prelude.{Some, None}
+use Rattle.refusal.specs.Refused.{refused}
+use Rattle.std.specs.Prelude.{Some, None, Ok, Err}
 use Prim.Native.Nat.{ℕ, ◌*◌}
 use mathlib.Core.Path.{◌≡◌, refl, ap, subst, ◌∙◌}
 use mathlib.Core.Bool.{true, false, cond}
@@ -15,13 +16,13 @@ use Rattle.sheet_line.specs.declared.cylinder.Cylinder.{Cylinder}
 use Rattle.eos_state.specs.declared.State.{State}
 use Rattle.equation.specs.Equation.{of1996}
 use Rattle.door_limits.specs.declared.Limits.{Limits}
-use Rattle.door_answers.specs.declared.Answer.{Answer}
+use Rattle.door_answers.specs.Answer.{Answer}
 use Rattle.door_pressure.specs.PressureDoor.{pressure_door}
 use Rattle.door_density.specs.DensityDoor.{density_door}
 use Rattle.num_whole.specs.Whole.{whole_below, Below}
 use Rattle.num_working.proofs.Cases.{by_test}
 use Rattle.sheet_weigh.specs.Weighing.{if_number, is_volume, filled, on_scale, mass, milligrams, by_answer, by_reading, weighed}
-use Rattle.sheet_outcome.specs.declared.Weighed.{Weighed}
+use Rattle.sheet_outcome.specs.Outcome.{Weighed}
 use Rattle.sheet_report.proofs.Reports.{number_of}
 use Rattle.demands.specs.Demands.{Exactly}
 use Rattle.demands.proofs.Ranges.{Outside, below_one, above_top, inside, outside, is_inside, is_outside}
@@ -68,18 +69,18 @@ not_weighed for_density e = let z : ◌≡◌ {A = ℕ} 0 1 = cc in omega arith
 
 module _ (L : Limits) where
   pub data Comes (c : Cylinder) : Weighed → Type 0 where
-    refused : {n : ℕ} → RefusesLine L c n → Comes c (Weighed.Refused n)
-    weighs : {mg : ℕ} → Weighs L c mg → Comes c (Weighed.Mass (as_milligrams mg))
+    refused : {n : ℕ} → RefusesLine L c n → Comes c (Err n)
+    weighs : {mg : ℕ} → Weighs L c mg → Comes c (Ok (as_milligrams mg))
 
   module _ (c : Cylinder) where
-    of_product : {v : ℕ} (s : State) (b : Below) → Figures L c v (Answer.State s) → Volume v → whole_below (product s v) ≡ b → Comes c (mass b)
+    of_product : {v : ℕ} (s : State) (b : Below) → Figures L c v (Ok s) → Volume v → whole_below (product s v) ≡ b → Comes c (mass b)
     of_product s (Some mg) f r e = weighs (by_product f r e)
     of_product s None f r e = refused (no_product f r e)
 
     of_answer : {v : ℕ} (a : Answer) → Figures L c v a → Volume v → Comes c (by_answer a v)
     unfolding milligrams
-    of_answer {v} (Answer.State s) f r = of_product s (whole_below (product s v)) f r refl
-    of_answer (Answer.Refused n) f r = refused (by_door f r)
+    of_answer {v} (Ok s) f r = of_product s (whole_below (product s v)) f r refl
+    of_answer (Err n) f r = refused (by_door f r)
 
     of_scale : {v : ℕ} (g : ℕ) → OnScale c v g → Volume v → Comes c (on_scale (from_scale (as_grams g)))
     unfolding from_scale milligrams_of
@@ -90,7 +91,7 @@ module _ (L : Limits) where
     of_volume : {v : ℕ} (w : Weighed) → (Volume v → Comes c w) → (NoVolume v → RefusesLine L c 2) → Comes c (filled v w)
     unfolding filled
     of_volume {v} w f out =
-        by_test (Comes c) (is_volume v) w (Weighed.Refused 2) (λ r. f (in_volume_range v r))
+        by_test (Comes c) (is_volume v) w (refused 2) (λ r. f (in_volume_range v r))
         (λ r. refused (out (out_of_volume_range (outside 1_000_000 v r))))
 
     at_door : {v : ℕ} (a : Answer) → Figures L c v a → Comes c (filled v (by_answer a v))
@@ -122,18 +123,18 @@ module _ (L : Limits) where
 
     -- ---- DEMAND 2: a blank is refused by 1, whatever the other fields are, and never read as a number
 
-    of_number : (n : Field) (f : ℕ → Weighed) → ((k : ℕ) → f k ≡ Weighed.Refused 1) → if_number n f ≡ Weighed.Refused 1
+    of_number : (n : Field) (f : ℕ → Weighed) → ((k : ℕ) → f k ≡ refused 1) → if_number n f ≡ refused 1
     of_number None f h = refl
     of_number (Some n) f h = h n
 
-    no_temperature : (v : ℕ) (d : Kind) (x : Field) → AtDoor d → by_reading L None v (reading_of (recorded_of d x)) ≡ Weighed.Refused 1
+    no_temperature : (v : ℕ) (d : Kind) (x : Field) → AtDoor d → by_reading L None v (reading_of (recorded_of d x)) ≡ refused 1
     unfolding by_reading
     no_temperature v d None a = refl
     no_temperature v Kind.Pressure (Some x) a = refl
     no_temperature v Kind.Density (Some x) a = refl
     no_temperature v Kind.Weighed (Some x) a = absurd (not_weighed a refl)
 
-    pub dash_refused : Dashed c → weighed L (line_of c) ≡ Weighed.Refused 1
+    pub dash_refused : Dashed c → weighed L (line_of c) ≡ refused 1
     unfolding weighed by_reading
     dash_refused (in_number e) = rw e
     dash_refused (in_volume e) = rw e (of_number c.number _ (λ _. refl))
@@ -148,17 +149,17 @@ module _ (L : Limits) where
     at_the_door t d x a v (by_pressure n) = refl
     at_the_door t d x a v (by_density n) = refl
 
-    figured : {v : ℕ} {a : Answer} → Figures L c v a → weighed L (line_of c) ≡ cond (is_volume v) (by_answer a v) (Weighed.Refused 2)
+    figured : {v : ℕ} {a : Answer} → Figures L c v a → weighed L (line_of c) ≡ cond (is_volume v) (by_answer a v) (refused 2)
     unfolding weighed filled
     figured {v} {a} f =
         rw (f.number, f.volume, f.temperature)
         (at_the_door (div binary64 (whole f.degrees) (whole 10000)) c.kind c.value a v f.asked)
 
-    scaled : {v g : ℕ} → OnScale c v g → weighed L (line_of c) ≡ cond (is_volume v) (on_scale (from_scale (as_grams g))) (Weighed.Refused 2)
+    scaled : {v g : ℕ} → OnScale c v g → weighed L (line_of c) ≡ cond (is_volume v) (on_scale (from_scale (as_grams g))) (refused 2)
     unfolding weighed by_reading filled
     scaled f = rw (f.number, f.volume, f.kind, f.value)
 
-    line_refused : {n : ℕ} → RefusesLine L c n → weighed L (line_of c) ≡ Weighed.Refused n
+    line_refused : {n : ℕ} → RefusesLine L c n → weighed L (line_of c) ≡ Err n
     unfolding milligrams from_scale
     line_refused (lines.blank b) = dash_refused b
     line_refused (no_volume f r) = figured f ∙ rw (is_no_volume r)
@@ -167,23 +168,23 @@ module _ (L : Limits) where
     line_refused (by_door f r) = figured f ∙ rw (is_volume_lem r)
     line_refused (no_product f r e) = figured f ∙ rw (is_volume_lem r, e)
 
-    line_weighed : {mg : ℕ} → Weighs L c mg → weighed L (line_of c) ≡ Weighed.Mass (as_milligrams mg)
+    line_weighed : {mg : ℕ} → Weighs L c mg → weighed L (line_of c) ≡ Ok (as_milligrams mg)
     unfolding milligrams from_scale milligrams_of
     line_weighed (by_product f r e) = figured f ∙ rw (is_volume_lem r, e)
     line_weighed (by_scale f r m) = scaled f ∙ rw (is_volume_lem r, is_mass_lem m)
 
   -- ---- each refusal exactly under its condition, and the milligrams exactly as they are defined
 
-  refuses : (c : Cylinder) (w : Weighed) (k : ℕ) → Comes c w → w ≡ Weighed.Refused k → RefusesLine L c k
+  refuses : (c : Cylinder) (w : Weighed) (k : ℕ) → Comes c w → w ≡ Err k → RefusesLine L c k
   refuses c w k (refused {n} r) e = let q : n ≡ k = cc in subst (RefusesLine L c) q r
   refuses c w k (weighs x) e = let z : ◌≡◌ {A = ℕ} 0 1 = cc in absurd (omega arith)
 
-  is_weighed : (c : Cylinder) (w : Weighed) (k : ℕ) → Comes c w → w ≡ Weighed.Mass (as_milligrams k) → Weighs L c k
+  is_weighed : (c : Cylinder) (w : Weighed) (k : ℕ) → Comes c w → w ≡ Ok (as_milligrams k) → Weighs L c k
   is_weighed c w k (weighs {mg} x) e = subst (Weighs L c) (ap number_of e) x
   is_weighed c w k (refused r) e = let z : ◌≡◌ {A = ℕ} 0 1 = cc in absurd (omega arith)
 
-  pub line_refusals : (c : Cylinder) (n : ℕ) → Exactly (weighed L (line_of c) ≡ Weighed.Refused n) (RefusesLine L c n)
+  pub line_refusals : (c : Cylinder) (n : ℕ) → Exactly (weighed L (line_of c) ≡ Err n) (RefusesLine L c n)
   line_refusals c n = (refuses c (weighed L (line_of c)) n (comes c), line_refused c)
 
-  pub line_answers : (c : Cylinder) (mg : ℕ) → Exactly (weighed L (line_of c) ≡ Weighed.Mass (as_milligrams mg)) (Weighs L c mg)
+  pub line_answers : (c : Cylinder) (mg : ℕ) → Exactly (weighed L (line_of c) ≡ Ok (as_milligrams mg)) (Weighs L c mg)
   line_answers c mg = (is_weighed c (weighed L (line_of c)) mg (comes c), line_weighed c)

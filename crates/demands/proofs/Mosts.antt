@@ -1,5 +1,5 @@
 -- By the limits of RULES 2.2 no door answers a density above 1,400 kg/m³, and so a door's line has no more than 1,400,000,000 mg. Assumes nothing.
-use Rattle.std.specs.Prelude.{Some, None}
+use Rattle.std.specs.Prelude.{Some, None, Ok}
 use Prim.Native.Nat.{ℕ, ◌+◌, ◌*◌, ◌^◌, ◌≤◌, ◌<◌}
 use mathlib.Core.Path.{◌≡◌, refl, sym, subst}
 use mathlib.Core.Bool.{Bool, true, false, cond, ◌||◌, true≢false}
@@ -34,8 +34,7 @@ use Rattle.equation.proofs.Laws.{lawful}
 use Rattle.door_limits.specs.Limits.{document01, outside, search_ends}
 use Rattle.door_limits.specs.declared.Range.{Range}
 use Rattle.door_limits.specs.declared.Limits.{Limits}
-use Rattle.door_answers.specs.declared.Answer.{Answer}
-use Rattle.door_answers.specs.declared.Answer.TheVariants as answer
+use Rattle.door_answers.specs.Answer.{Answer}
 use Rattle.door_pressure.specs.PressureDoor.{scaled, pressure_door}
 use Rattle.door_pressure.proofs.Searches.{bits_below}
 use Rattle.door_density.specs.DensityDoor.{density_door}
@@ -117,12 +116,12 @@ up_to_its_end E L lawful t p x a =
     (bits_mono a.bits (to_bits binary64 a.to) (omega arith) top))
 
 -- ---- what a door answers is no denser than 1,400 kg/m³
-pub pressure_door_most : (t p : Float) (x : State) → pressure_door of1996 document01 t p ≡ answer.State x → Ordered x.rho (whole 1400)
+pub pressure_door_most : (t p : Float) (x : State) → pressure_door of1996 document01 t p ≡ Ok x → Ordered x.rho (whole 1400)
 pressure_door_most t p x e =
     let a = pressure_answers of1996 document01 lawful t p x e in
     onward (up_to_its_end of1996 document01 lawful t p x a) (end_most t p a.past.ranged a.ranged)
 
-pub density_door_most : (t rho : Float) (x : State) → density_door of1996 document01 t rho ≡ answer.State x → Ordered x.rho (whole 1400)
+pub density_door_most : (t rho : Float) (x : State) → density_door of1996 document01 t rho ≡ Ok x → Ordered x.rho (whole 1400)
 unfolding document01 decimal fraction le whole of_int round
 density_door_most t rho x e =
     let a = density_answers of1996 document01 lawful t rho x e in
@@ -168,10 +167,10 @@ milligrams_most rho v mg o h e =
     below_most (mul binary64 rho (whole v)) mg 1_400_000_000 (omega arith) (onward l (in_order {y = whole 1_400_000_000} tt)) e
 
 -- ---- and so of a line whose door answered
-answer_most : (t : Float) (k : Kind) (f : Field) (a : Answer) (x : State) → Asked document01 t k f a → a ≡ answer.State x → Ordered x.rho (whole 1400)
+answer_most : (t : Float) (k : Kind) (f : Field) (a : Answer) (x : State) → Asked document01 t k f a → a ≡ Ok x → Ordered x.rho (whole 1400)
 answer_most t k f a x (by_pressure n) e = pressure_door_most t (whole n) x e
 answer_most t k f a x (by_density n) e = density_door_most t (div binary64 (whole n) (whole 1000)) x e
 
-pub line_most : (c : Cylinder) (v mg : ℕ) (s : State) → Figures document01 c v (answer.State s) → Volume v → whole_below (product s v) ≡ Some mg
+pub line_most : (c : Cylinder) (v mg : ℕ) (s : State) → Figures document01 c v (Ok s) → Volume v → whole_below (product s v) ≡ Some mg
     → mg ≤ 1_400_000_000
 line_most c v mg s f r e = milligrams_most s.rho v mg (answer_most _ _ _ _ s f.asked refl) r.at_most e

@@ -1,5 +1,6 @@
 -- The number of a line's refusal: from 1 to 9, 19 or 23; on its sheet also 30, and that only of a number that stands there twice. Assumes nothing.
-use Rattle.std.specs.Prelude.{Some}
+use Rattle.refusal.specs.Refused.{refused}
+use Rattle.std.specs.Prelude.{Some, Err}
 use Prim.Native.Nat.{ℕ, ◌≤◌, ◌<◌}
 use mathlib.Core.Path.{◌≡◌, refl, subst}
 use mathlib.Core.List.{List, map}
@@ -14,8 +15,8 @@ use Rattle.sheet_line.specs.declared.cylinder.Cylinder.{Cylinder}
 use Rattle.sheet_standing.specs.Standing.{first_with}
 use Rattle.sheet_standing.proofs.Firsts.{First, first_of_again}
 use Rattle.door_limits.specs.declared.Limits.{Limits}
-use Rattle.door_answers.specs.declared.Answer.{Answer}
-use Rattle.sheet_outcome.specs.declared.Weighed.{Weighed}
+use Rattle.door_answers.specs.Answer.{Answer}
+use Rattle.sheet_outcome.specs.Outcome.{Weighed}
 use Rattle.demands.specs.Demands.{Exactly, Numbered, to_9, is_19, Settled, given, not_given}
 use Rattle.demands.specs.Lines as lines
 use Rattle.demands.specs.Lines.{Dashed, Asked, by_pressure, by_density, RefusesLine, no_volume, no_volume_weighed, no_mass, by_door, no_product}
@@ -33,7 +34,7 @@ from_1 : {n : ℕ} → Numbered 3 n → Numbered 1 n
 from_1 (to_9 n h k) = to_9 n (omega arith) k
 from_1 is_19 = is_19
 
-door_number : {n : ℕ} → Settled (Answer.Refused n) → Numbered 1 n
+door_number : {n : ℕ} → Settled (Err n) → Numbered 1 n
 door_number (given x e) = let z : ◌≡◌ {A = ℕ} 0 1 = cc in absurd (omega arith)
 door_number {n} (not_given m e k) = let z : m ≡ n = cc in subst (Numbered 1) z (from_1 k)
 
@@ -63,7 +64,7 @@ not_30 is_23 e = omega (arith, e)
 
 -- THE LINE AT i IS REFUSED BY 30 exactly when no field that it requires is blank and some line before it has its number
 pub refused_by_30 : (L : Limits) (cs : List Cylinder) (i : ℕ) → i < length cs
-    → Exactly (came L cs i ≡ Weighed.Refused 30) ((Dashed (at cs i) → ⊥) × Again cs i)
+    → Exactly (came L cs i ≡ refused 30) ((Dashed (at cs i) → ⊥) × Again cs i)
 refused_by_30 L cs i h = (λ e. go 30 refl ((refusals_at L cs i h 30).0 e), λ p. (refusals_at L cs i h 30).1 (is_again p.0 p.1))
   where
     go : (n : ℕ) → n ≡ 30 → RefusesAt L cs i n → (Dashed (at cs i) → ⊥) × Again cs i
@@ -72,7 +73,7 @@ refused_by_30 L cs i h = (λ e. go 30 refl ((refusals_at L cs i h 30).0 e), λ p
     go n e (alone d a r) = absurd (not_30 (line_number r) e)
 
 -- and then the line that is named first has that number, stands before it, and none before that one has the number
-pub first_named : (L : Limits) (cs : List Cylinder) (i : ℕ) → i < length cs → came L cs i ≡ Weighed.Refused 30
+pub first_named : (L : Limits) (cs : List Cylinder) (i : ℕ) → i < length cs → came L cs i ≡ refused 30
     → (n : ℕ) × ((at cs i).number ≡ Some n) × First (map line_of cs) i n (first_with 1 (map line_of cs) n)
 first_named L cs i h e =
     let p = (refused_by_30 L cs i h).0 e in

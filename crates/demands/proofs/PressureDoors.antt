@@ -1,5 +1,7 @@
 -- The pressure door, over any equation and any limits: each refusal exactly under its condition, and what an answer means. Assumes nothing.
-use Rattle.std.specs.Prelude.{Some, None}
+use Rattle.refusal.specs.Refused.{refused}
+use Rattle.num_halving.specs.declared.Missed.TheVariants.{Nowhere, Broke}
+use Rattle.std.specs.Prelude.{Some, None, Ok, Err}
 use Prim.Native.Nat.{ℕ, ◌^◌, ◌≤◌}
 use mathlib.Core.Path.{◌≡◌, refl, sym, ap, subst, ◌∙◌}
 use mathlib.Core.Bool.{false}
@@ -7,9 +9,7 @@ use native.Mathlib.Omega.{arith}
 use lib.Ieee.{Float, binary64, eq, lt, le, of_bits, to_bits}
 use Rattle.num_working.specs.Working.{Worked}
 use Rattle.num_working.proofs.Cases.{by_test, by_working}
-use Rattle.num_halving.specs.Halving.{NoCrossing, halve}
-use Rattle.num_halving.specs.declared.Crossing.{Crossing}
-use Rattle.num_halving.specs.declared.Crossing.TheVariants.{At, Nowhere, Broke}
+use Rattle.num_halving.specs.Halving.{NoCrossing, halve, Crossing}
 use Rattle.num_halving.proofs.Halvings.{answer, nowhere, nowhere_back, breaks, breaks_back}
 use Rattle.eos_state.specs.declared.Phase.{Phase}
 use Rattle.eos_state.specs.declared.Phase.TheVariants.{Vapour, Liquid, Supercritical}
@@ -18,12 +18,8 @@ use Rattle.eos_state.specs.State.{Stated}
 use Rattle.equation.specs.Equation.{Equation, Lawful}
 use Rattle.door_limits.specs.Limits.{search_ends}
 use Rattle.door_limits.specs.declared.Limits.{Limits}
-use Rattle.door_checks.specs.Check.{solid, boxed}
-use Rattle.door_checks.specs.declared.Check.{Check}
-use Rattle.door_checks.specs.declared.Check.TheVariants.{Passed, No}
-use Rattle.door_answers.specs.Answer.{passed, answer_with}
-use Rattle.door_answers.specs.declared.Answer.{Answer}
-use Rattle.door_answers.specs.declared.Answer.TheVariants as answer
+use Rattle.door_checks.specs.Check.{solid, boxed, Check}
+use Rattle.door_answers.specs.Answer.{passed, answer_with, Answer}
 use Rattle.door_pressure.specs.Search.{figure, found, searched}
 use Rattle.door_pressure.specs.PressureDoor.{scaled, vapour, liquid, beneath, entered, unboxed, thawed, pressure_door}
 use Rattle.door_pressure.proofs.Doors.{Reached, searchable, scaled_reached}
@@ -47,8 +43,8 @@ ends E L lawful t p (demands.liquid b e) =
 module _ (E : Equation) (L : Limits) (lawful : Lawful E) (t p : Float) where
   -- ---- an answer of the door, explained
   pub data Explains (a : Answer) : Type 0 where
-    refuses : (n : ℕ) → a ≡ answer.Refused n → RefusesP E L t p n → Explains a
-    answers : (x : State) → a ≡ answer.State x → Answered E L t p x → Explains a
+    refuses : (n : ℕ) → a ≡ Err n → RefusesP E L t p n → Explains a
+    answers : (x : State) → a ≡ Ok x → Answered E L t p x → Explains a
 
   -- no search runs past the bits of −0
   top : {phase : Phase} {from to : Float} → Ranged E L t p phase from to → to_bits binary64 to ≤ 2 ^ 63
@@ -65,7 +61,7 @@ module _ (E : Equation) (L : Limits) (lawful : Lawful E) (t p : Float) where
       abbrev hi : ℕ
       hi = to_bits binary64 to
 
-      of_state : (r : ℕ) → halve f p lo hi ≡ At r → (s : Stated) → E.state t phase (of_bits binary64 r) ≡ s → Explains (answer_with s)
+      of_state : (r : ℕ) → halve f p lo hi ≡ Ok r → (s : Stated) → E.state t phase (of_bits binary64 r) ≡ s → Explains (answer_with s)
       of_state r e None q = refuses 7 refl (state_fails past ranged e q)
       of_state r e (Some y) q =
           let k = sym (lawful.phase t phase (of_bits binary64 r) y q) in
@@ -83,9 +79,9 @@ module _ (E : Equation) (L : Limits) (lawful : Lawful E) (t p : Float) where
           })
 
       of_crossing : (c : Crossing) → halve f p lo hi ≡ c → Explains (found (E.state t phase) c)
-      of_crossing (At r) e = of_state r e (E.state t phase (of_bits binary64 r)) refl
-      of_crossing Nowhere e = refuses 9 refl (no_crossing past ranged (nowhere f p lo hi (top ranged) e))
-      of_crossing Broke e = let b = breaks f p lo hi (top ranged) e in refuses 7 refl (probe_fails past ranged b.0 b.1)
+      of_crossing (Ok r) e = of_state r e (E.state t phase (of_bits binary64 r)) refl
+      of_crossing (Err Nowhere) e = refuses 9 refl (no_crossing past ranged (nowhere f p lo hi (top ranged) e))
+      of_crossing (Err Broke) e = let b = breaks f p lo hi (top ranged) e in refuses 7 refl (probe_fails past ranged b.0 b.1)
 
       of_search : Explains (searched (E.pressure t) (E.state t phase) from to p)
       unfolding searched
@@ -117,7 +113,7 @@ module _ (E : Equation) (L : Limits) (lawful : Lawful E) (t p : Float) where
   of_unboxed : InRangeP E L t p → Fluid E t p → Explains (unboxed E L t p)
   unfolding unboxed boxed
   of_unboxed r f =
-      by_test (λ (c : Check). Explains (passed c (entered E t p))) (in_box_p E L t p) (No 6) Passed (λ e. refuses 6 refl (in_critical_box r f e))
+      by_test (λ (c : Check). Explains (passed c (entered E t p))) (in_box_p E L t p) (refused 6) (Ok tt) (λ e. refuses 6 refl (in_critical_box r f e))
       (λ e. of_entered (record { ranged = r; fluid = f; unboxed = e }))
 
   of_thawed : InRangeP E L t p → Explains (thawed E L t p)
@@ -150,7 +146,7 @@ module _ (E : Equation) (L : Limits) (lawful : Lawful E) (t p : Float) where
   searches past (demands.vapour (lower cold e off q) w) = enters past ∙ rw (cold, e, off, q, w) refl
   searches past (demands.liquid (higher cold e off q) w) = enters past ∙ rw (cold, e, off, q, w) refl
 
-  pub refuses_back : {n : ℕ} → RefusesP E L t p n → pressure_door E L t p ≡ answer.Refused n
+  pub refuses_back : {n : ℕ} → RefusesP E L t p n → pressure_door E L t p ≡ Err n
   unfolding pressure_door thawed solid unboxed boxed entered beneath vapour liquid searched
   refuses_back (out_of_range b) = ap (λ (c : Check). passed c (thawed E L t p)) (stops_back L.asked.temperature L.asked.pressure t p b)
   refuses_back (melting_fails r e) = rw (passes_back L.asked.temperature L.asked.pressure t p r, e) refl
@@ -171,7 +167,7 @@ module _ (E : Equation) (L : Limits) (lawful : Lawful E) where
   pub pressure_refusals : PressureRefusals E L
   pressure_refusals t p n = (go (explained E L lawful t p), refuses_back E L lawful t p)
     where
-      go : Explains E L lawful t p (pressure_door E L t p) → pressure_door E L t p ≡ answer.Refused n → RefusesP E L t p n
+      go : Explains E L lawful t p (pressure_door E L t p) → pressure_door E L t p ≡ Err n → RefusesP E L t p n
       go (refuses m f w) e = let q : m ≡ n = cc in subst (RefusesP E L t p) q w
       go (answers x f a) e = let z : ◌≡◌ {A = ℕ} 0 1 = cc in absurd (omega arith)
 
@@ -188,16 +184,16 @@ module _ (E : Equation) (L : Limits) (lawful : Lawful E) where
   no_crossing_exactly t p phase from to past ranged =
       (λ e. is_nowhere (sym (searches E L lawful t p past ranged) ∙ e), λ n. refuses_back E L lawful t p (no_crossing past ranged n))
     where
-      of_state : (s : Stated) → answer_with s ≡ answer.Refused 9 → ⊥
+      of_state : (s : Stated) → answer_with s ≡ refused 9 → ⊥
       of_state None e = let z : ◌≡◌ {A = ℕ} 7 9 = cc in omega arith
       of_state (Some y) e = let z : ◌≡◌ {A = ℕ} 0 1 = cc in omega arith
 
       of_crossing : (c : Crossing) → halve (figure (E.pressure t)) p (to_bits binary64 from) (to_bits binary64 to) ≡ c
-          → found (E.state t phase) c ≡ answer.Refused 9 → NoCrossing (figure (E.pressure t)) p (to_bits binary64 from) (to_bits binary64 to)
-      of_crossing (At r) e g = absurd (of_state (E.state t phase (of_bits binary64 r)) g)
-      of_crossing Nowhere e g = nowhere (figure (E.pressure t)) p (to_bits binary64 from) (to_bits binary64 to) (top E L lawful t p ranged) e
-      of_crossing Broke e g = let z : ◌≡◌ {A = ℕ} 7 9 = cc in absurd (omega arith)
+          → found (E.state t phase) c ≡ refused 9 → NoCrossing (figure (E.pressure t)) p (to_bits binary64 from) (to_bits binary64 to)
+      of_crossing (Ok r) e g = absurd (of_state (E.state t phase (of_bits binary64 r)) g)
+      of_crossing (Err Nowhere) e g = nowhere (figure (E.pressure t)) p (to_bits binary64 from) (to_bits binary64 to) (top E L lawful t p ranged) e
+      of_crossing (Err Broke) e g = let z : ◌≡◌ {A = ℕ} 7 9 = cc in absurd (omega arith)
 
-      is_nowhere : searched (E.pressure t) (E.state t phase) from to p ≡ answer.Refused 9
+      is_nowhere : searched (E.pressure t) (E.state t phase) from to p ≡ refused 9
           → NoCrossing (figure (E.pressure t)) p (to_bits binary64 from) (to_bits binary64 to)
       is_nowhere g = of_crossing (halve (figure (E.pressure t)) p (to_bits binary64 from) (to_bits binary64 to)) refl g

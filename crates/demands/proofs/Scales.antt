@@ -11,7 +11,7 @@ use lib.ListN.{length}
 use lib.Ieee.{Float}
 use Rattle.door_limits.specs.Limits.{document01}
 use Rattle.door_limits.specs.declared.Limits.{Limits}
-use Rattle.door_answers.specs.declared.Answer.{Answer}
+use Rattle.door_answers.specs.Answer.{Answer}
 use Rattle.sheet_text.specs.Field.{field_text, Field}
 use Rattle.sheet_text.proofs.Parses.{none_or_some}
 use Rattle.sheet_mass.specs.Mass.{milligrams_of, from_scale}
@@ -25,8 +25,7 @@ use Rattle.sheet_line.proofs.Printed.{opened}
 use Rattle.sheet_read.specs.Form.{Bank, cylinders_text, text, in_form}
 use Rattle.sheet_read.proofs.Inverse.{the_form}
 use Rattle.sheet_standing.specs.Standing.{lacking, is_on, numbers, standing}
-use Rattle.sheet_outcome.specs.Outcome.{admitted, total, Summed}
-use Rattle.sheet_outcome.specs.declared.Weighed.{Weighed}
+use Rattle.sheet_outcome.specs.Outcome.{admitted, total, Summed, Weighed}
 use Rattle.sheet_outcome.specs.declared.Mark.{Mark}
 use Rattle.sheet_weigh.specs.Weighing.{if_passed, filled, by_reading, weighed, weighed_after}
 use Rattle.sheet_weigh.specs.Sheet.{mark, marked_after, marked}

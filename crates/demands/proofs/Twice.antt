@@ -1,5 +1,6 @@
 -- A line on its sheet: each refusal exactly under its condition, 30 among them; and where no number stands twice, all as it was. Assumes nothing.
-use Rattle.std.specs.Prelude.{Some, None}
+use Rattle.refusal.specs.Refused.{refused}
+use Rattle.std.specs.Prelude.{Some, None, Ok, Err}
 use Prim.Native.Nat.{ℕ, zero, suc, ◌<◌}
 use mathlib.Core.Path.{◌≡◌, refl, sym, ap, subst, ◌∙◌}
 use mathlib.Core.Bool.{Bool, true, false, cond, ◌||◌, true≢false}
@@ -20,13 +21,10 @@ use Rattle.sheet_line.specs.declared.cylinder.Kind.{Kind}
 use Rattle.sheet_line.specs.declared.cylinder.Cylinder.{Cylinder}
 use Rattle.sheet_line.specs.declared.line.Line.{Line}
 use Rattle.sheet_read.specs.Form.{Bank}
-use Rattle.door_checks.specs.declared.Check.{Check}
-use Rattle.door_checks.specs.declared.Check.TheVariants.{Passed, No}
+use Rattle.door_checks.specs.Check.{Check}
 use Rattle.sheet_standing.specs.Standing.{if_numbered, no_volume, no_reading, lacking, is_on, numbers, standing}
 use Rattle.sheet_standing.proofs.Named.{named, is_named}
-use Rattle.sheet_outcome.specs.Outcome.{admitted}
-use Rattle.sheet_outcome.specs.declared.Admitted.{Admitted}
-use Rattle.sheet_outcome.specs.declared.Weighed.{Weighed}
+use Rattle.sheet_outcome.specs.Outcome.{admitted, Admitted, Weighed}
 use Rattle.sheet_outcome.specs.declared.Mark.{Mark}
 use Rattle.sheet_weigh.specs.Weighing.{weighed, if_passed, weighed_after}
 use Rattle.sheet_weigh.specs.Sheet.{marked}
@@ -125,30 +123,30 @@ module _ (cs : List Cylinder) (i : ℕ) where
   abbrev stands : Check
   stands = standing (numbers above) (line_of (at cs i))
 
-  stands_lacking : Dashed (at cs i) → stands ≡ No 1
+  stands_lacking : Dashed (at cs i) → stands ≡ refused 1
   unfolding standing
   stands_lacking d = ⊎_elim (λ e. rw e) (λ e. rw e (go (at cs i).number)) (lacks_one (at cs i) d)
     where
-      go : (f : Field) → if_numbered f (λ n. No 1) ≡ No 1
+      go : (f : Field) → if_numbered f (λ n. refused 1) ≡ refused 1
       go None = refl
       go (Some n) = refl
 
   -- none is blank, and so there is a number
-  by_number : (Dashed (at cs i) → ⊥) → (c : Check) → ((n : ℕ) → (at cs i).number ≡ Some n → cond (is_on (numbers above) n) (No 30) Passed ≡ c) → stands ≡ c
+  by_number : (Dashed (at cs i) → ⊥) → (c : Check) → ((n : ℕ) → (at cs i).number ≡ Some n → cond (is_on (numbers above) n) (refused 30) (Ok tt) ≡ c) → stands ≡ c
   unfolding standing
   by_number h c f = rw (lacks_none (at cs i) h) (go (at cs i).number refl)
     where
-      go : (g : Field) → (at cs i).number ≡ g → if_numbered g (λ n. cond (is_on (numbers above) n) (No 30) Passed) ≡ c
+      go : (g : Field) → (at cs i).number ≡ g → if_numbered g (λ n. cond (is_on (numbers above) n) (refused 30) (Ok tt)) ≡ c
       go None e = absurd (h (in_number e))
       go (Some n) e = f n e
 
-  pub stands_again : (Dashed (at cs i) → ⊥) → Again cs i → stands ≡ No 30
-  stands_again h a = by_number h (No 30) (λ n e. rw (again_on n e a))
+  pub stands_again : (Dashed (at cs i) → ⊥) → Again cs i → stands ≡ refused 30
+  stands_again h a = by_number h (refused 30) (λ n e. rw (again_on n e a))
 
-  stands_ready : (Dashed (at cs i) → ⊥) → (Again cs i → ⊥) → stands ≡ Passed
-  stands_ready h a = by_number h Passed (λ n e. go n e (is_on (numbers above) n) refl)
+  stands_ready : (Dashed (at cs i) → ⊥) → (Again cs i → ⊥) → stands ≡ (Ok tt)
+  stands_ready h a = by_number h (Ok tt) (λ n e. go n e (is_on (numbers above) n) refl)
     where
-      go : (n : ℕ) → (at cs i).number ≡ Some n → (b : Bool) → is_on (numbers above) n ≡ b → cond b (No 30) Passed ≡ Passed
+      go : (n : ℕ) → (at cs i).number ≡ Some n → (b : Bool) → is_on (numbers above) n ≡ b → cond b (refused 30) (Ok tt) ≡ (Ok tt)
       go n e true p = absurd (a (on_again n e p))
       go n e false p = refl
 
@@ -176,10 +174,10 @@ module _ (cs : List Cylinder) (i : ℕ) where
 
 -- ---- what came of it
 
-same_number : {m n : ℕ} → Weighed.Refused m ≡ Weighed.Refused n → m ≡ n
+same_number : {m n : ℕ} → Err m ≡ Err n → m ≡ n
 same_number e = cc
 
-pub no_mass : {A : Type 0} {n : ℕ} {mg : Milligrams} → Weighed.Refused n ≡ Weighed.Mass mg → A
+pub no_mass : {A : Type 0} {n : ℕ} {mg : Milligrams} → Err n ≡ Ok mg → A
 no_mass e = let z : ◌≡◌ {A = ℕ} 0 1 = cc in absurd (omega arith)
 
 abbrev mark_alone : Limits → Line → Mark
@@ -198,16 +196,16 @@ module _ (L : Limits) where
         ap (λ (m : Mark). m.weighed) (marked_at L (map line_of cs) i _ blank_line (omega (arith, length-map cs line_of)))
         ∙ ap (weighed_after L (numbers (above cs i))) (line_at cs i)
 
-    came_lacking : Dashed (at cs i) → came L cs i ≡ Weighed.Refused 1
+    came_lacking : Dashed (at cs i) → came L cs i ≡ refused 1
     came_lacking d = came_as ∙ rw (stands_lacking cs i d)
 
-    came_again : (Dashed (at cs i) → ⊥) → Again cs i → came L cs i ≡ Weighed.Refused 30
+    came_again : (Dashed (at cs i) → ⊥) → Again cs i → came L cs i ≡ refused 30
     came_again d a = came_as ∙ rw (stands_again cs i d a)
 
     came_ready : (Dashed (at cs i) → ⊥) → (Again cs i → ⊥) → came L cs i ≡ weighed L (line_of (at cs i))
     came_ready d a = came_as ∙ rw (stands_ready cs i d a)
 
-    refused_at : (n : ℕ) → came L cs i ≡ Weighed.Refused n → RefusesAt L cs i n
+    refused_at : (n : ℕ) → came L cs i ≡ Err n → RefusesAt L cs i n
     refused_at n e = go (how cs i)
       where
         go : Stands cs i → RefusesAt L cs i n
@@ -215,12 +213,12 @@ module _ (L : Limits) where
         go (standing_again d a) = let z : 30 ≡ n = same_number (sym (came_again d a) ∙ e) in subst (RefusesAt L cs i) z (is_again d a)
         go (standing_ready d a) = alone d a ((line_refusals L (at cs i) n).0 (sym (came_ready d a) ∙ e))
 
-    is_refused_at : {n : ℕ} → RefusesAt L cs i n → came L cs i ≡ Weighed.Refused n
+    is_refused_at : {n : ℕ} → RefusesAt L cs i n → came L cs i ≡ Err n
     is_refused_at (lacks d) = came_lacking d
     is_refused_at (is_again d a) = came_again d a
     is_refused_at (alone {n} d a r) = came_ready d a ∙ (line_refusals L (at cs i) n).1 r
 
-    weighs_at : (mg : ℕ) → came L cs i ≡ Weighed.Mass (as_milligrams mg) → WeighsAt L cs i mg
+    weighs_at : (mg : ℕ) → came L cs i ≡ Ok (as_milligrams mg) → WeighsAt L cs i mg
     weighs_at mg e = go (how cs i)
       where
         go : Stands cs i → WeighsAt L cs i mg
@@ -228,16 +226,16 @@ module _ (L : Limits) where
         go (standing_again d a) = no_mass (sym (came_again d a) ∙ e)
         go (standing_ready d a) = record { first = a; weighs = (line_answers L (at cs i) mg).0 (sym (came_ready d a) ∙ e) }
 
-    is_weighed_at : {mg : ℕ} → WeighsAt L cs i mg → came L cs i ≡ Weighed.Mass (as_milligrams mg)
+    is_weighed_at : {mg : ℕ} → WeighsAt L cs i mg → came L cs i ≡ Ok (as_milligrams mg)
     is_weighed_at {mg} w =
         let e = (line_answers L (at cs i) mg).1 w.weighs in
         came_ready (λ d. no_mass (sym (dash_refused L (at cs i) d) ∙ e)) w.first ∙ e
 
   -- EACH LINE'S REFUSAL, on its sheet, exactly under its condition, and its milligrams exactly as they are defined
-  pub refusals_at : (cs : List Cylinder) (i : ℕ) → i < length cs → (n : ℕ) → Exactly (came L cs i ≡ Weighed.Refused n) (RefusesAt L cs i n)
+  pub refusals_at : (cs : List Cylinder) (i : ℕ) → i < length cs → (n : ℕ) → Exactly (came L cs i ≡ Err n) (RefusesAt L cs i n)
   refusals_at cs i h n = (refused_at cs i h n, is_refused_at cs i h)
 
-  pub answers_at : (cs : List Cylinder) (i : ℕ) → i < length cs → (mg : ℕ) → Exactly (came L cs i ≡ Weighed.Mass (as_milligrams mg)) (WeighsAt L cs i mg)
+  pub answers_at : (cs : List Cylinder) (i : ℕ) → i < length cs → (mg : ℕ) → Exactly (came L cs i ≡ Ok (as_milligrams mg)) (WeighsAt L cs i mg)
   answers_at cs i h mg = (weighs_at cs i h mg, is_weighed_at cs i h)
 
   -- ---- some line of a sheet is refused
@@ -246,11 +244,11 @@ module _ (L : Limits) where
     pub place : ℕ
     pub number : ℕ
     pub within : place < length cs
-    pub refused : came L cs place ≡ Weighed.Refused number
+    pub refused : came L cs place ≡ Err number
 
   module _ (cs : List Cylinder) where
     -- where one is by itself it is on its sheet, by the same number or another
-    pub some_alone : (i n : ℕ) → i < length cs → weighed L (line_of (at cs i)) ≡ Weighed.Refused n → SomeRefused cs
+    pub some_alone : (i n : ℕ) → i < length cs → weighed L (line_of (at cs i)) ≡ Err n → SomeRefused cs
     some_alone i n h e = go (how cs i)
       where
         go : Stands cs i → SomeRefused cs
@@ -295,7 +293,7 @@ module _ (L : Limits) where
       ap (listed (admitted true (length b.cylinders) b.need)) (marked_as_before b.cylinders (once b refl))
 
   -- as it is, twice or not, where the sheet is sent back before its lines are worked
-  pub sent_back_as_before : (b : Bank) (n : ℕ) → admitted true (length b.cylinders) b.need ≡ Admitted.SentBack n
+  pub sent_back_as_before : (b : Bank) (n : ℕ) → admitted true (length b.cylinders) b.need ≡ Err n
       → report L (some b) ≡ report_before L (some b)
   unfolding report
   sent_back_as_before b n e = rw e

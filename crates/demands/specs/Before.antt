@@ -1,5 +1,6 @@
 -- RULES 5.4: what the melting line leaves as it was. The doors of an equation with no solid are those that stood before there was a refusal 19.
 -- Definitions only.
+use Rattle.refusal.specs.Refused.{refused}
 use Rattle.std.specs.Prelude.{◌≡◌, false, cond, Float, Some, None}
 use Rattle.std.specs.Float.{inf}
 use Rattle.num_working.specs.Working.{or_else, Worked}
@@ -8,9 +9,7 @@ use Rattle.equation.specs.Equation.{Equation, of1996}
 use Rattle.door_limits.specs.Limits.{document01, outside}
 use Rattle.door_limits.specs.declared.Limits.{Limits}
 use Rattle.door_checks.specs.Check.{ranged}
-use Rattle.door_answers.specs.Answer.{passed, answer_with}
-use Rattle.door_answers.specs.declared.Answer.{Answer}
-use Rattle.door_answers.specs.declared.Answer.TheVariants as answer
+use Rattle.door_answers.specs.Answer.{passed, answer_with, Answer}
 use Rattle.door_pressure.specs.PressureDoor.{unboxed, pressure_door}
 use Rattle.door_density.specs.DensityDoor.{in_phase, density_door}
 
@@ -31,13 +30,13 @@ never_solid E = record {
 -- an answer, and the one that stood before it, where the melting pressure is w: the same, or solid, or there is no melting pressure
 pub data Kept (w : Worked) (now before : Answer) : Type 0 where
   same : now ≡ before → Kept w now before
-  solid : now ≡ answer.Refused 19 → Kept w now before
-  no_melting : w ≡ None → now ≡ answer.Refused 7 → Kept w now before
+  solid : now ≡ refused 19 → Kept w now before
+  no_melting : w ≡ None → now ≡ refused 7 → Kept w now before
 
 -- and where the melting pressure is always worked: the same, or solid
 pub data AsBefore (now before : Answer) : Type 0 where
   unchanged : now ≡ before → AsBefore now before
-  now_solid : now ≡ answer.Refused 19 → AsBefore now before
+  now_solid : now ≡ refused 19 → AsBefore now before
 
 module _ (E : Equation) (L : Limits) where
   -- of such an equation these two definitions are, word for word, what they were; the doors' other steps are as they were
@@ -46,7 +45,7 @@ module _ (E : Equation) (L : Limits) where
 
   abbrev pub InPhaseBefore : Type 0
   InPhaseBefore = (phase : Phase) (t rho : Float) → in_phase (never_solid E) L phase t rho
-      ≡ or_else (E.pressure t rho) (answer.Refused 7) (λ p. cond (outside L.asked.pressure p) (answer.Refused 5) (answer_with (E.state t phase rho)))
+      ≡ or_else (E.pressure t rho) (refused 7) (λ p. cond (outside L.asked.pressure p) (refused 5) (answer_with (E.state t phase rho)))
 
   -- and whatever is asked, each door's answer is kept
   abbrev pub PressureKept : Type 0

@@ -1,6 +1,6 @@
 -- RULES 4.9 and 5.3: how many terms fell away. An answer's count is the definition's at its temperature and density, whichever door gave it; and but for the
 -- count every answer is what it was. Definitions only.
-use Rattle.std.specs.Prelude.{◌≡◌, Float, Some, None}
+use Rattle.std.specs.Prelude.{◌≡◌, Float, Some, None, Ok, Err}
 use Rattle.num_working.specs.Working.{or_else}
 use Rattle.num_formulas.specs.Formula.{work}
 use Rattle.eos_constants.specs.Reduced.{delta}
@@ -11,21 +11,20 @@ use Rattle.eos_state.specs.declared.Phase.{Phase}
 use Rattle.eos_state.specs.declared.State.{State}
 use Rattle.equation.specs.Equation.{Equation, of1996}
 use Rattle.door_limits.specs.declared.Limits.{Limits}
-use Rattle.door_answers.specs.declared.Answer.{Answer}
-use Rattle.door_answers.specs.declared.Answer.TheVariants as answer
+use Rattle.door_answers.specs.Answer.{Answer}
 use Rattle.door_pressure.specs.PressureDoor.{pressure_door}
 use Rattle.door_density.specs.DensityDoor.{density_door}
 
 module _ (E : Equation) (L : Limits) where
   abbrev pub PressureCounts : Type 0
-  PressureCounts = (t p : Float) (x : State) → pressure_door E L t p ≡ answer.State x → x.fallen ≡ E.fallen x.t x.rho
+  PressureCounts = (t p : Float) (x : State) → pressure_door E L t p ≡ Ok x → x.fallen ≡ E.fallen x.t x.rho
 
   abbrev pub DensityCounts : Type 0
-  DensityCounts = (t rho : Float) (x : State) → density_door E L t rho ≡ answer.State x → x.fallen ≡ E.fallen x.t x.rho
+  DensityCounts = (t rho : Float) (x : State) → density_door E L t rho ≡ Ok x → x.fallen ≡ E.fallen x.t x.rho
 
   -- so both doors give the same
   abbrev pub SameCount : Type 0
-  SameCount = (t p : Float) (x y : State) → pressure_door E L t p ≡ answer.State x → density_door E L t x.rho ≡ answer.State y → y.fallen ≡ x.fallen
+  SameCount = (t p : Float) (x y : State) → pressure_door E L t p ≡ Ok x → density_door E L t x.rho ≡ Ok y → y.fallen ≡ x.fallen
 
 -- ---- but for the count: 0 in its place
 abbrev pub forgotten : State → State
@@ -36,8 +35,8 @@ forgotten_in None = None
 forgotten_in (Some x) = Some (forgotten x)
 
 abbrev pub forgotten_of : Answer → Answer
-forgotten_of (answer.Refused n) = answer.Refused n
-forgotten_of (answer.State x) = answer.State (forgotten x)
+forgotten_of (Err n) = Err n
+forgotten_of (Ok x) = Ok (forgotten x)
 
 -- an equation whose states count nothing
 abbrev pub uncounted : Equation → Equation

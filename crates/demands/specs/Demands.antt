@@ -1,10 +1,10 @@
 -- RULES 10.1: what is demanded of the doors, over any equation and any limits: when each refusal is given, and what an answer means. Definitions only.
-use Rattle.std.specs.Prelude.{ℕ, ◌+◌, ◌<◌, ◌≤◌, ◌≡◌, Bool, true, false, ◌&&◌, not, T, Float, Some, None}
+use Rattle.refusal.specs.Refused.{refused}
+use Rattle.std.specs.Prelude.{ℕ, ◌+◌, ◌<◌, ◌≤◌, ◌≡◌, Bool, true, false, ◌&&◌, not, T, Float, Some, None, Ok, Err}
 use Rattle.std.specs.Float.{binary64}
 use Rattle.std.specs.Float.Ieee.{eq, lt, le, of_bits, to_bits}
 use Rattle.std.specs.Float.Ieee.Scale.{finite}
 use Rattle.num_halving.specs.Halving.{Found, NoCrossing, Breaks, halve}
-use Rattle.num_halving.specs.declared.Crossing.TheVariants.{At}
 use Rattle.eos_state.specs.State.{eight}
 use Rattle.eos_state.specs.declared.Phase.{Phase}
 use Rattle.eos_state.specs.declared.Phase.TheVariants.{Vapour, Liquid, Supercritical}
@@ -13,8 +13,7 @@ use Rattle.equation.specs.Equation.{Equation}
 use Rattle.door_limits.specs.Limits.{outside, search_ends}
 use Rattle.door_limits.specs.declared.Range.{Range}
 use Rattle.door_limits.specs.declared.Limits.{Limits}
-use Rattle.door_answers.specs.declared.Answer.{Answer}
-use Rattle.door_answers.specs.declared.Answer.TheVariants as answer
+use Rattle.door_answers.specs.Answer.{Answer}
 use Rattle.door_pressure.specs.Search.{figure}
 use Rattle.door_pressure.specs.PressureDoor.{scaled, pressure_door}
 use Rattle.door_density.specs.DensityDoor.{density_door}
@@ -80,7 +79,7 @@ module _ (E : Equation) (L : Limits) where
       no_crossing : {phase : Phase} {from to : Float} → PastP → Ranged phase from to → NoCrossing (figure (E.pressure t)) p (to_bits binary64 from) (to_bits binary64 to) → RefusesP 9
       probe_fails : {phase : Phase} {from to : Float} → PastP → Ranged phase from to → to_bits binary64 from < to_bits binary64 to
           → Breaks (figure (E.pressure t)) p (to_bits binary64 from) (to_bits binary64 to) → RefusesP 7
-      state_fails : {phase : Phase} {from to : Float} {r : ℕ} → PastP → Ranged phase from to → halve (figure (E.pressure t)) p (to_bits binary64 from) (to_bits binary64 to) ≡ At r
+      state_fails : {phase : Phase} {from to : Float} {r : ℕ} → PastP → Ranged phase from to → halve (figure (E.pressure t)) p (to_bits binary64 from) (to_bits binary64 to) ≡ Ok r
           → E.state t phase (of_bits binary64 r) ≡ None → RefusesP 7
 
     -- what an answer means; Found is demand 3: the density and the next float above it lie in the range for the phase, and the pressure worked at the first is
@@ -149,20 +148,20 @@ pub data Numbered (first : ℕ) : ℕ → Type 0 where
 
 -- demand 1: whatever numbers come in, there is an answer or one of a door's refusals, and a refused state carries no figures
 pub data Settled (a : Answer) : Type 0 where
-  given : (x : State) → a ≡ answer.State x → Settled a
-  not_given : (n : ℕ) → a ≡ answer.Refused n → Numbered 3 n → Settled a
+  given : (x : State) → a ≡ Ok x → Settled a
+  not_given : (n : ℕ) → a ≡ Err n → Numbered 3 n → Settled a
 
 module _ (E : Equation) (L : Limits) where
   -- each refusal exactly under its condition
   abbrev pub PressureRefusals : Type 0
-  PressureRefusals = (t p : Float) (n : ℕ) → Exactly (pressure_door E L t p ≡ answer.Refused n) (RefusesP E L t p n)
+  PressureRefusals = (t p : Float) (n : ℕ) → Exactly (pressure_door E L t p ≡ Err n) (RefusesP E L t p n)
 
   abbrev pub DensityRefusals : Type 0
-  DensityRefusals = (t rho : Float) (n : ℕ) → Exactly (density_door E L t rho ≡ answer.Refused n) (RefusesD E L t rho n)
+  DensityRefusals = (t rho : Float) (n : ℕ) → Exactly (density_door E L t rho ≡ Err n) (RefusesD E L t rho n)
 
   -- demand 3
   abbrev pub PressureAnswers : Type 0
-  PressureAnswers = (t p : Float) (x : State) → pressure_door E L t p ≡ answer.State x → Answered E L t p x
+  PressureAnswers = (t p : Float) (x : State) → pressure_door E L t p ≡ Ok x → Answered E L t p x
 
   -- that density and the next float above it lie in the range for the phase, as floats
   abbrev pub LiesInRange : Type 0
@@ -170,18 +169,18 @@ module _ (E : Equation) (L : Limits) where
 
   abbrev pub NoCrossingExactly : Type 0
   NoCrossingExactly = (t p : Float) (phase : Phase) (from to : Float) → PastP E L t p → Ranged E L t p phase from to
-      → Exactly (pressure_door E L t p ≡ answer.Refused 9) (NoCrossing (figure (E.pressure t)) p (to_bits binary64 from) (to_bits binary64 to))
+      → Exactly (pressure_door E L t p ≡ refused 9) (NoCrossing (figure (E.pressure t)) p (to_bits binary64 from) (to_bits binary64 to))
 
   abbrev pub DensityAnswers : Type 0
-  DensityAnswers = (t rho : Float) (x : State) → density_door E L t rho ≡ answer.State x → AnsweredD E L t rho x
+  DensityAnswers = (t rho : Float) (x : State) → density_door E L t rho ≡ Ok x → AnsweredD E L t rho x
 
   -- RULES 5.3: where the density door answers for what the pressure door gave, none of the eight numbers differs by a bit
   abbrev pub SameEight : Type 0
-  SameEight = (t p : Float) (x y : State) → pressure_door E L t p ≡ answer.State x → density_door E L t x.rho ≡ answer.State y → eight y ≡ eight x
+  SameEight = (t p : Float) (x y : State) → pressure_door E L t p ≡ Ok x → density_door E L t x.rho ≡ Ok y → eight y ≡ eight x
 
   -- and it never calls that solid
   abbrev pub FluidBothWays : Type 0
-  FluidBothWays = (t p : Float) (x : State) → pressure_door E L t p ≡ answer.State x → density_door E L t x.rho ≡ answer.Refused 19 → ⊥
+  FluidBothWays = (t p : Float) (x : State) → pressure_door E L t p ≡ Ok x → density_door E L t x.rho ≡ refused 19 → ⊥
 
 -- whatever meets a public function's promise (`Post`, its own `ensures`) has it: called with a it answers r, and s is what a holds afterwards
 abbrev pub Whatever : {A R S : Type 0} → (A → R → S → Type 0) → (A → R → Type 0) → Type 0

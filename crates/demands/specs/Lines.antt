@@ -1,6 +1,6 @@
 -- RULES 10.1: what is demanded of a cylinder's line by itself, as it is written: when each refusal is given, in the order of RULES 3.2 but for 30, and what its
 -- milligrams are. Definitions only.
-use Rattle.std.specs.Prelude.{ℕ, ◌*◌, ◌≤◌, ◌<◌, ◌≡◌, Float, Some, None}
+use Rattle.std.specs.Prelude.{ℕ, ◌*◌, ◌≤◌, ◌<◌, ◌≡◌, Float, Some, None, Ok, Err}
 use Rattle.std.specs.Float.{binary64}
 use Rattle.std.specs.Float.Ieee.{div, mul}
 use Rattle.num_working.specs.Number.{whole}
@@ -10,7 +10,7 @@ use Rattle.sheet_line.specs.declared.cylinder.Cylinder.{Cylinder}
 use Rattle.eos_state.specs.declared.State.{State}
 use Rattle.equation.specs.Equation.{of1996}
 use Rattle.door_limits.specs.declared.Limits.{Limits}
-use Rattle.door_answers.specs.declared.Answer.{Answer}
+use Rattle.door_answers.specs.Answer.{Answer}
 use Rattle.door_pressure.specs.PressureDoor.{pressure_door}
 use Rattle.door_density.specs.DensityDoor.{density_door}
 use Rattle.num_whole.specs.Whole.{whole_below, Below}
@@ -78,10 +78,10 @@ module _ (L : Limits) where
     no_volume : {v : ℕ} {a : Answer} → Figures c v a → NoVolume v → RefusesLine c 2
     no_volume_weighed : {v g : ℕ} → OnScale c v g → NoVolume v → RefusesLine c 2
     no_mass : {v g : ℕ} → OnScale c v g → Volume v → NoMass g → RefusesLine c 23
-    by_door : {v n : ℕ} → Figures c v (Answer.Refused n) → Volume v → RefusesLine c n
-    no_product : {v : ℕ} {s : State} → Figures c v (Answer.State s) → Volume v → whole_below (product s v) ≡ None → RefusesLine c 7
+    by_door : {v n : ℕ} → Figures c v (Err n) → Volume v → RefusesLine c n
+    no_product : {v : ℕ} {s : State} → Figures c v (Ok s) → Volume v → whole_below (product s v) ≡ None → RefusesLine c 7
 
   -- what an answered line's milligrams are: RULES 6.5, the whole number at or below the one product; RULES 6.7, 1000 times the grams
   pub data Weighs (c : Cylinder) : ℕ → Type 0 where
-    by_product : {v mg : ℕ} {s : State} → Figures c v (Answer.State s) → Volume v → whole_below (product s v) ≡ Some mg → Weighs c mg
+    by_product : {v mg : ℕ} {s : State} → Figures c v (Ok s) → Volume v → whole_below (product s v) ≡ Some mg → Weighs c mg
     by_scale : {v g : ℕ} → OnScale c v g → Volume v → Mass g → Weighs c (1000 * g)

@@ -1,5 +1,5 @@
 -- RULES 8.1: the readings that are proved, of the numerics, of the checks on what a door is asked and of a sheet's line, as one table. Definitions only.
-use Rattle.std.specs.Prelude.{ℕ, List, [], ◌∷◌, ◌++◌, map, Some}
+use Rattle.std.specs.Prelude.{ℕ, List, [], ◌∷◌, ◌++◌, map, Some, Ok, Err}
 use Rattle.std.specs.Float.{binary64}
 use Rattle.std.specs.Float.Ieee.{div}
 use Rattle.num_working.specs.Number.{whole}
@@ -7,15 +7,12 @@ use Rattle.num_working.specs.Working.{Worked}
 use Rattle.num_formulas.specs.Readings as numerics
 use Rattle.equation.specs.Equation.{of1996}
 use Rattle.door_limits.specs.Limits.{document01}
-use Rattle.door_checks.specs.Check.{ranged, solid, boxed}
-use Rattle.door_checks.specs.declared.Check.{Check}
-use Rattle.door_checks.specs.declared.Check.TheVariants.{Passed}
+use Rattle.door_checks.specs.Check.{ranged, solid, boxed, Check}
 use Rattle.sheet_line.specs.Line.{line_of}
 use Rattle.sheet_line.specs.declared.cylinder.Cylinder.{Cylinder}
 use Rattle.sheet_line.specs.declared.cylinder.Kind.TheVariants.{Pressure}
 use Rattle.sheet_weigh.specs.Weighing.{weighed}
-use Rattle.sheet_outcome.specs.declared.Weighed.{Weighed}
-use Rattle.sheet_outcome.specs.declared.Weighed.TheVariants.{Refused}
+use Rattle.sheet_outcome.specs.Outcome.{Weighed}
 
 -- what a reading is of: a number that is worked, the checks on what is asked, or a line
 pub data Read : Type 0 where
@@ -32,9 +29,9 @@ pub record Starred : Type 0 where
 unfoldable pub passes : ℕ → ℕ → List Starred
 passes t p =
     let k = div binary64 (whole t) (whole 10000) in
-    record { worked = check (ranged document01.asked.temperature document01.asked.pressure k (whole p)); reads = check Passed }
-    ∷ record { worked = check (solid (of1996.melting_pressure k) (whole p)); reads = check Passed }
-    ∷ record { worked = check (boxed document01.critical.temperature document01.critical.pressure k (whole p)); reads = check Passed }
+    record { worked = check (ranged document01.asked.temperature document01.asked.pressure k (whole p)); reads = check (Ok tt) }
+    ∷ record { worked = check (solid (of1996.melting_pressure k) (whole p)); reads = check (Ok tt) }
+    ∷ record { worked = check (boxed document01.critical.temperature document01.critical.pressure k (whole p)); reads = check (Ok tt) }
     ∷ []
 
 unfoldable pub of_checks : List Starred
@@ -52,7 +49,7 @@ abbrev pub written : ℕ → ℕ → ℕ → Cylinder
 written t p v = record { number = Some 1; temperature = Some t; kind = Pressure; value = Some p; volume = Some v }
 
 abbrev pub gives : Cylinder → ℕ → Starred
-gives c n = record { worked = line (weighed document01 (line_of c)); reads = line (Refused n) }
+gives c n = record { worked = line (weighed document01 (line_of c)); reads = line (Err n) }
 
 unfoldable pub of_lines : List Starred
 of_lines =

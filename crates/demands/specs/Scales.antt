@@ -1,6 +1,7 @@
 -- RULES 3.2, 6.4, 6.7 and 10.1: what is demanded of a line's record, of a weighed line on its sheet and of the largest total, and what is as it was before a
 -- cylinder could be weighed. Definitions only.
-use Rattle.std.specs.Prelude.{ℕ, zero, suc, ◌+◌, ◌*◌, ◌≤◌, ◌<◌, ◌≡◌, Bool, true, false, cond, ◌||◌, List, [], ◌∷◌, ◌++◌, map, length, Some, None}
+use Rattle.refusal.specs.Refused.{refused}
+use Rattle.std.specs.Prelude.{ℕ, zero, suc, ◌+◌, ◌*◌, ◌≤◌, ◌<◌, ◌≡◌, Bool, true, false, cond, ◌||◌, List, [], ◌∷◌, ◌++◌, map, length, Some, None, Ok, Err}
 use Rattle.std.proofs.Math.Option.{Option, none, some}
 use Rattle.std.specs.Float.{binary64}
 use Rattle.std.specs.Float.Ieee.{div}
@@ -8,9 +9,8 @@ use Rattle.num_working.specs.Number.{whole}
 use Rattle.equation.specs.Equation.{of1996}
 use Rattle.door_limits.specs.Limits.{document01}
 use Rattle.door_limits.specs.declared.Limits.{Limits}
-use Rattle.door_checks.specs.declared.Check.{Check}
-use Rattle.door_checks.specs.declared.Check.TheVariants.{Passed, No}
-use Rattle.door_answers.specs.declared.Answer.{Answer}
+use Rattle.door_checks.specs.Check.{Check}
+use Rattle.door_answers.specs.Answer.{Answer}
 use Rattle.door_pressure.specs.PressureDoor.{pressure_door}
 use Rattle.door_density.specs.DensityDoor.{density_door}
 use Rattle.sheet_text.specs.Field.{Field}
@@ -25,8 +25,7 @@ use Rattle.sheet_line.specs.declared.line.Reading.{Reading}
 use Rattle.sheet_line.specs.declared.line.Line.{Line}
 use Rattle.sheet_read.specs.Form.{Bank, Fair, text, in_form}
 use Rattle.sheet_standing.specs.Standing.{if_numbered, no_temperature, no_volume, is_on, numbers}
-use Rattle.sheet_outcome.specs.Outcome.{admitted, total, Summed}
-use Rattle.sheet_outcome.specs.declared.Weighed.{Weighed}
+use Rattle.sheet_outcome.specs.Outcome.{admitted, total, Summed, Weighed}
 use Rattle.sheet_outcome.specs.declared.Mark.{Mark}
 use Rattle.sheet_weigh.specs.Weighing.{if_passed, if_number, if_kelvin, is_volume, by_answer}
 use Rattle.sheet_weigh.specs.Sheet.{marked}
@@ -72,12 +71,12 @@ module _ (L : Limits) where
   abbrev pub ScaleRefusals : Type 0
   ScaleRefusals =
       (cs : List Cylinder) (i : ℕ) → i < length cs → (at cs i).kind ≡ Kind.Weighed
-      → (n : ℕ) → Exactly (came L cs i ≡ Weighed.Refused n) (RefusesScale cs i n)
+      → (n : ℕ) → Exactly (came L cs i ≡ Err n) (RefusesScale cs i n)
 
   abbrev pub ScaleAnswers : Type 0
   ScaleAnswers =
       (cs : List Cylinder) (i : ℕ) → i < length cs → (at cs i).kind ≡ Kind.Weighed
-      → (mg : ℕ) → Exactly (came L cs i ≡ Weighed.Mass (as_milligrams mg)) (AnswersScale cs i mg)
+      → (mg : ℕ) → Exactly (came L cs i ≡ Ok (as_milligrams mg)) (AnswersScale cs i mg)
 
 -- ---- its temperature is not used: banks that differ in temperatures of weighed lines alone, whatever these are. (Their texts may differ in length, and one
 -- of them be too long for the form.)
@@ -147,17 +146,17 @@ abbrev pub lacking_then : Line → Bool
 lacking_then l = no_temperature l.temperature || (no_volume l.volume || no_reading_then l.reading)
 
 abbrev pub standing_then : List ℕ → Line → Check
-standing_then before l = if_numbered l.number (λ n. cond (lacking_then l) (No 1) (cond (is_on before n) (No 30) Passed))
+standing_then before l = if_numbered l.number (λ n. cond (lacking_then l) (refused 1) (cond (is_on before n) (refused 30) (Ok tt)))
 
 abbrev pub filled_then : ℕ → Answer → Weighed
-filled_then v a = cond (is_volume v) (by_answer a v) (Weighed.Refused 2)
+filled_then v a = cond (is_volume v) (by_answer a v) (refused 2)
 
 module _ (L : Limits) where
   abbrev pub by_reading_then : Temperature → ℕ → Reading → Weighed
-  by_reading_then k v Reading.Blank = Weighed.Refused 1
+  by_reading_then k v Reading.Blank = refused 1
   by_reading_then k v (Reading.Pressure p) = if_kelvin k (λ t. filled_then v (pressure_door of1996 L t p))
   by_reading_then k v (Reading.Density d) = if_kelvin k (λ t. filled_then v (density_door of1996 L t d))
-  by_reading_then k v (Reading.Weighed g) = Weighed.Refused 1
+  by_reading_then k v (Reading.Weighed g) = refused 1
 
   abbrev pub weighed_then : Line → Weighed
   weighed_then l = if_number l.number (λ _. if_number l.volume (λ v. by_reading_then l.temperature v l.reading))

@@ -1,5 +1,6 @@
 -- RULES 10.1: what is demanded of a sheet: its report, for every byte string, in the order of RULES 3.4. Definitions only.
-use Rattle.std.specs.Prelude.{ℕ, ◌+◌, ◌≤◌, ◌<◌, ◌≡◌, List, [], ◌∷◌, ◌++◌, map, length, get_or, Some, None}
+use Rattle.refusal.specs.Refused.{refused}
+use Rattle.std.specs.Prelude.{ℕ, ◌+◌, ◌≤◌, ◌<◌, ◌≡◌, List, [], ◌∷◌, ◌++◌, map, length, get_or, Some, None, Ok, Err}
 use Rattle.std.proofs.Math.Option.{none, some}
 use Rattle.std.specs.Borrow.{Bor, MutBor}
 use Rattle.door_limits.specs.declared.Limits.{Limits}
@@ -10,10 +11,9 @@ use Rattle.sheet_line.specs.declared.line.Line.{Line}
 use Rattle.sheet_read.specs.Form.{Bank, in_form}
 use Rattle.sheet_weigh.specs.Weighing.{weighed}
 use Rattle.sheet_weigh.specs.Sheet.{marked}
-use Rattle.sheet_outcome.specs.declared.Weighed.{Weighed}
+use Rattle.sheet_outcome.specs.Outcome.{Weighed}
 use Rattle.sheet_outcome.specs.declared.Ending.{Ending}
-use Rattle.sheet_report.specs.Report.{lines_bytes, ending_bytes}
-use Rattle.sheet_report.specs.declared.Written.{Written}
+use Rattle.sheet_report.specs.Report.{lines_bytes, ending_bytes, Written}
 use Rattle.sheet_score.specs.Score.{sent_back}
 use Rattle.demands.specs.Twice.{Twice}
 
@@ -47,13 +47,13 @@ pub record Needs (t : List ℕ) (b : Bank) (mg : ℕ) : Type 0 where
 module _ (L : Limits) where
   -- some line is refused by itself
   pub data OneRefused : List Line → Type 0 where
-    here : {l : Line} {ls : List Line} {n : ℕ} → weighed L l ≡ Weighed.Refused n → OneRefused (l ∷ ls)
+    here : {l : Line} {ls : List Line} {n : ℕ} → weighed L l ≡ Err n → OneRefused (l ∷ ls)
     there : {l : Line} {ls : List Line} → OneRefused ls → OneRefused (l ∷ ls)
 
   -- every line is answered by itself, and these are their milligrams
   pub data AllWeighed : List Line → List ℕ → Type 0 where
     none_left : AllWeighed [] []
-    one_more : {l : Line} {ls : List Line} {mg : ℕ} {mgs : List ℕ} → weighed L l ≡ Weighed.Mass (as_milligrams mg) → AllWeighed ls mgs → AllWeighed (l ∷ ls) (mg ∷ mgs)
+    one_more : {l : Line} {ls : List Line} {mg : ℕ} {mgs : List ℕ} → weighed L l ≡ Ok (as_milligrams mg) → AllWeighed ls mgs → AllWeighed (l ∷ ls) (mg ∷ mgs)
 
   -- RULES 7.1 and 7.2: the report of a text
   pub data Reported (t : List ℕ) : List ℕ → Type 0 where
@@ -72,8 +72,8 @@ module _ (L : Limits) where
   pub data Delivered (t old new : List ℕ) : Written → Type 0 where
     fits : {bs : List ℕ} → Reported t bs → length bs ≤ length old → length new ≡ length old
         → ((i : ℕ) → i < length bs → get_or new i 0 ≡ get_or bs i 0) → ((i : ℕ) → length bs ≤ i → get_or new i 0 ≡ get_or old i 0)
-        → Delivered t old new (Written.Bytes (length bs))
-    too_long : {bs : List ℕ} → Reported t bs → length old < length bs → new ≡ old → Delivered t old new (Written.Refused 15)
+        → Delivered t old new (Ok (length bs))
+    too_long : {bs : List ℕ} → Reported t bs → length old < length bs → new ≡ old → Delivered t old new (refused 15)
 
 -- whatever meets the promise of a function from limits, a text and a lent output (`Post`, its own `ensures`) delivers. a is what it is called with,
 -- (limits, (text, (output, ..))), x the same afterwards, and `now` what a reference holds

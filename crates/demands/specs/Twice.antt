@@ -1,6 +1,6 @@
 -- RULES 3.2, 6.6 and 10.1: what is demanded of a line on its sheet: when a number stands there twice, what came of each line then, and what is as it was
 -- before there was a refusal 30. Definitions only.
-use Rattle.std.specs.Prelude.{ℕ, ◌<◌, ◌≡◌, true, List, map, length, get_or, Some, None}
+use Rattle.std.specs.Prelude.{ℕ, ◌<◌, ◌≡◌, true, List, map, length, get_or, Some, None, Ok}
 use Rattle.std.proofs.Math.Option.{Option, none, some}
 use Rattle.door_limits.specs.declared.Limits.{Limits}
 use Rattle.sheet_text.specs.Field.{Field}
@@ -10,8 +10,7 @@ use Rattle.sheet_line.specs.declared.cylinder.Kind.{Kind}
 use Rattle.sheet_line.specs.declared.cylinder.Cylinder.{Cylinder}
 use Rattle.sheet_line.specs.declared.line.Line.{Line}
 use Rattle.sheet_read.specs.Form.{Bank}
-use Rattle.sheet_outcome.specs.Outcome.{admitted}
-use Rattle.sheet_outcome.specs.declared.Weighed.{Weighed}
+use Rattle.sheet_outcome.specs.Outcome.{admitted, Weighed}
 use Rattle.sheet_outcome.specs.declared.Mark.{Mark}
 use Rattle.sheet_weigh.specs.Weighing.{weighed}
 use Rattle.sheet_weigh.specs.Sheet.{marked}
@@ -25,7 +24,7 @@ no_cylinder = record { number = None; temperature = None; kind = Kind.Pressure; 
 
 -- and where there is no mark
 abbrev pub no_mark : Mark
-no_mark = record { weighed = Weighed.Mass (as_milligrams 0) }
+no_mark = record { weighed = Ok (as_milligrams 0) }
 
 -- the line at a place, the first being 0
 abbrev pub at : List Cylinder → ℕ → Cylinder

@@ -1,4 +1,6 @@
 -- What a line's explanation takes is what the report has of the line. Assumes nothing.
+use Rattle.std.specs.Prelude.{Ok}
+use Rattle.refusal.specs.Refused.{refused}
 use mathlib.Core.Path.{◌≡◌, refl, sym, ap, ◌∙◌}
 use mathlib.Core.List.{List}
 use Prim.Native.Nat.{ℕ, ◌≤◌, ◌<◌}
@@ -8,10 +10,8 @@ use lib.Seq.{get_or-take, take-take, length-take-le}
 use Rattle.door_limits.specs.declared.Limits.{Limits}
 use Rattle.sheet_line.specs.declared.line.Line.{Line}
 use Rattle.sheet_read.specs.declared.SheetRead.{SheetRead}
-use Rattle.sheet_outcome.specs.Outcome.{admitted}
-use Rattle.sheet_outcome.specs.declared.Weighed.{Weighed}
+use Rattle.sheet_outcome.specs.Outcome.{admitted, Weighed, Admitted}
 use Rattle.sheet_outcome.specs.declared.Mark.{Mark}
-use Rattle.sheet_outcome.specs.declared.Admitted.{Admitted}
 use Rattle.sheet_outcome.proofs.Admissions.{few}
 use Rattle.sheet_standing.specs.Standing.{numbers}
 use Rattle.sheet_weigh.specs.Weighing.{weighed_after}
@@ -27,12 +27,12 @@ module _ (L : Limits) where
   unfolding marks_for
   of_lines ls i d h k =
       let m = marks_for (marked L ls) in
-      let none : Mark = record { weighed = Weighed.Refused 0 } in
+      let none : Mark = record { weighed = refused 0 } in
       let there = get_or-take m.count m.marks i none (omega (arith, marked_length L ls)) in
       let back = ap (λ (ms : List Mark). get_or ms i none) (marks_of_lem L ls h) in
       ap (λ (x : Mark). x.weighed) (sym there ∙ back ∙ marked_at L ls i none d k)
 
-  module _ (r : SheetRead) (mg : ℕ) (e : admitted r.ok r.sheet.count r.sheet.need ≡ Admitted.Need mg)
+  module _ (r : SheetRead) (mg : ℕ) (e : admitted r.ok r.sheet.count r.sheet.need ≡ Ok mg)
       (size : length r.sheet.lines ≡ 32) where
     -- of a sheet that is worked, the line after i others: what came of it after those
     pub marked_as : (i : ℕ) (d : Line) → i < r.sheet.count

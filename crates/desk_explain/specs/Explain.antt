@@ -1,14 +1,15 @@
 -- RULES 14.3: what a line's explanation takes of the report and of the sheet. Definitions only.
+use Rattle.refusal.specs.Refused.{refused}
 use Rattle.std.specs.Prelude.{ℕ, get_or, Some, None}
 use Rattle.sheet_text.specs.Field.{Field}
 use Rattle.sheet_read.specs.declared.Sheet.{Sheet}
-use Rattle.sheet_outcome.specs.declared.Weighed.{Weighed}
+use Rattle.sheet_outcome.specs.Outcome.{Weighed}
 use Rattle.sheet_outcome.specs.declared.Marks.{Marks}
 use Rattle.sheet_standing.specs.Standing.{first_with}
 
 -- what came of the line after i others; past the array stands the filler, whose 0 is no refusal
 abbrev pub mark_at : Marks → ℕ → Weighed
-mark_at m i = (get_or m.marks i (record { weighed = Weighed.Refused 0 })).weighed
+mark_at m i = (get_or m.marks i (record { weighed = refused 0 })).weighed
 
 -- the place of the first line that has the cylinder number; 0 for a blank, which is none
 abbrev pub first_of : Sheet → Field → ℕ

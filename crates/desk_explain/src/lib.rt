@@ -14,7 +14,7 @@ use desk_where::say_where;
 use door_limits::Limits;
 use sheet_line::cylinder::{CylinderAt, read_cylinder};
 use sheet_line::line::{LineAt, read_line};
-use sheet_outcome::{Ending, Marks, Weighed};
+use sheet_outcome::{Ending, Marks};
 use sheet_read::{Sheet, read_sheet};
 use sheet_standing::first_with;
 use sheet_text::{FieldAt, read_field_after};
@@ -28,14 +28,14 @@ struct Warned {
 }
 
 // What came of the line after i others.
-fn mark_at(m: Marks, i: usize) -> Weighed
+fn mark_at(m: Marks, i: usize) -> Result<Milligrams, Refusal>
     ensures { result ≡ mark_at m i }
 {
     if i < 32 {
         let mark = m.marks[i];
         return mark.weighed;
     }
-    Weighed::Refused(0)
+    Err(Refusal(0))
 }
 
 // The first line that has the cylinder number; a blank is none.
@@ -56,7 +56,7 @@ fn say_cylinder(
     at: usize,
     i: usize,
     sheet: Sheet,
-    w: Weighed,
+    w: Result<Milligrams, Refusal>,
     name: &[u8],
     explained: bool,
 ) -> Paper {
@@ -135,7 +135,7 @@ fn doubt_at(limits: Limits, s: &[u8], at: usize) -> usize
 }
 
 // 1 where the line at a place, of which this came, holds more than a cylinder is filled with, else 0.
-fn heavy_at(limits: Limits, s: &[u8], at: usize, w: Weighed) -> usize
+fn heavy_at(limits: Limits, s: &[u8], at: usize, w: Result<Milligrams, Refusal>) -> usize
     ensures { result ≤ 1 }
 {
     let LineAt::Found(l, _) = read_line(s, at) else {

@@ -1,13 +1,13 @@
 -- A step from a later place is one from an earlier, and where it stops is not before it. Assumes nothing.
+use Rattle.std.specs.Prelude.{Ok, Err}
 use Prim.Native.Nat.{ℕ, ◌≤◌}
 use native.Mathlib.Omega.{arith}
-use Rattle.desk_form.specs.Stop.{StepsOn, stop_of}
-use Rattle.desk_form.specs.declared.stop.Step.{Step}
+use Rattle.desk_form.specs.Stop.{StepsOn, stop_of, Step}
 
 pub later : {at n : ℕ} (r : Step) → at ≤ n → StepsOn n r → StepsOn at r
-later (Step.To m) h s = omega (arith, h, s)
-later (Step.Stopped x) h s = omega (arith, h, s)
+later (Ok m) h s = omega (arith, h, s)
+later (Err x) h s = omega (arith, h, s)
 
 pub stops_on : {at : ℕ} (r : Step) → StepsOn at r → at ≤ (stop_of at r).at
-stops_on (Step.To m) s = omega arith
-stops_on (Step.Stopped x) s = s
+stops_on (Ok m) s = omega arith
+stops_on (Err x) s = s

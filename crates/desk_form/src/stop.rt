@@ -32,16 +32,10 @@ pub struct Stop {
 }
 
 // On to a place, or stopped.
-#[derive(Clone, Copy)]
-pub enum Step {
-    To(usize),
-    Stopped(Stop),
-}
-
-fn stopped(at: usize, expected: Expected, behind: Behind) -> Step
+fn stopped(at: usize, expected: Expected, behind: Behind) -> Result<usize, Stop>
     ensures { StepsOn at result }
 {
-    Step::Stopped(Stop {
+    Err(Stop {
         at: at,
         expected: expected,
         behind: behind,
@@ -49,12 +43,12 @@ fn stopped(at: usize, expected: Expected, behind: Behind) -> Step
 }
 
 // Of a step that stopped; the end of the line at a place where none did.
-fn stop_of(step: Step, at: usize) -> Stop
+fn stop_of(step: Result<usize, Stop>, at: usize) -> Stop
     ensures { result ≡ stop_of at step }
 {
     match step {
-        Step::Stopped(x) => x,
-        Step::To(_) => Stop {
+        Err(x) => x,
+        Ok(_) => Stop {
             at: at,
             expected: Expected::LineEnd,
             behind: Behind::Other,
@@ -112,30 +106,30 @@ fn wanted_or_digit(form: u8) -> Expected {
     }
 }
 
-fn over_byte(s: &[u8], at: usize, form: u8) -> Step
+fn over_byte(s: &[u8], at: usize, form: u8) -> Result<usize, Stop>
     ensures { StepsOn at result }
 {
     if at < s.len() {
         if fits(form, s[at]) {
-            return Step::To(at + 1);
+            return Ok(at + 1);
         }
     }
     stopped(at, wanted(form), Behind::Other)
 }
 
 // A 0 in front, which no digit may follow.
-fn over_zero(at: usize, past: usize, end: u8) -> Step
+fn over_zero(at: usize, past: usize, end: u8) -> Result<usize, Stop>
     requires { at ≤ past }
     ensures { StepsOn at result }
 {
     if past - at > 1 {
         return stopped(at + 1, wanted(end), Behind::Zero);
     }
-    Step::To(past)
+    Ok(past)
 }
 
 // Digits from a place on, and the form's byte behind them.
-fn over_digits(s: &[u8], at: usize, end: u8) -> Step
+fn over_digits(s: &[u8], at: usize, end: u8) -> Result<usize, Stop>
     ensures { StepsOn at result }
 {
     let past = past_digits(s, at);
@@ -147,22 +141,22 @@ fn over_digits(s: &[u8], at: usize, end: u8) -> Step
         return stopped(at + 10, wanted(end), Behind::TenDigits);
     }
     if many == 10 || has(s, past, end) {
-        return Step::To(past);
+        return Ok(past);
     }
     stopped(past, wanted_or_digit(end), Behind::Other)
 }
 
 // `-`, and the form's byte behind it.
-fn over_blank(s: &[u8], at: usize, end: u8) -> Step
+fn over_blank(s: &[u8], at: usize, end: u8) -> Result<usize, Stop>
     ensures { StepsOn at result }
 {
     if has(s, at, end) {
-        return Step::To(at);
+        return Ok(at);
     }
     stopped(at, wanted(end), Behind::Blank)
 }
 
-fn over_number(s: &[u8], at: usize, end: u8) -> Step
+fn over_number(s: &[u8], at: usize, end: u8) -> Result<usize, Stop>
     ensures { StepsOn at result }
 {
     if at < s.len() {
@@ -181,7 +175,7 @@ fn byte_at(s: &[u8], i: usize) -> u8 {
 }
 
 // The k-th byte of a line's form, which has `#` for a number.
-fn over(s: &[u8], at: usize, form: &[u8], k: usize) -> Step
+fn over(s: &[u8], at: usize, form: &[u8], k: usize) -> Result<usize, Stop>
     ensures { StepsOn at result }
 {
     if k >= form.len() {
@@ -200,13 +194,13 @@ fn stop_by(form: &[u8], s: &[u8], from: usize) -> Stop
     let mut k: usize = 0;
     while k < form.len() {
         let step = over(s, at, form, k);
-        let Step::To(next) = step else {
+        let Ok(next) = step else {
             return stop_of(step, at);
         };
         at = next;
         k += 1;
     }
-    stop_of(Step::To(at), at)
+    stop_of(Ok(at), at)
 }
 
 // In the line that begins at a place: the need's, which is line 1, or a cylinder's.

@@ -1,5 +1,5 @@
 -- RULES 14.4: a gauge that can't tell how much a cylinder holds, since it stands by the vapour pressure. Definitions only.
-use Rattle.std.specs.Prelude.{ℕ, Bool, not, cond, Float, Some, None}
+use Rattle.std.specs.Prelude.{ℕ, Bool, not, cond, Float, Some, None, Ok, Err}
 use Rattle.std.specs.Float.{binary64}
 use Rattle.std.specs.Float.Ieee.{neg, sub, mul}
 use Rattle.num_working.specs.Number.{whole}
@@ -7,9 +7,8 @@ use Rattle.num_whole.specs.Whole.{whole_below, Below}
 use Rattle.equation.specs.Equation.{of1996}
 use Rattle.door_limits.specs.Limits.{range, outside}
 use Rattle.door_limits.specs.declared.Limits.{Limits}
-use Rattle.door_saturation.specs.Saturation.{saturated}
+use Rattle.door_saturation.specs.Saturation.{saturated, Saturated}
 use Rattle.door_saturation.specs.declared.Saturation.{Saturation}
-use Rattle.door_saturation.specs.declared.Saturated.{Saturated}
 use Rattle.sheet_text.specs.Field.{Field}
 use Rattle.sheet_line.specs.Line.{Temperature}
 use Rattle.sheet_line.specs.declared.line.Reading.{Reading}
@@ -29,8 +28,8 @@ unfoldable pub doubt_of : Saturation → ℕ → Doubt
 doubt_of s v = record { pressure = s.pressure; vapour = product_of s.vapour v; liquid = product_of s.liquid v }
 
 abbrev pub gauge_by : Saturated → Float → ℕ → Gauge
-gauge_by (Saturated.Is s) p v = cond (near p s.pressure) (Some (doubt_of s v)) None
-gauge_by (Saturated.Refused n) p v = None
+gauge_by (Ok s) p v = cond (near p s.pressure) (Some (doubt_of s v)) None
+gauge_by (Err n) p v = None
 
 -- where the volume is in its range
 unfoldable pub gauge_in : Limits → Float → Float → ℕ → Gauge

@@ -1,10 +1,10 @@
 -- RULES 14.3 and 14.4: a line's mass with the density and the phase of its state, or weighed, or its refusal; what is to spare or missing. Definitions only.
-use Rattle.std.specs.Prelude.{ℕ, ◌-◌, ◌*◌, Bool, false, cond, ◌&&◌, leb, ltb, Float, Some, None}
+use Rattle.std.specs.Prelude.{ℕ, ◌-◌, ◌*◌, Bool, false, cond, ◌&&◌, leb, ltb, Float, Some, None, Ok, Err}
 use Rattle.std.specs.Float.Ieee.{lt}
 use Rattle.num_working.specs.Number.{whole}
 use Rattle.equation.specs.Equation.{of1996}
 use Rattle.door_limits.specs.declared.Limits.{Limits}
-use Rattle.door_answers.specs.declared.Answer.{Answer}
+use Rattle.door_answers.specs.Answer.{Answer}
 use Rattle.door_pressure.specs.PressureDoor.{pressure_door}
 use Rattle.door_density.specs.DensityDoor.{density_door}
 use Rattle.sheet_text.specs.Field.{Field}
@@ -12,15 +12,15 @@ use Rattle.sheet_mass.specs.declared.Milligrams.{Milligrams}
 use Rattle.sheet_line.specs.Line.{Temperature}
 use Rattle.sheet_line.specs.declared.line.Reading.{Reading}
 use Rattle.sheet_line.specs.declared.line.Line.{Line}
-use Rattle.sheet_outcome.specs.declared.Weighed.{Weighed}
+use Rattle.sheet_outcome.specs.Outcome.{Weighed}
 use Rattle.sheet_weigh.specs.Weighing.{is_volume}
 use Rattle.desk_look.specs.declared.held.Look.{Look}
 use Rattle.desk_look.specs.declared.held.Margin.{Margin}
 
 -- the milligrams of a line, and the state that they are of
 abbrev pub held : Milligrams → Answer → Look
-held mg (Answer.State s) = Look.Mass (record { mg = mg; rho = s.rho; phase = s.phase })
-held mg (Answer.Refused n) = Look.Refused n
+held mg (Ok s) = Look.Mass (record { mg = mg; rho = s.rho; phase = s.phase })
+held mg (Err n) = Look.Refused n
 
 -- what the door says at the temperature; without one it is not asked
 abbrev pub at_door : Milligrams → Temperature → (Float → Answer) → Look
@@ -40,8 +40,8 @@ seen L mg k volume (Reading.Density d) = at_door mg k (λ t. density_door of1996
 seen L mg k volume (Reading.Weighed g) = Look.Weighed (record { mg = mg; overfull = overfull mg volume })
 
 abbrev pub looked : Limits → Weighed → Temperature → Field → Reading → Look
-looked L (Weighed.Mass mg) k volume r = seen L mg k volume r
-looked L (Weighed.Refused n) k volume r = Look.Refused n
+looked L (Ok mg) k volume r = seen L mg k volume r
+looked L (Err n) k volume r = Look.Refused n
 
 -- what came of the line is handed in: it hangs on the lines before too
 unfoldable pub look : Limits → Weighed → Line → Look

@@ -3,7 +3,7 @@ ghost use Rattle.std.specs.Prelude.{◌≡◌, ◌≤◌};
 ghost use Rattle.desk_look.specs.Gauge.{near, product_of, doubt_of, gauge_by, gauge_in, gauge_at, gauge};
 
 use door_limits::{Limits, Range, is_outside};
-use door_saturation::{Saturated, Saturation, saturated_at};
+use door_saturation::{Saturation, saturated_at};
 use num_whole::{whole_below};
 use sheet_line::line::{Line, Reading};
 use sheet_weigh::is_volume;
@@ -50,11 +50,11 @@ fn doubt_of(s: Saturation, v: u64) -> Doubt
     }
 }
 
-fn gauge_by(s: Saturated, p: f64, v: u64) -> Option<Doubt>
+fn gauge_by(s: Result<Saturation, Refusal>, p: f64, v: u64) -> Option<Doubt>
     requires { v ≤ 1_000_000 }
     ensures { result ≡ gauge_by s p v }
 {
-    let Saturated::Is(x) = s else {
+    let Ok(x) = s else {
         return None;
     };
     if is_near(p, x.pressure) {

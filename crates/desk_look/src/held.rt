@@ -6,14 +6,12 @@ ghost use Rattle.door_pressure.specs.PressureDoor.{pressure_door};
 ghost use Rattle.door_density.specs.DensityDoor.{density_door};
 ghost use Rattle.desk_look.specs.Held.{held, at_door, overfull, seen, look, heavy, margin};
 
-use door_answers::Answer;
 use door_density::from_density;
 use door_limits::Limits;
 use door_pressure::from_pressure;
 use eos_state::Phase;
 use sheet_line::line::{Line, Reading};
 use sheet_mass::Milligrams;
-use sheet_outcome::Weighed;
 use sheet_weigh::is_volume;
 
 // With the density in kg/m³.
@@ -45,11 +43,11 @@ pub enum Margin {
     Missing(u64),
 }
 
-fn held_with(mg: Milligrams, a: Answer) -> Look
+fn held_with(mg: Milligrams, a: Result<State, Refusal>) -> Look
     ensures { result ≡ held mg a }
 {
     match a {
-        Answer::State(s) => {
+        Ok(s) => {
             let phase = s.phase;
             Look::Mass(Held {
                 mg: mg,
@@ -57,7 +55,7 @@ fn held_with(mg: Milligrams, a: Answer) -> Look
                 phase: phase,
             })
         }
-        Answer::Refused(n) => Look::Refused(n),
+        Err(n) => Look::Refused(n),
     }
 }
 
@@ -108,15 +106,15 @@ fn seen_by(limits: Limits, mg: Milligrams, k: Option<f64>, volume: Option<u64>, 
 }
 
 // What came of the line decides.
-pub fn look_at(limits: Limits, w: Weighed, l: Line) -> Look
+pub fn look_at(limits: Limits, w: Result<Milligrams, Refusal>, l: Line) -> Look
     ensures { result ≡ look limits w l }
 {
     let temperature = l.temperature;
     let reading = l.reading;
     let volume = l.volume;
     match w {
-        Weighed::Mass(mg) => seen_by(limits, mg, temperature, volume, reading),
-        Weighed::Refused(n) => Look::Refused(n),
+        Ok(mg) => seen_by(limits, mg, temperature, volume, reading),
+        Err(n) => Look::Refused(n),
     }
 }
 

@@ -1,7 +1,7 @@
 -- No second answer meets a public function's promise. Assumes nothing.
 use Prim.Native.Nat.{ℕ}
 use Rattle.num_working.proofs.Unique.{OneAnswer, by_equation}
-use Rattle.door_answers.specs.declared.Answer.{Answer}
+use Rattle.door_answers.specs.Answer.{Answer}
 use Rattle.door_answers.proofs.answer_with.Reads as answer_with
 use Rattle.door_answers.proofs.refusal_number.Reads as refusal_number
 

@@ -1,22 +1,20 @@
 -- RULES 3.5: what a door answers, a state or a refusal's number and nothing else. Definitions only.
-use Rattle.std.specs.Prelude.{ℕ, Some, None}
+use Rattle.refusal.specs.Refused.{refused}
+use Rattle.std.specs.Prelude.{ℕ, Some, None, Ok, Err}
 use Rattle.eos_state.specs.State.{Stated}
-use Rattle.door_checks.specs.declared.Check.{Check}
-use Rattle.door_checks.specs.declared.Check.TheVariants.{Passed, No}
-use Rattle.door_answers.specs.declared.Answer.{Answer}
-use Rattle.door_answers.specs.declared.Answer.TheVariants as answer
+use Rattle.door_checks.specs.Check.{Check}
 
 -- a refusal, or what the steps after the check answer
 abbrev pub passed : Check → Answer → Answer
-passed (No n) a = answer.Refused n
-passed Passed a = a
+passed (Err n) a = Err n
+passed (Ok tt) a = a
 
 -- RULES 4.2: a working that fails is 7
 abbrev pub answer_with : Stated → Answer
-answer_with None = answer.Refused 7
-answer_with (Some x) = answer.State x
+answer_with None = refused 7
+answer_with (Some x) = Ok x
 
 -- the refusal's number, to be handed on; of a state 0, which is no refusal and is not handed on
 abbrev pub refusal_number : Answer → ℕ
-refusal_number (answer.Refused n) = n
-refusal_number (answer.State x) = 0
+refusal_number (Err n) = n
+refusal_number (Ok x) = 0

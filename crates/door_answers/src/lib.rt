@@ -6,28 +6,22 @@ ghost use Rattle.door_answers.specs.Answer.{answer_with, refusal_number};
 
 use eos_state::{State};
 
-#[derive(Clone, Copy)]
-pub enum Answer {
-    State(State),
-    Refused(u8),
-}
-
 // The state; 7 where the working failed.
-pub fn answer_with(s: Option<State>) -> Answer
+pub fn answer_with(s: Option<State>) -> Result<State, Refusal>
     ensures { result ≡ answer_with s }
 {
     match s {
-        Some(x) => Answer::State(x),
-        None => Answer::Refused(7),
+        Some(x) => Ok(x),
+        None => Err(Refusal(7)),
     }
 }
 
 // The number of a refusal, to be handed on; 0 of a state.
-pub fn refusal_number(a: Answer) -> u8
+pub fn refusal_number(a: Result<State, Refusal>) -> u8
     ensures { result ≡ refusal_number a }
 {
     match a {
-        Answer::Refused(n) => n,
-        Answer::State(_) => 0,
+        Err(n) => n,
+        Ok(_) => 0,
     }
 }

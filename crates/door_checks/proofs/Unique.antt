@@ -1,7 +1,7 @@
 -- No second answer meets a public function's promise. Assumes nothing.
 use Prim.Native.Nat.{ℕ}
 use Rattle.num_working.proofs.Unique.{OneAnswer, by_equation}
-use Rattle.door_checks.specs.declared.Check.{Check}
+use Rattle.door_checks.specs.Check.{Check}
 use Rattle.door_checks.proofs.in_range.Reads as in_range
 use Rattle.door_checks.proofs.not_solid.Reads as not_solid
 use Rattle.door_checks.proofs.number_of.Reads as number_of

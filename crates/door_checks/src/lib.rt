@@ -9,19 +9,13 @@ ghost use Rattle.door_checks.specs.Check.{boxed, number_of, ranged, solid};
 use door_limits::{Range, is_outside};
 use num_working::{is_finite};
 
-#[derive(Clone, Copy)]
-pub enum Check {
-    Passed,
-    No(u8),
-}
-
 // The number of a check that was not passed, to be handed on; 0 of one that was.
-pub fn number_of(c: Check) -> u8
+pub fn number_of(c: Result<(), Refusal>) -> u8
     ensures { result ≡ number_of c }
 {
     match c {
-        Check::No(n) => n,
-        Check::Passed => 0,
+        Err(n) => n,
+        Ok(()) => 0,
     }
 }
 
@@ -32,43 +26,43 @@ fn are_finite(x: f64, y: f64) -> bool
 }
 
 // 3, 4 and 5: x is the pressure or the density, with its range.
-pub fn in_range(temperature: Range, value: Range, t: f64, x: f64) -> Check
+pub fn in_range(temperature: Range, value: Range, t: f64, x: f64) -> Result<(), Refusal>
     ensures { result ≡ ranged temperature value t x }
 {
     if are_finite(t, x) {} else {
-        return Check::No(3);
+        return Err(Refusal(3));
     }
     if is_outside(temperature, t) {
-        return Check::No(4);
+        return Err(Refusal(4));
     }
     if is_outside(value, x) {
-        return Check::No(5);
+        return Err(Refusal(5));
     }
-    Check::Passed
+    Ok(())
 }
 
 // 19, with the melting pressure; 7 where that failed.
-pub fn not_solid(melting: Option<f64>, p: f64) -> Check
+pub fn not_solid(melting: Option<f64>, p: f64) -> Result<(), Refusal>
     ensures { result ≡ solid melting p }
 {
     let Some(m) = melting else {
-        return Check::No(7);
+        return Err(Refusal(7));
     };
     if m < p {
-        return Check::No(19);
+        return Err(Refusal(19));
     }
-    Check::Passed
+    Ok(())
 }
 
 // 6, with the ranges of the critical box.
-pub fn out_of_box(temperature: Range, value: Range, t: f64, x: f64) -> Check
+pub fn out_of_box(temperature: Range, value: Range, t: f64, x: f64) -> Result<(), Refusal>
     ensures { result ≡ boxed temperature value t x }
 {
     if is_outside(temperature, t) {
-        return Check::Passed;
+        return Ok(());
     }
     if is_outside(value, x) {
-        return Check::Passed;
+        return Ok(());
     }
-    Check::No(6)
+    Err(Refusal(6))
 }

@@ -6,7 +6,7 @@ ghost use Rattle.std.specs.Prelude.{◌≡◌};
 ghost use Rattle.equation.specs.Equation.{of1996};
 ghost use Rattle.door_conductivity.specs.Conducted.{conducting, with_conductivity};
 
-use door_answers::{Answer, refusal_number};
+use door_answers::{refusal_number};
 use eos_state::State;
 use equation::conductivity_at;
 
@@ -18,35 +18,29 @@ pub struct Carried {
     pub conductivity: Option<f64>,
 }
 
-#[derive(Clone, Copy)]
-pub enum Conducted {
-    State(Carried),
-    Refused(u8),
-}
-
 // Where it is asked for: 7 where its working fails, and then nothing of the state is carried.
-fn conducting(s: State) -> Conducted
+fn conducting(s: State) -> Result<Carried, Refusal>
     ensures { result ≡ conducting of1996 s }
 {
     let Some(x) = conductivity_at(s.t, s.rho) else {
-        return Conducted::Refused(7);
+        return Err(Refusal(7));
     };
-    Conducted::State(Carried {
+    Ok(Carried {
         state: s,
         conductivity: Some(x),
     })
 }
 
-pub fn with_conductivity(asked: bool, a: Answer) -> Conducted
+pub fn with_conductivity(asked: bool, a: Result<State, Refusal>) -> Result<Carried, Refusal>
     ensures { result ≡ with_conductivity of1996 asked a }
 {
-    let Answer::State(s) = a else {
-        return Conducted::Refused(refusal_number(a));
+    let Ok(s) = a else {
+        return Err(refusal_number(a));
     };
     if asked {
         return conducting(s);
     }
-    Conducted::State(Carried {
+    Ok(Carried {
         state: s,
         conductivity: None,
     })

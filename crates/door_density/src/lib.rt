@@ -6,8 +6,8 @@ ghost use Rattle.std.specs.Prelude.{◌≡◌};
 ghost use Rattle.equation.specs.Equation.{of1996};
 ghost use Rattle.door_density.specs.DensityDoor.{in_phase, beneath, entered, unboxed, density_door};
 
-use door_answers::{Answer, answer_with};
-use door_checks::{Check, in_range, not_solid, number_of, out_of_box};
+use door_answers::{answer_with};
+use door_checks::{in_range, not_solid, number_of, out_of_box};
 use door_limits::{Limits, is_outside};
 use eos_state::Phase;
 use equation::{
@@ -15,36 +15,36 @@ use equation::{
     vapour_density,
 };
 
-fn in_phase(l: Limits, phase: Phase, t: f64, rho: f64) -> Answer
+fn in_phase(l: Limits, phase: Phase, t: f64, rho: f64) -> Result<State, Refusal>
     ensures { result ≡ in_phase of1996 l phase t rho }
 {
     let curve = curve_at(t);
     let Some(p) = pressure_on(curve, rho) else {
-        return Answer::Refused(7);
+        return Err(Refusal(7));
     };
     if is_outside(l.asked.pressure, p) {
-        return Answer::Refused(5);
+        return Err(Refusal(5));
     }
     let c = not_solid(melting_pressure(t), p);
-    let Check::Passed = c else {
-        return Answer::Refused(number_of(c));
+    let Ok(()) = c else {
+        return Err(number_of(c));
     };
     answer_with(state_on(curve, phase, rho))
 }
 
 // Below the critical temperature.
-fn beneath(l: Limits, t: f64, rho: f64) -> Answer
+fn beneath(l: Limits, t: f64, rho: f64) -> Result<State, Refusal>
     ensures { result ≡ beneath of1996 l t rho }
 {
     let Some(vapour) = vapour_density(t) else {
-        return Answer::Refused(7);
+        return Err(Refusal(7));
     };
     let Some(liquid) = liquid_density(t) else {
-        return Answer::Refused(7);
+        return Err(Refusal(7));
     };
     if vapour < rho {
         if rho < liquid {
-            return Answer::Refused(8);
+            return Err(Refusal(8));
         }
         return in_phase(l, Phase::Liquid, t, rho);
     }
@@ -52,7 +52,7 @@ fn beneath(l: Limits, t: f64, rho: f64) -> Answer
 }
 
 // Past the checks.
-fn enter(l: Limits, t: f64, rho: f64) -> Answer
+fn enter(l: Limits, t: f64, rho: f64) -> Result<State, Refusal>
     ensures { result ≡ entered of1996 l t rho }
 {
     if critical_temperature() <= t {
@@ -62,22 +62,22 @@ fn enter(l: Limits, t: f64, rho: f64) -> Answer
 }
 
 // Past 3, 4 and 5.
-fn unbox(l: Limits, t: f64, rho: f64) -> Answer
+fn unbox(l: Limits, t: f64, rho: f64) -> Result<State, Refusal>
     ensures { result ≡ unboxed of1996 l t rho }
 {
     let c = out_of_box(l.critical.temperature, l.critical.density, t, rho);
-    let Check::Passed = c else {
-        return Answer::Refused(number_of(c));
+    let Ok(()) = c else {
+        return Err(number_of(c));
     };
     enter(l, t, rho)
 }
 
-pub fn from_density(l: Limits, t: f64, rho: f64) -> Answer
+pub fn from_density(l: Limits, t: f64, rho: f64) -> Result<State, Refusal>
     ensures { result ≡ density_door of1996 l t rho }
 {
     let c = in_range(l.asked.temperature, l.asked.density, t, rho);
-    let Check::Passed = c else {
-        return Answer::Refused(number_of(c));
+    let Ok(()) = c else {
+        return Err(number_of(c));
     };
     unbox(l, t, rho)
 }

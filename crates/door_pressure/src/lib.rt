@@ -9,8 +9,7 @@ ghost use Rattle.equation.specs.Equation.{of1996};
 ghost use Rattle.door_pressure.specs.PressureDoor.{scaled, vapour, liquid, beneath, entered, unboxed, thawed, pressure_door};
 
 use crate::search::search_at;
-use door_answers::Answer;
-use door_checks::{Check, in_range, not_solid, number_of, out_of_box};
+use door_checks::{in_range, not_solid, number_of, out_of_box};
 use door_limits::{Limits, search_ends};
 use eos_state::Phase;
 use equation::{
@@ -28,35 +27,35 @@ fn scaled(factor: f64, density: Option<f64>) -> Option<f64>
     checked(factor * d)
 }
 
-fn as_vapour(t: f64, p: f64) -> Answer
+fn as_vapour(t: f64, p: f64) -> Result<State, Refusal>
     ensures { result ≡ vapour of1996 t p }
 {
     let ends = search_ends();
     let Some(to) = scaled(ends.vapour, vapour_density(t)) else {
-        return Answer::Refused(7);
+        return Err(Refusal(7));
     };
     search_at(t, Phase::Vapour, ends.from, to, p)
 }
 
-fn as_liquid(t: f64, p: f64) -> Answer
+fn as_liquid(t: f64, p: f64) -> Result<State, Refusal>
     ensures { result ≡ liquid of1996 t p }
 {
     let ends = search_ends();
     let Some(from) = scaled(ends.liquid, liquid_density(t)) else {
-        return Answer::Refused(7);
+        return Err(Refusal(7));
     };
     search_at(t, Phase::Liquid, from, ends.to, p)
 }
 
 // Below the critical temperature.
-fn beneath(t: f64, p: f64) -> Answer
+fn beneath(t: f64, p: f64) -> Result<State, Refusal>
     ensures { result ≡ beneath of1996 t p }
 {
     let Some(s) = vapour_pressure(t) else {
-        return Answer::Refused(7);
+        return Err(Refusal(7));
     };
     if p == s {
-        return Answer::Refused(8);
+        return Err(Refusal(8));
     }
     if p < s {
         return as_vapour(t, p);
@@ -65,7 +64,7 @@ fn beneath(t: f64, p: f64) -> Answer
 }
 
 // Past the checks.
-fn enter(t: f64, p: f64) -> Answer
+fn enter(t: f64, p: f64) -> Result<State, Refusal>
     ensures { result ≡ entered of1996 t p }
 {
     if critical_temperature() <= t {
@@ -76,33 +75,33 @@ fn enter(t: f64, p: f64) -> Answer
 }
 
 // Past 3, 4, 5 and 19.
-fn unbox(l: Limits, t: f64, p: f64) -> Answer
+fn unbox(l: Limits, t: f64, p: f64) -> Result<State, Refusal>
     ensures { result ≡ unboxed of1996 l t p }
 {
     let c = out_of_box(l.critical.temperature, l.critical.pressure, t, p);
-    let Check::Passed = c else {
-        return Answer::Refused(number_of(c));
+    let Ok(()) = c else {
+        return Err(number_of(c));
     };
     enter(t, p)
 }
 
 // Past 3, 4 and 5.
-fn thaw(l: Limits, t: f64, p: f64) -> Answer
+fn thaw(l: Limits, t: f64, p: f64) -> Result<State, Refusal>
     ensures { result ≡ thawed of1996 l t p }
 {
     let c = not_solid(melting_pressure(t), p);
-    let Check::Passed = c else {
-        return Answer::Refused(number_of(c));
+    let Ok(()) = c else {
+        return Err(number_of(c));
     };
     unbox(l, t, p)
 }
 
-pub fn from_pressure(l: Limits, t: f64, p: f64) -> Answer
+pub fn from_pressure(l: Limits, t: f64, p: f64) -> Result<State, Refusal>
     ensures { result ≡ pressure_door of1996 l t p }
 {
     let c = in_range(l.asked.temperature, l.asked.pressure, t, p);
-    let Check::Passed = c else {
-        return Answer::Refused(number_of(c));
+    let Ok(()) = c else {
+        return Err(number_of(c));
     };
     thaw(l, t, p)
 }

@@ -8,13 +8,12 @@ ghost use Rattle.num_working.specs.Number.{nonneg};
 ghost use Rattle.equation.specs.Equation.{of1996, pressure_on, state_on};
 ghost use Rattle.door_pressure.specs.Search.{figure, searched};
 
-use door_answers::{Answer, answer_with};
+use door_answers::{answer_with};
 use eos_state::Phase;
 use equation::{Curve, curve_at, pressure_on, state_on};
-use num_halving::Crossing;
 
 // From where the pressure is not above p to where it is above.
-fn narrow(curve: Curve, p: f64, from: u64, to: u64) -> Crossing
+fn narrow(curve: Curve, p: f64, from: u64, to: u64) -> Result<u64, Missed>
     requires from_lt_to { from < to }
     requires to_bound { to < 0x7ff0_0000_0000_0000 }
     requires not_above { NotAbove (figure (pressure_on curve)) p from }
@@ -26,7 +25,7 @@ fn narrow(curve: Curve, p: f64, from: u64, to: u64) -> Crossing
     while lo + 1 < hi {
         let mid = lo + (hi - lo) / 2;
         let Some(x) = pressure_on(curve, f64::from_bits(mid)) else {
-            return Crossing::Broke;
+            return Err(Missed::Broke);
         };
         if p < x {
             hi = mid;
@@ -34,11 +33,11 @@ fn narrow(curve: Curve, p: f64, from: u64, to: u64) -> Crossing
             lo = mid;
         }
     }
-    Crossing::At(lo)
+    Ok(lo)
 }
 
 // Between ends whose pressures are low and high.
-fn between(curve: Curve, p: f64, from: u64, to: u64, low: f64, high: f64) -> Crossing
+fn between(curve: Curve, p: f64, from: u64, to: u64, low: f64, high: f64) -> Result<u64, Missed>
     requires from_lt_to { from < to }
     requires to_bound { to < 0x7ff0_0000_0000_0000 }
     requires from_value { pressure_on curve (of_bits binary64 from) ≡ Number low }
@@ -46,45 +45,45 @@ fn between(curve: Curve, p: f64, from: u64, to: u64, low: f64, high: f64) -> Cro
     ensures { result ≡ halve (figure (pressure_on curve)) p from to }
 {
     if p < low {
-        return Crossing::Nowhere;
+        return Err(Missed::Nowhere);
     }
     if p < high {
         return narrow(curve, p, from, to);
     }
-    Crossing::Nowhere
+    Err(Missed::Nowhere)
 }
 
-fn crossing(curve: Curve, p: f64, from: u64, to: u64) -> Crossing
+fn crossing(curve: Curve, p: f64, from: u64, to: u64) -> Result<u64, Missed>
     requires { to < 0x7ff0_0000_0000_0000 }
     ensures { result ≡ halve (figure (pressure_on curve)) p from to }
 {
     if to <= from {
-        return Crossing::Nowhere;
+        return Err(Missed::Nowhere);
     }
     let Some(low) = pressure_on(curve, f64::from_bits(from)) else {
-        return Crossing::Broke;
+        return Err(Missed::Broke);
     };
     let Some(high) = pressure_on(curve, f64::from_bits(to)) else {
-        return Crossing::Broke;
+        return Err(Missed::Broke);
     };
     between(curve, p, from, to, low, high)
 }
 
 // Over densities that have no minus sign.
-fn search_on(curve: Curve, phase: Phase, from: f64, to: f64, p: f64) -> Answer
+fn search_on(curve: Curve, phase: Phase, from: f64, to: f64, p: f64) -> Result<State, Refusal>
     requires t { T (nonneg from) }
     requires t_2 { T (nonneg to) }
     requires t_3 { T (fits binary64 to) }
     ensures { result ≡ searched (pressure_on curve) (state_on curve phase) from to p }
 {
     match crossing(curve, p, f64::to_bits(from), f64::to_bits(to)) {
-        Crossing::At(b) => answer_with(state_on(curve, phase, f64::from_bits(b))),
-        Crossing::Nowhere => Answer::Refused(9),
-        Crossing::Broke => Answer::Refused(7),
+        Ok(b) => answer_with(state_on(curve, phase, f64::from_bits(b))),
+        Err(Missed::Nowhere) => Err(Refusal(9)),
+        Err(Missed::Broke) => Err(Refusal(7)),
     }
 }
 
-pub(crate) fn search_at(t: f64, phase: Phase, from: f64, to: f64, p: f64) -> Answer
+pub(crate) fn search_at(t: f64, phase: Phase, from: f64, to: f64, p: f64) -> Result<State, Refusal>
     requires t { T (nonneg from) }
     requires t_2 { T (nonneg to) }
     requires t_3 { T (fits binary64 to) }

@@ -18,42 +18,36 @@ pub struct Saturation {
     pub liquid: f64,
 }
 
-#[derive(Clone, Copy)]
-pub enum Saturated {
-    Is(Saturation),
-    Refused(u8),
-}
-
-fn worked_at(t: f64) -> Saturated
+fn worked_at(t: f64) -> Result<Saturation, Refusal>
     ensures { result ≡ worked_at of1996 t }
 {
     let Some(pressure) = vapour_pressure(t) else {
-        return Saturated::Refused(7);
+        return Err(Refusal(7));
     };
     let Some(vapour) = vapour_density(t) else {
-        return Saturated::Refused(7);
+        return Err(Refusal(7));
     };
     let Some(liquid) = liquid_density(t) else {
-        return Saturated::Refused(7);
+        return Err(Refusal(7));
     };
-    Saturated::Is(Saturation {
+    Ok(Saturation {
         pressure: pressure,
         vapour: vapour,
         liquid: liquid,
     })
 }
 
-pub fn saturated_at(limits: Limits, t: f64) -> Saturated
+pub fn saturated_at(limits: Limits, t: f64) -> Result<Saturation, Refusal>
     ensures { result ≡ saturated of1996 limits t }
 {
     if is_finite(t) {} else {
-        return Saturated::Refused(3);
+        return Err(Refusal(3));
     }
     if is_outside(limits.asked.temperature, t) {
-        return Saturated::Refused(4);
+        return Err(Refusal(4));
     }
     if t < critical_temperature() {
         return worked_at(t);
     }
-    Saturated::Refused(4)
+    Err(Refusal(4))
 }

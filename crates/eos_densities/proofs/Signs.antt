@@ -1,5 +1,6 @@
 -- Roots have no minus sign, nor have products and whole powers of what has none; a product by what has one has one, and so has a sum of such. Assumes nothing.
-use Rattle.std.specs.Prelude.{Some, None}
+use Rattle.num_halving.specs.declared.Missed.TheVariants.{Nowhere, Broke}
+use Rattle.std.specs.Prelude.{Some, None, Ok, Err}
 use Prim.Native.Nat.{ℕ, zero, suc, ◌+◌, ◌*◌, ◌^◌}
 use mathlib.Core.Path.{◌≡◌, refl, sym, subst}
 use mathlib.Core.Bool.{Bool, true, false}
@@ -12,8 +13,7 @@ use Rattle.num_working.specs.Number.{whole, nonneg}
 use Rattle.num_working.specs.Working.{checked, ◌+ᵂ◌, ◌*ᵂ◌, Worked}
 use Rattle.num_working.proofs.Cases.{by_test, by_working}
 use Rattle.num_powers.specs.Power.{◌^ᵂ◌}
-use Rattle.num_halving.specs.declared.Crossing.{Crossing}
-use Rattle.num_halving.specs.declared.Crossing.TheVariants.{At, Nowhere, Broke}
+use Rattle.num_halving.specs.Halving.{Crossing}
 use Rattle.num_laws.proofs.Orders.{unsigned, mul_unsigned, bits_mono}
 use Rattle.num_roots.specs.Root as Root
 use Rattle.num_roots.specs.Root.{root_bits, root_of, searched}
@@ -108,9 +108,9 @@ plus_power w (suc (suc n)) p = plus_times (w ^ᵂ suc n) w (plus_power w (suc n)
 
 -- ---- a root
 plus_found : (k : ℕ) (t : Float) (c : Crossing) → root_bits k t ≡ c → Plus (root_of c)
-plus_found k t (At b) e = let h = crossing_below k t b e in (bits_mono b b (omega arith) h).first
-plus_found k t Nowhere e = tt
-plus_found k t Broke e = tt
+plus_found k t (Ok b) e = let h = crossing_below k t b e in (bits_mono b b (omega arith) h).first
+plus_found k t (Err Nowhere) e = tt
+plus_found k t (Err Broke) e = tt
 
 plus_searched : (m k : ℕ) (x : Float) → Plus (searched m k x)
 unfolding searched

@@ -1,6 +1,6 @@
 -- What a caller may take from the promises of the two functions that give all that a state carries, what stands in the figures, by how many are lent; and
 -- from that of many states at once. Assumes nothing.
-use Rattle.std.specs.Prelude.{Some}
+use Rattle.std.specs.Prelude.{Some, Ok}
 use mathlib.Core.Path.{◌≡◌, refl}
 use mathlib.Core.List.{List}
 use Prim.Native.Nat.{ℕ, ◌*◌, ◌≤◌, ◌<◌}
@@ -11,7 +11,7 @@ use lib.Ieee.{Float, nan}
 use Rattle.eos_state.specs.declared.State.{State}
 use Rattle.equation.specs.Equation.{of1996}
 use Rattle.door_limits.specs.Limits.{document01}
-use Rattle.door_answers.specs.declared.Answer.{Answer}
+use Rattle.door_answers.specs.Answer.{Answer}
 use Rattle.door_pressure.specs.PressureDoor.{pressure_door}
 use Rattle.door_density.specs.DensityDoor.{density_door}
 use Rattle.door_conductivity.specs.Conducted.{conducting, with_conductivity}
@@ -41,17 +41,17 @@ state_from_density_unasked κs a r x p h = unasked of1996 _ _ (density_door of19
 
 -- with ten the conductivity of the door's state in the tenth place
 asked_tenth : (old new : List Float) (a : Answer) (r : ℕ) → 10 ≤ length old → CarriedIn old new (with_conductivity of1996 (asked old) a) r
-    → (s : State) (x : Float) → a ≡ Answer.State s → of1996.conductivity s.t s.rho ≡ Some x → get_or new 9 nan ≡ x
+    → (s : State) (x : Float) → a ≡ Ok s → of1996.conductivity s.t s.rho ≡ Some x → get_or new 9 nan ≡ x
 unfolding conducting
 asked_tenth old new a r h p s x e w =
     tenth old new (record { state = s; conductivity = Some x }) x r refl (rw (e, ten_ask old h, w) at p) h
 
 pub state_from_pressure_tenth : (κs : Lfts 1) → Figures (state_from_pressure.Post κs) (λ a r new. 10 ≤ length a.1.1.0.now
-    → (s : State) (x : Float) → pressure_door of1996 document01 a.0 a.1.0 ≡ Answer.State s → of1996.conductivity s.t s.rho ≡ Some x → get_or new 9 nan ≡ x)
+    → (s : State) (x : Float) → pressure_door of1996 document01 a.0 a.1.0 ≡ Ok s → of1996.conductivity s.t s.rho ≡ Some x → get_or new 9 nan ≡ x)
 state_from_pressure_tenth κs a r x p h s k e w = asked_tenth _ _ _ r h p s k e w
 
 pub state_from_density_tenth : (κs : Lfts 1) → Figures (state_from_density.Post κs) (λ a r new. 10 ≤ length a.1.1.0.now
-    → (s : State) (x : Float) → density_door of1996 document01 a.0 a.1.0 ≡ Answer.State s → of1996.conductivity s.t s.rho ≡ Some x → get_or new 9 nan ≡ x)
+    → (s : State) (x : Float) → density_door of1996 document01 a.0 a.1.0 ≡ Ok s → of1996.conductivity s.t s.rho ≡ Some x → get_or new 9 nan ≡ x)
 state_from_density_tenth κs a r x p h s k e w = asked_tenth _ _ _ r h p s k e w
 
 -- ---- of many states

@@ -25,7 +25,6 @@ use door_pressure::from_pressure;
 use door_saturation::saturated_at;
 use interface_figures::{put_answer, put_saturated, put_state};
 use interface_states::put_states;
-use sheet_report::Written;
 use sheet_score::score;
 
 #[unsafe(no_mangle)]
@@ -92,8 +91,8 @@ pub extern "C" fn makhroeng_report(text: &[u8], out: &mut [u8]) -> u64
     ensures { ReportedIn out.old out.new (report document01 (in_form text.now)) result }
 {
     match score(document_01(), text, out) {
-        Written::Bytes(n) => n as u64,
-        Written::Refused(_) => 0,
+        Ok(n) => n as u64,
+        Err(_) => 0,
     }
 }
 

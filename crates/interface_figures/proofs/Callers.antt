@@ -1,6 +1,6 @@
 -- What a caller may take from what is handed over of a state with all that it carries: which figures are written, with what, and which stay; over any
 -- answer of a door. Assumes nothing.
-use Rattle.std.specs.Prelude.{Some, None}
+use Rattle.std.specs.Prelude.{Some, None, Ok, Err}
 use mathlib.Core.Path.{◌≡◌, refl, sym, ap, ◌∙◌}
 use mathlib.Core.Bool.{Bool, true, false, cond}
 use mathlib.Core.List.{List, [], ◌∷◌, ◌++◌}
@@ -15,10 +15,9 @@ use Rattle.num_working.specs.Number.{whole}
 use Rattle.eos_state.specs.State.{eight}
 use Rattle.eos_state.specs.declared.State.{State}
 use Rattle.equation.specs.Equation.{Equation}
-use Rattle.door_answers.specs.declared.Answer.{Answer}
-use Rattle.door_conductivity.specs.Conducted.{with_conductivity, Conductivity}
+use Rattle.door_answers.specs.Answer.{Answer}
+use Rattle.door_conductivity.specs.Conducted.{with_conductivity, Conductivity, Conducted}
 use Rattle.door_conductivity.specs.declared.Carried.{Carried}
-use Rattle.door_conductivity.specs.declared.Conducted.{Conducted}
 use Rattle.interface_figures.specs.Figures.{AnsweredIn, laid_over, counted, on_request, carried, asked, CarriedIn, CountedIn}
 use Rattle.interface_figures.proofs.Handed.{eight_laid}
 
@@ -56,15 +55,15 @@ first_of n l xs ys false e = e
 
 -- OF ONE ANSWER OF A DOOR, ITS EIGHT NUMBERS AND ALL THAT ITS STATE CARRIES HAVE THE SAME NUMBER AND THE SAME FIRST EIGHT FIGURES
 pub same_eight : (old new out : List Float) (a : Answer) (r s : ℕ) → CountedIn old new a r → AnsweredIn old out a s → (r ≡ s) × (take 8 new ≡ take 8 out)
-same_eight old new out (Answer.Refused n) r s p q = (p.number ∙ sym q.number, ap (take 8) (p.figures ∙ sym q.figures))
-same_eight old new out (Answer.State x) r s p q = (
+same_eight old new out (Err n) r s p q = (p.number ∙ sym q.number, ap (take 8) (p.figures ∙ sym q.figures))
+same_eight old new out (Ok x) r s p q = (
   p.number ∙ sym q.number,
   rw (p.figures, q.figures, eight_laid old x (ltb (length old) 8) refl)
       (first_of 8 old _ _ (ltb (length old) 8) (first_laid (eight x) (whole x.fallen ∷ []) old)),
 )
 
 -- AND WITH WHAT IT CARRIES ON REQUEST, THE SAME FIRST NINE
-pub same_nine : (old new out : List Float) (c : Carried) (r s : ℕ) → CarriedIn old new (Conducted.State c) r → CountedIn old out (Answer.State c.state) s
+pub same_nine : (old new out : List Float) (c : Carried) (r s : ℕ) → CarriedIn old new (Ok c) r → CountedIn old out (Ok c.state) s
     → (r ≡ s) × (take 9 new ≡ take 9 out)
 same_nine old new out c r s p q = (
   p.number ∙ sym q.number,
@@ -75,8 +74,8 @@ same_nine old new out c r s p q = (
 pub unasked : (E : Equation) (old new : List Float) (a : Answer) (r : ℕ) → length old < 10 → CarriedIn old new (with_conductivity E (asked old) a) r
     → CountedIn old new a r
 unfolding asked
-unasked E old new (Answer.Refused n) r h p = record { number = p.number; figures = p.figures }
-unasked E old new (Answer.State s) r h p =
+unasked E old new (Err n) r h p = record { number = p.number; figures = p.figures }
+unasked E old new (Ok s) r h p =
     let q = rw (lt-leb 10 (length old) h) at p in
     record { number = q.number; figures = q.figures }
 
@@ -86,10 +85,10 @@ unfolding asked
 ten_ask old h = le-leb 10 (length old) h
 
 -- THE NINTH FIGURE, where it is lent, is how many terms fell away, and THE TENTH, where it is lent and asked for, the conductivity
-pub ninth : (old new : List Float) (c : Carried) (r : ℕ) → CarriedIn old new (Conducted.State c) r → 9 ≤ length old → get_or new 8 nan ≡ whole c.state.fallen
+pub ninth : (old new : List Float) (c : Carried) (r : ℕ) → CarriedIn old new (Ok c) r → 9 ≤ length old → get_or new 8 nan ≡ whole c.state.fallen
 ninth old new c r p h = rw (p.figures, le-ltb (length old) 8 (omega (arith, h))) (at_laid (carried c) old 8 (omega arith) (omega (arith, h)))
 
-pub tenth : (old new : List Float) (c : Carried) (x : Float) (r : ℕ) → c.conductivity ≡ Some x → CarriedIn old new (Conducted.State c) r → 10 ≤ length old
+pub tenth : (old new : List Float) (c : Carried) (x : Float) (r : ℕ) → c.conductivity ≡ Some x → CarriedIn old new (Ok c) r → 10 ≤ length old
     → get_or new 9 nan ≡ x
 tenth old new c x r e p h =
     rw (p.figures, le-ltb (length old) 8 (omega (arith, h)), e) (at_laid (counted c.state ++ (x ∷ [])) old 9 (omega arith) (omega (arith, h)))
@@ -100,8 +99,8 @@ at_most_ten s None = omega arith
 at_most_ten s (Some x) = omega arith
 
 pub after_tenth : (old new : List Float) (a : Conducted) (r : ℕ) → CarriedIn old new a r → drop 10 new ≡ drop 10 old
-after_tenth old new (Conducted.Refused n) r p = ap (drop 10) p.figures ∙ past 10 old old (ltb (length old) 8) refl
-after_tenth old new (Conducted.State c) r p =
+after_tenth old new (Err n) r p = ap (drop 10) p.figures ∙ past 10 old old (ltb (length old) 8) refl
+after_tenth old new (Ok c) r p =
     ap (drop 10) p.figures ∙ past 10 old _ (ltb (length old) 8) (past_laid 10 (carried c) old (at_most_ten c.state c.conductivity))
 
 -- AND ALL, WHERE IT IS REFUSED
@@ -109,5 +108,5 @@ either_way : (l : List Float) (b : Bool) → cond b l l ≡ l
 either_way l true = refl
 either_way l false = refl
 
-pub refused_stays : (old new : List Float) (n r : ℕ) → CarriedIn old new (Conducted.Refused n) r → new ≡ old
+pub refused_stays : (old new : List Float) (n r : ℕ) → CarriedIn old new (Err n) r → new ≡ old
 refused_stays old new n r p = p.figures ∙ either_way old (ltb (length old) 8)

@@ -1,5 +1,5 @@
 -- Numbers set one after the other, and what a caller is handed, by what the door or saturation comes to. Assumes nothing.
-use Rattle.std.specs.Prelude.{Some, None}
+use Rattle.std.specs.Prelude.{Some, None, Ok, Err}
 use mathlib.Core.Path.{◌≡◌, refl, sym, ap, ◌∙◌}
 use mathlib.Core.Bool.{Bool, true, false, cond}
 use mathlib.Core.List.{List, [], ◌∷◌, ◌++◌}
@@ -13,9 +13,9 @@ use borrow.Author.Tests.{ltb-true, ltb-false, lt-ltb, le-ltb}
 use Rattle.num_working.specs.Number.{whole}
 use Rattle.eos_state.specs.State.{eight}
 use Rattle.eos_state.specs.declared.State.{State}
-use Rattle.door_answers.specs.declared.Answer.{Answer}
+use Rattle.door_answers.specs.Answer.{Answer}
 use Rattle.door_conductivity.specs.declared.Carried.{Carried}
-use Rattle.door_conductivity.specs.declared.Conducted.{Conducted}
+use Rattle.door_conductivity.specs.Conducted.{Conducted}
 use Rattle.door_saturation.specs.declared.Saturation.{Saturation}
 use Rattle.interface_figures.specs.Figures.{HandedIn, with_eight, AnsweredIn, laid_over, counted, CarriedIn, CountedIn, with_three}
 
@@ -70,7 +70,7 @@ eight_laid l s true e = refl
 eight_laid l s false e = ap (λ (r : List Float). r ++ drop 8 l) (sym (take_all (length l) (eight s) (ltb-false (length l) 8 e)))
 
 -- a door that was answered or refused, handed over by its eight numbers before
-pub state_counted : (old mid new : List Float) (a : Answer) (s : State) (r : ℕ) → a ≡ Answer.State s → AnsweredIn old mid (Answer.State s) r
+pub state_counted : (old mid new : List Float) (a : Answer) (s : State) (r : ℕ) → a ≡ Ok s → AnsweredIn old mid (Ok s) r
     → new ≡ set mid 8 (whole s.fallen) → CountedIn old new a r
 state_counted old mid new a s r e p f =
     rw e (record {
@@ -78,18 +78,18 @@ state_counted old mid new a s r e p f =
       figures = f ∙ rw (p.figures, eight_laid old s (ltb (length old) 8) refl) (behind (eight s) old (whole s.fallen) (ltb (length old) 8) (omega arith) refl);
     })
 
-pub refused_counted : (old new : List Float) (a : Answer) (n r : ℕ) → a ≡ Answer.Refused n → AnsweredIn old new a r → CountedIn old new a r
+pub refused_counted : (old new : List Float) (a : Answer) (n r : ℕ) → a ≡ Err n → AnsweredIn old new a r → CountedIn old new a r
 refused_counted old new a n r e p = record { number = p.number; figures = rw e (rw e at p.figures) }
 
 -- and what it carries on request, handed over with the count before
-pub not_asked_in : (old new : List Float) (c : Carried) (r : ℕ) → c.conductivity ≡ None → CountedIn old new (Answer.State c.state) r
-    → CarriedIn old new (Conducted.State c) r
+pub not_asked_in : (old new : List Float) (c : Carried) (r : ℕ) → c.conductivity ≡ None → CountedIn old new (Ok c.state) r
+    → CarriedIn old new (Ok c) r
 not_asked_in old new c r e p = record { number = p.number; figures = rw e p.figures }
 
-pub asked_in : (old mid new : List Float) (c : Carried) (x : Float) (r : ℕ) → c.conductivity ≡ Some x → CountedIn old mid (Answer.State c.state) r
-    → new ≡ set mid 9 x → CarriedIn old new (Conducted.State c) r
+pub asked_in : (old mid new : List Float) (c : Carried) (x : Float) (r : ℕ) → c.conductivity ≡ Some x → CountedIn old mid (Ok c.state) r
+    → new ≡ set mid 9 x → CarriedIn old new (Ok c) r
 asked_in old mid new c x r e p f =
     record { number = p.number; figures = f ∙ rw (p.figures, e) (behind (counted c.state) old x (ltb (length old) 8) (omega arith) refl) }
 
-pub refused_in : (old new : List Float) (n r : ℕ) → CountedIn old new (Answer.Refused n) r → CarriedIn old new (Conducted.Refused n) r
+pub refused_in : (old new : List Float) (n r : ℕ) → CountedIn old new (Err n) r → CarriedIn old new (Err n) r
 refused_in old new n r p = record { number = p.number; figures = p.figures }

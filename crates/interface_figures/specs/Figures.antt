@@ -1,15 +1,14 @@
 -- RULES 12: what a caller in another language gets of a door or of saturation, a number back and figures in what it lent. Definitions only.
-use Rattle.std.specs.Prelude.{ℕ, ◌≡◌, Bool, cond, List, [], ◌∷◌, ◌++◌, leb, ltb, length, take, drop, Float, Some, None}
+use Rattle.std.specs.Prelude.{ℕ, ◌≡◌, Bool, cond, List, [], ◌∷◌, ◌++◌, leb, ltb, length, take, drop, Float, Some, None, Ok, Err}
 use Rattle.num_working.specs.Number.{whole}
 use Rattle.eos_state.specs.State.{eight}
 use Rattle.eos_state.specs.declared.Phase.{Phase}
 use Rattle.eos_state.specs.declared.State.{State}
-use Rattle.door_answers.specs.declared.Answer.{Answer}
+use Rattle.door_answers.specs.Answer.{Answer}
 use Rattle.door_conductivity.specs.declared.Carried.{Carried}
-use Rattle.door_conductivity.specs.Conducted.{Conductivity}
-use Rattle.door_conductivity.specs.declared.Conducted.{Conducted}
+use Rattle.door_conductivity.specs.Conducted.{Conductivity, Conducted}
 use Rattle.door_saturation.specs.declared.Saturation.{Saturation}
-use Rattle.door_saturation.specs.declared.Saturated.{Saturated}
+use Rattle.door_saturation.specs.Saturation.{Saturated}
 
 -- where fewer are lent than the answer has at least: 15, whatever the answer is, and the figures, which were `old`, stay
 -- else the answer's number, and the figures become `given`
@@ -30,12 +29,12 @@ with_eight s figures = eight s ++ drop 8 figures
 -- ---- a door
 
 abbrev pub number_of : Answer → ℕ
-number_of (Answer.State s) = phase_number s.phase
-number_of (Answer.Refused n) = n
+number_of (Ok s) = phase_number s.phase
+number_of (Err n) = n
 
 abbrev pub figures_of : Answer → List Float → List Float
-figures_of (Answer.State s) figures = with_eight s figures
-figures_of (Answer.Refused n) figures = figures
+figures_of (Ok s) figures = with_eight s figures
+figures_of (Err n) figures = figures
 
 -- the phase's number and the eight numbers, or the refusal's number and the figures stay
 abbrev pub AnsweredIn : List Float → List Float → Answer → ℕ → Type 0
@@ -60,12 +59,12 @@ abbrev pub carried : Carried → List Float
 carried c = counted c.state ++ on_request c.conductivity
 
 abbrev pub conducted_number : Conducted → ℕ
-conducted_number (Conducted.State c) = phase_number c.state.phase
-conducted_number (Conducted.Refused n) = n
+conducted_number (Ok c) = phase_number c.state.phase
+conducted_number (Err n) = n
 
 abbrev pub carried_of : Conducted → List Float → List Float
-carried_of (Conducted.State c) figures = laid_over (carried c) figures
-carried_of (Conducted.Refused n) figures = figures
+carried_of (Ok c) figures = laid_over (carried c) figures
+carried_of (Err n) figures = figures
 
 -- whoever lends ten asks for the conductivity
 unfoldable pub asked : List Float → Bool
@@ -77,8 +76,8 @@ CarriedIn old new a = HandedIn 8 old new (carried_of a old) (conducted_number a)
 
 -- the same of a door that isn't asked for the conductivity: what is handed over where fewer than ten are lent (`unasked`, proofs/Callers.antt)
 abbrev pub counted_of : Answer → List Float → List Float
-counted_of (Answer.State s) figures = laid_over (counted s) figures
-counted_of (Answer.Refused n) figures = figures
+counted_of (Ok s) figures = laid_over (counted s) figures
+counted_of (Err n) figures = figures
 
 abbrev pub CountedIn : List Float → List Float → Answer → ℕ → Type 0
 CountedIn old new a = HandedIn 8 old new (counted_of a old) (number_of a)
@@ -90,12 +89,12 @@ unfoldable pub with_three : Saturation → List Float → List Float
 with_three s figures = s.pressure ∷ s.vapour ∷ s.liquid ∷ drop 3 figures
 
 abbrev pub saturated_number : Saturated → ℕ
-saturated_number (Saturated.Is s) = 259
-saturated_number (Saturated.Refused n) = n
+saturated_number (Ok s) = 259
+saturated_number (Err n) = n
 
 abbrev pub saturated_of : Saturated → List Float → List Float
-saturated_of (Saturated.Is s) figures = with_three s figures
-saturated_of (Saturated.Refused n) figures = figures
+saturated_of (Ok s) figures = with_three s figures
+saturated_of (Err n) figures = figures
 
 abbrev pub SaturatedIn : List Float → List Float → Saturated → ℕ → Type 0
 SaturatedIn old new s = HandedIn 3 old new (saturated_of s old) (saturated_number s)

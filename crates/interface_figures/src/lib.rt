@@ -4,12 +4,10 @@
 ghost use Rattle.std.specs.Prelude.{◌≡◌, ◌≤◌, length, set};
 ghost use Rattle.equation.specs.Equation.{of1996};
 ghost use Rattle.door_conductivity.specs.Conducted.{with_conductivity};
-ghost use Rattle.door_conductivity.specs.declared.Conducted.{Conducted};
 ghost use Rattle.interface_figures.specs.Figures.{phase_number, with_eight, with_three, asked, AnsweredIn, CarriedIn, CountedIn, SaturatedIn};
 
-use door_answers::Answer;
-use door_conductivity::{Carried, Conducted, with_conductivity};
-use door_saturation::{Saturated, Saturation};
+use door_conductivity::{Carried, with_conductivity};
+use door_saturation::{Saturation};
 use eos_state::{Phase, State};
 
 fn phase_number(phase: Phase) -> u32
@@ -38,19 +36,19 @@ fn put_eight(s: State, figures: &mut [f64])
 }
 
 // Of a door: its eight numbers.
-pub fn put_answer(a: Answer, figures: &mut [f64]) -> u32
+pub fn put_answer(a: Result<State, Refusal>, figures: &mut [f64]) -> u32
     ensures { AnsweredIn figures.old figures.new a result }
 {
     if figures.len() < 8 {
         return 15;
     }
     match a {
-        Answer::State(s) => {
+        Ok(s) => {
             let phase = s.phase;
             put_eight(s, figures);
             phase_number(phase)
         }
-        Answer::Refused(n) => n as u32,
+        Err(n) => n as u32,
     }
 }
 
@@ -64,14 +62,14 @@ fn put_at(i: usize, x: f64, figures: &mut [f64])
 }
 
 // Behind the eight numbers the count of the terms that fell away.
-fn put_counted(a: Answer, figures: &mut [f64]) -> u32
+fn put_counted(a: Result<State, Refusal>, figures: &mut [f64]) -> u32
     ensures { CountedIn figures.old figures.new a result }
 {
-    let Answer::State(s) = a else {
+    let Ok(s) = a else {
         return put_answer(a, figures);
     };
     let fallen = s.fallen as f64;
-    let number = put_answer(Answer::State(s), figures);
+    let number = put_answer(Ok(s), figures);
     put_at(8, fallen, figures);
     number
 }
@@ -82,7 +80,7 @@ fn put_carried(c: Carried, figures: &mut [f64]) -> u32
 {
     let state = c.state;
     let conductivity = c.conductivity;
-    let number = put_counted(Answer::State(state), figures);
+    let number = put_counted(Ok(state), figures);
     let Some(x) = conductivity else {
         return number;
     };
@@ -90,17 +88,17 @@ fn put_carried(c: Carried, figures: &mut [f64]) -> u32
     number
 }
 
-fn put_conducted(c: Conducted, figures: &mut [f64]) -> u32
+fn put_conducted(c: Result<Carried, Refusal>, figures: &mut [f64]) -> u32
     ensures { CarriedIn figures.old figures.new c result }
 {
     match c {
-        Conducted::State(x) => put_carried(x, figures),
-        Conducted::Refused(n) => put_counted(Answer::Refused(n), figures),
+        Ok(x) => put_carried(x, figures),
+        Err(n) => put_counted(Err(n), figures),
     }
 }
 
 // All that a state carries: whoever lends ten asks for the conductivity.
-pub fn put_state(a: Answer, figures: &mut [f64]) -> u32
+pub fn put_state(a: Result<State, Refusal>, figures: &mut [f64]) -> u32
     ensures { CarriedIn figures.old figures.new (with_conductivity of1996 (asked figures.old) a) result }
 {
     let asked = figures.len() >= 10;
@@ -117,17 +115,17 @@ fn put_three(s: Saturation, figures: &mut [f64])
     figures[2] = s.liquid;
 }
 
-pub fn put_saturated(s: Saturated, figures: &mut [f64]) -> u32
+pub fn put_saturated(s: Result<Saturation, Refusal>, figures: &mut [f64]) -> u32
     ensures { SaturatedIn figures.old figures.new s result }
 {
     if figures.len() < 3 {
         return 15;
     }
     match s {
-        Saturated::Is(x) => {
+        Ok(x) => {
             put_three(x, figures);
             259
         }
-        Saturated::Refused(n) => n as u32,
+        Err(n) => n as u32,
     }
 }

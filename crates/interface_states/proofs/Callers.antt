@@ -1,5 +1,6 @@
 -- What a caller may take from the promise: where the lengths fit, each place is what is handed over of one state, and where they don't, all stays.
 -- Assumes nothing.
+use Rattle.std.specs.Prelude.{Ok, Err}
 use mathlib.Core.Path.{◌≡◌, refl, sym, ap, ◌∙◌}
 use mathlib.Core.List.{List, [], ◌∷◌}
 use Prim.Native.Nat.{ℕ, zero, suc, ◌+◌, ◌*◌, ◌<◌}
@@ -11,8 +12,7 @@ use lib.Ieee.{Float}
 use Rattle.equation.specs.Equation.{of1996}
 use Rattle.door_limits.specs.Limits.{document01}
 use Rattle.door_pressure.specs.PressureDoor.{pressure_door}
-use Rattle.door_conductivity.specs.Conducted.{with_conductivity}
-use Rattle.door_conductivity.specs.declared.Conducted.{Conducted}
+use Rattle.door_conductivity.specs.Conducted.{with_conductivity, Conducted}
 use Rattle.interface_figures.specs.Figures.{laid_over, conducted_number, carried, carried_of, asked, CarriedIn}
 use Rattle.interface_states.specs.States.{given, numbers, tens, StatesIn}
 use Rattle.interface_states.proofs.Fitting.{so_fits, fitting, no_fit}
@@ -27,8 +27,8 @@ laid_length (x ∷ xs) [] = refl
 laid_length (x ∷ xs) (z ∷ l) = ap suc (laid_length xs l)
 
 carried_length : (a : Conducted) (l : List Float) → length (carried_of a l) ≡ length l
-carried_length (Conducted.Refused n) l = refl
-carried_length (Conducted.State c) l = laid_length (carried c) l
+carried_length (Err n) l = refl
+carried_length (Ok c) l = laid_length (carried c) l
 
 -- ---- of what is given
 

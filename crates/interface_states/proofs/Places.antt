@@ -11,8 +11,7 @@ use lib.Ieee.{Float}
 use Rattle.equation.specs.Equation.{of1996}
 use Rattle.door_limits.specs.Limits.{document01}
 use Rattle.door_pressure.specs.PressureDoor.{pressure_door}
-use Rattle.door_conductivity.specs.Conducted.{with_conductivity}
-use Rattle.door_conductivity.specs.declared.Conducted.{Conducted}
+use Rattle.door_conductivity.specs.Conducted.{with_conductivity, Conducted}
 use Rattle.interface_figures.specs.Figures.{conducted_number, carried_of, asked, CarriedIn}
 use Rattle.interface_states.specs.States.{all_fit, given, numbers, tens, StatesIn}
 use Rattle.interface_states.proofs.Fitting.{fitting}

@@ -3,8 +3,7 @@ use Rattle.std.specs.Prelude.{ℕ, ◌*◌, ◌≡◌, Bool, true, cond, ◌&&�
 use Rattle.equation.specs.Equation.{of1996}
 use Rattle.door_limits.specs.Limits.{document01}
 use Rattle.door_pressure.specs.PressureDoor.{pressure_door}
-use Rattle.door_conductivity.specs.Conducted.{with_conductivity}
-use Rattle.door_conductivity.specs.declared.Conducted.{Conducted}
+use Rattle.door_conductivity.specs.Conducted.{with_conductivity, Conducted}
 use Rattle.interface_figures.specs.Figures.{conducted_number, carried_of}
 
 -- do as many pressures, as many answers and ten times as many figures stand beside the temperatures?

@@ -1,5 +1,6 @@
 -- A formula worked in plain f64 and tested once at its end is the formula worked with a test of every number. Assumes nothing.
-use Rattle.std.specs.Prelude.{Some, None}
+use Rattle.num_halving.specs.declared.Missed.TheVariants.{Nowhere, Broke}
+use Rattle.std.specs.Prelude.{Some, None, Ok, Err}
 use Prim.Native.Nat.{ℕ, zero, suc, ◌*◌}
 use mathlib.Core.Path.{◌≡◌, refl, sym, ap, ◌∙◌}
 use mathlib.Core.Bool.{Bool, true, false, not, cond}
@@ -15,8 +16,7 @@ use Rattle.num_exponential.specs.Exponential.{exponential, answer_alone, steps}
 use Rattle.num_roots.specs.Root as Root
 use Rattle.num_roots.specs.Root.{root_bits, root_of, searched}
 use Rattle.num_formulas.specs.Formula.{Formula, num, ◌⊕◌, ◌⊖◌, ◌⊗◌, ◌⊘◌, ◌^^◌, minus, size, e^, root, absolute, value, work}
-use Rattle.num_halving.specs.declared.Crossing.{Crossing}
-use Rattle.num_halving.specs.declared.Crossing.TheVariants.{At, Nowhere, Broke}
+use Rattle.num_halving.specs.Halving.{Crossing}
 use Rattle.num_roots.specs.declared.root.Exponent.{Exponent}
 use Rattle.num_working.proofs.Cases.{by_test}
 use Rattle.num_working.proofs.Sound.{sound, checked_sound, both_sound, cond_sound, or_else_sound, checked_plain}
@@ -28,9 +28,9 @@ use Rattle.num_roots.proofs.Roots.{crossing_below}
 
 -- ---- what was worked is finite
 found_sound : (k : ℕ) (t : Float) (c : Crossing) → root_bits k t ≡ c → T (sound (root_of c))
-found_sound k t (At b) e = bits_finite b (crossing_below k t b e)
-found_sound k t Nowhere e = tt
-found_sound k t Broke e = tt
+found_sound k t (Ok b) e = bits_finite b (crossing_below k t b e)
+found_sound k t (Err Nowhere) e = tt
+found_sound k t (Err Broke) e = tt
 
 searched_sound : (m k : ℕ) (x : Float) → T (sound (searched m k x))
 unfolding searched

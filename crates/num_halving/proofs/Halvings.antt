@@ -1,6 +1,7 @@
 -- The shared facts about halving (RULES 4.5), over whatever figure is probed: what an answer means, when exactly there is no crossing, when exactly it fails,
 -- and that 63 halvings are enough. Assumes nothing.
-use Rattle.std.specs.Prelude.{Some, None}
+use Rattle.num_halving.specs.declared.Missed.TheVariants.{Nowhere, Broke}
+use Rattle.std.specs.Prelude.{Some, None, Ok, Err}
 use mathlib.Core.Path.{◌≡◌, refl, sym, ap, ◌∙◌}
 use mathlib.Core.Bool.{Bool, true, false, cond, true≢false}
 use Prim.Native.Nat.{ℕ, zero, suc, ◌+◌, ◌-◌, ◌*◌, ◌^◌, ◌≤◌, ◌<◌}
@@ -11,11 +12,9 @@ use borrow.Author.Tests.{eqb-true, eqb-false, eq-eqb, ne_eqb, leb-true, leb-fals
 use lib.Ieee.{Float, lt, of_int}
 use lib.Ieee.Scale.{finite}
 use Rattle.num_working.specs.Number.{whole}
-use Rattle.num_halving.specs.Halving.{Figure, Side, low, high, broken, side, ends, middle, narrow, halve, NotAbove, Above, Worthy, worthy, Unworthy, failed, unbounded, Found, NoCrossing, met, first_above, second_not_above, Halves, ended, upper, lower, broke, Breaks, at_first, at_second, at_middle}
+use Rattle.num_halving.specs.Halving.{Figure, Side, low, high, broken, side, ends, middle, narrow, halve, NotAbove, Above, Worthy, worthy, Unworthy, failed, unbounded, Found, NoCrossing, met, first_above, second_not_above, Halves, ended, upper, lower, broke, Breaks, at_first, at_second, at_middle, Crossing}
 use Rattle.num_working.proofs.Cases.{by_test, never}
 use Rattle.num_working.specs.Working.{Worked}
-use Rattle.num_halving.specs.declared.Crossing.{Crossing}
-use Rattle.num_halving.specs.declared.Crossing.TheVariants.{At, Nowhere, Broke}
 
 -- ---- the middle
 pub record Between (lo hi : ℕ) : Type 0 where
@@ -98,7 +97,7 @@ worthy_high f t k a = worthy a.number a.worked a.bounded
 
 -- ---- one halving
 module _ (f : Figure) (t : Float) where
-  narrow_ended : (n lo hi : ℕ) → hi ≡ lo + 1 → narrow f t n lo hi ≡ At lo
+  narrow_ended : (n lo hi : ℕ) → hi ≡ lo + 1 → narrow f t n lo hi ≡ Ok lo
   unfolding narrow
   narrow_ended zero lo hi e = refl
   narrow_ended (suc n) lo hi e = rw (eq-eqb hi (lo + 1) e) refl
@@ -111,7 +110,7 @@ module _ (f : Figure) (t : Float) where
   unfolding narrow
   narrow_lower n lo hi ne a = rw (ne_eqb hi (lo + 1) ne, side_high f t (middle lo hi) a) refl
 
-  narrow_broke : (n lo hi : ℕ) → (hi ≡ lo + 1 → ⊥) → Unworthy f (middle lo hi) → narrow f t (suc n) lo hi ≡ Broke
+  narrow_broke : (n lo hi : ℕ) → (hi ≡ lo + 1 → ⊥) → Unworthy f (middle lo hi) → narrow f t (suc n) lo hi ≡ (Err Broke)
   unfolding narrow
   narrow_broke n lo hi ne e = rw (ne_eqb hi (lo + 1) ne, side_broken f t (middle lo hi) e) refl
 
@@ -174,7 +173,7 @@ module _ (f : Figure) (t : Float) where
       ap (λ (i : ℕ). narrow f t i lo hi) k.1 ∙ narrow_broke k.0 lo hi ne e
 
   -- ---- what the halving comes to
-  found : {lo hi m : ℕ} {c : Crossing} → Halves f t lo hi m c → (r : ℕ) → lo < hi → NotAbove f t lo → Above f t hi → c ≡ At r → Found f t lo hi r
+  found : {lo hi m : ℕ} {c : Crossing} → Halves f t lo hi m c → (r : ℕ) → lo < hi → NotAbove f t lo → Above f t hi → c ≡ Ok r → Found f t lo hi r
   found {lo} {hi} (ended e) r h a b q =
       let s : lo ≡ r = cc in
       let u : hi ≡ r + 1 = omega arith in
@@ -189,31 +188,31 @@ module _ (f : Figure) (t : Float) where
       record { from = i.from; to = omega arith; here = i.here; next = i.next }
   found (broke ne e) r h a b q = never (cc)
 
-  somewhere : {lo hi m : ℕ} {c : Crossing} → Halves f t lo hi m c → c ≡ Nowhere → ⊥
+  somewhere : {lo hi m : ℕ} {c : Crossing} → Halves f t lo hi m c → c ≡ (Err Nowhere) → ⊥
   somewhere (ended e) q = never (cc)
   somewhere (upper ne x g) q = somewhere g q
   somewhere (lower ne x g) q = somewhere g q
   somewhere (broke ne e) q = never (cc)
 
-high_any : (b : Bool) (c : Crossing) → ends high (cond b high low) c ≡ Nowhere
+high_any : (b : Bool) (c : Crossing) → ends high (cond b high low) c ≡ (Err Nowhere)
 high_any true c = refl
 high_any false c = refl
 
-any_low : (b : Bool) (c : Crossing) → ends (cond b high low) low c ≡ Nowhere
+any_low : (b : Bool) (c : Crossing) → ends (cond b high low) low c ≡ (Err Nowhere)
 any_low true c = refl
 any_low false c = refl
 
-either_nowhere : (b : Bool) → cond b Nowhere Nowhere ≡ Nowhere
-either_nowhere b = by_test (λ (c : Crossing). c ≡ Nowhere) b Nowhere Nowhere (λ _. refl) (λ _. refl)
+either_nowhere : (b : Bool) → cond b (Err Nowhere) (Err Nowhere) ≡ (Err Nowhere)
+either_nowhere b = by_test (λ (c : Crossing). c ≡ (Err Nowhere)) b (Err Nowhere) (Err Nowhere) (λ _. refl) (λ _. refl)
 
 -- ---- THE SHARED FACT
 module _ (f : Figure) (t : Float) where
   -- an answer lies within the ends, where the figure passes the target
-  pub answer : (lo hi r : ℕ) → hi ≤ 2 ^ 63 → halve f t lo hi ≡ At r → Found f t lo hi r
+  pub answer : (lo hi r : ℕ) → hi ≤ 2 ^ 63 → halve f t lo hi ≡ Ok r → Found f t lo hi r
   unfolding halve
   answer lo hi r w e = go (leb hi lo) refl e
     where
-      by : lo < hi → (a b : Side) → side t (f lo) ≡ a → side t (f hi) ≡ b → ends a b (narrow f t 63 lo hi) ≡ At r → Found f t lo hi r
+      by : lo < hi → (a b : Side) → side t (f lo) ≡ a → side t (f hi) ≡ b → ends a b (narrow f t 63 lo hi) ≡ Ok r → Found f t lo hi r
       by h low low p q k = never (cc)
       by h low high p q k = found f t (at_most_63 f t lo hi h w).2 r h (not_above f t lo p) (is_above f t hi q) k
       by h low broken p q k = never (cc)
@@ -222,16 +221,16 @@ module _ (f : Figure) (t : Float) where
       by h high broken p q k = never (cc)
       by h broken b p q k = never (cc)
 
-      go : (x : Bool) → leb hi lo ≡ x → cond x Nowhere (ends (side t (f lo)) (side t (f hi)) (narrow f t 63 lo hi)) ≡ At r → Found f t lo hi r
+      go : (x : Bool) → leb hi lo ≡ x → cond x (Err Nowhere) (ends (side t (f lo)) (side t (f hi)) (narrow f t 63 lo hi)) ≡ Ok r → Found f t lo hi r
       go true p k = never (cc)
       go false p k = by (leb-false hi lo p) (side t (f lo)) (side t (f hi)) refl refl k
 
   -- no crossing exactly where there is none to be found
-  pub nowhere : (lo hi : ℕ) → hi ≤ 2 ^ 63 → halve f t lo hi ≡ Nowhere → NoCrossing f t lo hi
+  pub nowhere : (lo hi : ℕ) → hi ≤ 2 ^ 63 → halve f t lo hi ≡ (Err Nowhere) → NoCrossing f t lo hi
   unfolding halve
   nowhere lo hi w e = go (leb hi lo) refl e
     where
-      by : lo < hi → (a b : Side) → side t (f lo) ≡ a → side t (f hi) ≡ b → ends a b (narrow f t 63 lo hi) ≡ Nowhere → NoCrossing f t lo hi
+      by : lo < hi → (a b : Side) → side t (f lo) ≡ a → side t (f hi) ≡ b → ends a b (narrow f t 63 lo hi) ≡ (Err Nowhere) → NoCrossing f t lo hi
       by h low low p q k = second_not_above (worthy_low f t lo (not_above f t lo p)) (not_above f t hi q)
       by h low high p q k = absurd (somewhere f t (at_most_63 f t lo hi h w).2 k)
       by h low broken p q k = never (cc)
@@ -240,11 +239,11 @@ module _ (f : Figure) (t : Float) where
       by h high broken p q k = never (cc)
       by h broken b p q k = never (cc)
 
-      go : (x : Bool) → leb hi lo ≡ x → cond x Nowhere (ends (side t (f lo)) (side t (f hi)) (narrow f t 63 lo hi)) ≡ Nowhere → NoCrossing f t lo hi
+      go : (x : Bool) → leb hi lo ≡ x → cond x (Err Nowhere) (ends (side t (f lo)) (side t (f hi)) (narrow f t 63 lo hi)) ≡ (Err Nowhere) → NoCrossing f t lo hi
       go true p k = met (leb-true hi lo p)
       go false p k = by (leb-false hi lo p) (side t (f lo)) (side t (f hi)) refl refl k
 
-  pub nowhere_back : (lo hi : ℕ) → NoCrossing f t lo hi → halve f t lo hi ≡ Nowhere
+  pub nowhere_back : (lo hi : ℕ) → NoCrossing f t lo hi → halve f t lo hi ≡ (Err Nowhere)
   unfolding halve
   nowhere_back lo hi (met h) = rw (le-leb hi lo h) refl
   nowhere_back lo hi (first_above a w) = let s = side_worthy f t hi w in rw (side_high f t lo a, s.1, high_any s.0 _) (either_nowhere (leb hi lo))
@@ -256,11 +255,11 @@ module _ (f : Figure) (t : Float) where
   bracketed lo hi h a b = rw (lt-leb hi lo h, side_low f t lo a, side_high f t hi b) refl
 
   -- failure exactly where an end, or a middle that the halving comes to, can't be worked
-  pub breaks : (lo hi : ℕ) → hi ≤ 2 ^ 63 → halve f t lo hi ≡ Broke → (lo < hi) × Breaks f t lo hi
+  pub breaks : (lo hi : ℕ) → hi ≤ 2 ^ 63 → halve f t lo hi ≡ (Err Broke) → (lo < hi) × Breaks f t lo hi
   unfolding halve
   breaks lo hi w e = go (leb hi lo) refl e
     where
-      by : lo < hi → (a b : Side) → side t (f lo) ≡ a → side t (f hi) ≡ b → ends a b (narrow f t 63 lo hi) ≡ Broke → Breaks f t lo hi
+      by : lo < hi → (a b : Side) → side t (f lo) ≡ a → side t (f hi) ≡ b → ends a b (narrow f t 63 lo hi) ≡ (Err Broke) → Breaks f t lo hi
       by h low low p q k = never (cc)
       by h low high p q k = let r = at_most_63 f t lo hi h w in at_middle r.0 (not_above f t lo p) (is_above f t hi q) (rw k at r.2)
       by h low broken p q k = at_second (is_unworthy f t hi q)
@@ -269,16 +268,16 @@ module _ (f : Figure) (t : Float) where
       by h high broken p q k = at_second (is_unworthy f t hi q)
       by h broken b p q k = at_first (is_unworthy f t lo p)
 
-      go : (x : Bool) → leb hi lo ≡ x → cond x Nowhere (ends (side t (f lo)) (side t (f hi)) (narrow f t 63 lo hi)) ≡ Broke → (lo < hi) × Breaks f t lo hi
+      go : (x : Bool) → leb hi lo ≡ x → cond x (Err Nowhere) (ends (side t (f lo)) (side t (f hi)) (narrow f t 63 lo hi)) ≡ (Err Broke) → (lo < hi) × Breaks f t lo hi
       go true p k = never (cc)
       go false p k = let h = leb-false hi lo p in (h, by h (side t (f lo)) (side t (f hi)) refl refl k)
 
-  pub breaks_back : (lo hi : ℕ) → lo < hi → hi ≤ 2 ^ 63 → Breaks f t lo hi → halve f t lo hi ≡ Broke
+  pub breaks_back : (lo hi : ℕ) → lo < hi → hi ≤ 2 ^ 63 → Breaks f t lo hi → halve f t lo hi ≡ (Err Broke)
   unfolding halve
   breaks_back lo hi h w (at_first e) = rw (lt-leb hi lo h, side_broken f t lo e) refl
   breaks_back lo hi h w (at_second e) = rw (lt-leb hi lo h, side_broken f t hi e) (go (side t (f lo)))
     where
-      go : (x : Side) → ends x broken (narrow f t 63 lo hi) ≡ Broke
+      go : (x : Side) → ends x broken (narrow f t 63 lo hi) ≡ (Err Broke)
       go low = refl
       go high = refl
       go broken = refl
@@ -296,7 +295,7 @@ module _ (f : Figure) (t : Float) where
   begins lo hi h w a b = record { fuel = 63; apart = h; wide = omega arith; same = bracketed f t lo hi h a b }
 
   module _ (asked : Crossing) (lo hi : ℕ) (r : Narrowing asked lo hi) where
-    pub ends_at : hi ≡ lo + 1 → asked ≡ At lo
+    pub ends_at : hi ≡ lo + 1 → asked ≡ Ok lo
     ends_at e = r.same ∙ narrow_ended f t r.fuel lo hi e
 
     module _ (ne : hi ≡ lo + 1 → ⊥) where
@@ -325,7 +324,7 @@ module _ (f : Figure) (t : Float) where
         same = next ∙ narrow_lower f t turn.0 lo hi ne a;
       }
 
-      pub to_broke : Unworthy f (middle lo hi) → asked ≡ Broke
+      pub to_broke : Unworthy f (middle lo hi) → asked ≡ (Err Broke)
       to_broke e = next ∙ narrow_broke f t turn.0 lo hi ne e
 
 -- ---- a figure that rises: it passes the target at one place only, however that is come by
@@ -348,7 +347,7 @@ module _ (f : Figure) (t : Float) where
       go false true h k = let l = ltb-true s r k in absurd (rise (s + 1) r (omega arith) (omega arith) d a)
       go false false h k = let l = ltb-false r s h in let m = ltb-false s r k in omega arith
 
-  reaches : {lo hi m : ℕ} {c : Crossing} → Halves f t lo hi m c → lo < hi → Works f lo hi → (r : ℕ) × (c ≡ At r)
+  reaches : {lo hi m : ℕ} {c : Crossing} → Halves f t lo hi m c → lo < hi → Works f lo hi → (r : ℕ) × (c ≡ Ok r)
   reaches {lo} (ended e) h w = (lo, refl)
   reaches {lo} {hi} (upper ne x g) h w = let m = between lo hi h ne in reaches g m.below (λ k a b. w k (omega arith) b)
   reaches {lo} {hi} (lower ne x g) h w = let m = between lo hi h ne in reaches g m.above (λ k a b. w k a (omega arith))
@@ -358,13 +357,13 @@ module _ (f : Figure) (t : Float) where
 
   -- a place within the ends where a rising figure passes the target is the halving's answer
   pub unique_crossing : (lo hi r : ℕ) → Rises f t hi → Works f lo hi → hi ≤ 2 ^ 63 → NotAbove f t lo → Above f t hi
-      → lo ≤ r → r + 1 ≤ hi → NotAbove f t r → Above f t (r + 1) → halve f t lo hi ≡ At r
+      → lo ≤ r → r + 1 ≤ hi → NotAbove f t r → Above f t (r + 1) → halve f t lo hi ≡ Ok r
   unique_crossing lo hi r rise w d a b p q x y =
       let h : lo < hi = omega arith in
       let z = reaches (at_most_63 f t lo hi h d).2 h w in
       let g = bracketed f t lo hi h a b ∙ z.1 in
       let u = answer f t lo hi z.0 d g in
-      g ∙ ap At (one_place hi z.0 r rise u.to q u.here u.next x y)
+      g ∙ ap Ok (one_place hi z.0 r rise u.to q u.here u.next x y)
 
 -- ---- two crossings: the middle is rounded down, so the lower one is found
 two_crossings : Figure
@@ -373,6 +372,6 @@ two_crossings (suc zero) = Some (whole 2)
 two_crossings (suc (suc zero)) = Some (whole 0)
 two_crossings (suc (suc (suc n))) = Some (whole 2)
 
-lower_found : halve two_crossings (whole 1) 0 3 ≡ At 0
+lower_found : halve two_crossings (whole 1) 0 3 ≡ Ok 0
 unfolding two_crossings halve narrow middle whole of_int lt
 lower_found = refl

@@ -3,9 +3,3 @@
 // (proofs/Halvings.antt).
 #![tactic(auto)]
 
-#[derive(Clone, Copy)]
-pub enum Crossing {
-    At(u64),
-    Nowhere,
-    Broke,
-}

@@ -1,5 +1,6 @@
 -- The k-th whole power rises with the bits, so that the place where it passes a target is the halving's answer, however it was come by. Assumes nothing.
-use Rattle.std.specs.Prelude.{Some, None}
+use Rattle.num_halving.specs.declared.Missed.TheVariants.{Nowhere, Broke}
+use Rattle.std.specs.Prelude.{Some, None, Ok, Err}
 use mathlib.Core.Path.{◌≡◌, refl, sym, ap, ◌∙◌}
 use mathlib.Core.Bool.{Bool, true, false}
 use Prim.Native.Nat.{ℕ, zero, suc, ◌+◌, ◌-◌, ◌*◌, ◌≤◌, ◌<◌}
@@ -9,7 +10,6 @@ use lib.Dec.{T}
 use lib.Ieee.{Float, nan, inf, fin, binary64, of_bits, to_bits, of_int, up, down, lt, mul}
 use lib.Ieee.Scale.{finite}
 use Rattle.num_working.specs.Working.{Worked, checked}
-use Rattle.num_halving.specs.declared.Crossing.TheVariants.{At, Nowhere, Broke}
 use Rattle.num_working.specs.Number.{whole, nonneg}
 use Rattle.num_powers.specs.Power.{power, ◌^ᵂ◌}
 use Rattle.num_halving.specs.Halving.{halve, NotAbove, Above, worthy, failed, second_not_above, at_second}
@@ -105,7 +105,7 @@ bounded_at : (k b : ℕ) → k ≤ 51 → b ≤ top → finite (power (of_bits b
 bounded_at k b h l = nonneg_finite (power (of_bits binary64 b) k) (figure_mono k b top l (omega arith) (top_finite k h)).first
 
 -- and past it none ever: 2²⁰ has no power to compare with
-pub fails : (k : ℕ) (t : Float) → 52 ≤ k → root_bits k t ≡ Broke
+pub fails : (k : ℕ) (t : Float) → 52 ≤ k → root_bits k t ≡ (Err Broke)
 fails k t h =
     let e : k ≡ k - 52 + 52 = omega arith in
     let f : power_at k top ≡ None =
@@ -131,17 +131,17 @@ module _ (k : ℕ) (t : Float) (one : 1 ≤ k) (few : k ≤ 51) (p : T (nonneg t
   every_worthy c l u = worthy (power (of_bits binary64 c) k) (works k c few u) (bounded_at k c few u)
 
   -- the two neighbours between which the power passes t, however they were come by
-  pub crossing_is : (r s : ℕ) → s ≡ r + 1 → s ≤ top → NotAbove (power_at k) t r → Above (power_at k) t s → root_bits k t ≡ At r
+  pub crossing_is : (r s : ℕ) → s ≡ r + 1 → s ≤ top → NotAbove (power_at k) t r → Above (power_at k) t s → root_bits k t ≡ Ok r
   crossing_is r s e h a b =
       root_bits_is k t
       ∙ unique_crossing (power_at k) t 0 top r (rises k t p) every_worthy (omega arith) (first_not_above k t one p) (last_above s h b)
       (omega arith) (omega arith) a (rw e at b)
 
-  pub no_crossing : NotAbove (power_at k) t top → root_bits k t ≡ Nowhere
+  pub no_crossing : NotAbove (power_at k) t top → root_bits k t ≡ (Err Nowhere)
   no_crossing b = root_bits_is k t ∙ nowhere_back (power_at k) t 0 top (second_not_above (worthy (whole 0) (at_0 k one) zero_finite) b)
 
 -- the bits of an answer are those of a number
-pub crossing_below : (k : ℕ) (t : Float) (b : ℕ) → root_bits k t ≡ At b → b < infinity
+pub crossing_below : (k : ℕ) (t : Float) (b : ℕ) → root_bits k t ≡ Ok b → b < infinity
 crossing_below k t b e = let h = answer (power_at k) t 0 top b (omega arith) (sym (root_bits_is k t) ∙ e) in omega arith
 
 -- past k = 51 the search fails, whatever x is

@@ -1,5 +1,5 @@
 -- A searchable root is what `root_bits` finds with xᵐ as its target. Assumes nothing.
-use Rattle.std.specs.Prelude.{Some, None}
+use Rattle.std.specs.Prelude.{Some, None, Ok}
 use mathlib.Core.Path.{◌≡◌, refl, sym, ap, ◌∙◌}
 use mathlib.Core.Bool.{Bool, true, false, not, ◌&&◌}
 use Prim.Native.Nat.{ℕ, ◌+◌, ◌-◌, ◌*◌, ◌≤◌, ◌<◌}
@@ -9,7 +9,6 @@ use lib.Ieee.{Float, binary64, of_bits, lt, le, eq}
 use lib.Ieee.Scale.{finite}
 use Rattle.num_working.specs.Number.{whole, nonneg}
 use Rattle.num_working.specs.Working.{checked, or_else, Worked}
-use Rattle.num_halving.specs.declared.Crossing.TheVariants.{At}
 use Rattle.num_roots.specs.declared.root.Exponent.{Exponent}
 use Rattle.num_roots.specs.Root.{root, searched, root_bits, root_of}
 use Rattle.num_roots.specs.Side.{Guessed, searchable, PowersAbout}
@@ -59,7 +58,7 @@ module _ (e : Exponent) (x t : Float) (at : ℕ) (c : Guessed e x t at) where
   unsigned_target y h = rw c.target (power_under x y e.m (unsigned e x c.searched) (rw c.target at h))
 
   -- the root is where the power passes it
-  told : (r : ℕ) → T (nonneg t) → root_bits e.k t ≡ At r → root e x ≡ Some (of_bits binary64 r)
+  told : (r : ℕ) → T (nonneg t) → root_bits e.k t ≡ Ok r → root e x ≡ Some (of_bits binary64 r)
   unfolding searched
   told r n b =
       searched_for e x c.searched

@@ -1,14 +1,13 @@
 -- RULES 4.6: the root x^(m/k). Definitions only.
-use Rattle.std.specs.Prelude.{ℕ, ◌*◌, cond, ltb, Float, Some, None}
+use Rattle.num_halving.specs.declared.Missed.TheVariants.{Nowhere, Broke}
+use Rattle.std.specs.Prelude.{ℕ, ◌*◌, cond, ltb, Float, Some, None, Ok, Err}
 use Rattle.std.specs.Float.Ieee as Ieee
 use Rattle.std.specs.Float.{binary64}
 use Rattle.std.specs.Float.Ieee.Scale.{finite}
 use Rattle.num_working.specs.Number.{whole}
 use Rattle.num_working.specs.Working.{checked, or_else, Worked}
 use Rattle.num_powers.specs.Power.{◌^ᵂ◌}
-use Rattle.num_halving.specs.Halving.{Figure, halve}
-use Rattle.num_halving.specs.declared.Crossing.{Crossing}
-use Rattle.num_halving.specs.declared.Crossing.TheVariants.{At, Nowhere, Broke}
+use Rattle.num_halving.specs.Halving.{Figure, halve, Crossing}
 use Rattle.num_roots.specs.declared.root.Exponent.{Exponent}
 
 -- the k-th whole power of the float with the bits b
@@ -21,9 +20,9 @@ root_bits k t = halve (power_at k) t (Ieee.to_bits binary64 (whole 0)) (Ieee.to_
 
 -- no crossing is refused, as a failure is
 abbrev pub root_of : Crossing → Worked
-root_of (At b) = Some (Ieee.of_bits binary64 b)
-root_of Nowhere = None
-root_of Broke = None
+root_of (Ok b) = Some (Ieee.of_bits binary64 b)
+root_of (Err Nowhere) = None
+root_of (Err Broke) = None
 
 -- with xᵐ as the target, refused where that is not finite
 unfoldable pub searched : ℕ → ℕ → Float → Worked

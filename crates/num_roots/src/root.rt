@@ -9,7 +9,6 @@ ghost use Rattle.num_powers.specs.Power.{power};
 ghost use Rattle.num_roots.specs.Root.{root, root_bits, searched};
 ghost use Rattle.num_roots.specs.Side.{Guessed, PowersAbout, searchable};
 
-use num_halving::Crossing;
 use num_powers::whole_power;
 use num_working::{checked, is_finite};
 
@@ -143,7 +142,7 @@ fn wider(width: u64) -> u64
 }
 
 // The bits, from those of 0 to those of 2²⁰, where the k-th whole power passes t.
-fn crossing(t: f64, k: usize, guess: u64) -> Crossing
+fn crossing(t: f64, k: usize, guess: u64) -> Result<u64, Missed>
     requires t { T (nonneg t) }
     requires le_k { (1 ≤ k) × (k ≤ 51) }
     ensures { result ≡ root_bits k t }
@@ -161,12 +160,12 @@ fn crossing(t: f64, k: usize, guess: u64) -> Crossing
         }
     }
     if hi < 0x4130_0000_0000_0000 {
-        return Crossing::At(lo);
+        return Ok(lo);
     }
     if t < power_at(hi, k) {
-        Crossing::At(lo)
+        Ok(lo)
     } else {
-        Crossing::Nowhere
+        Err(Missed::Nowhere)
     }
 }
 
@@ -220,9 +219,9 @@ fn searched(x: f64, m: usize, k: usize) -> Option<f64>
         return None;
     };
     match crossing(t, k, guess(about_log(x), Exponent { m, k }, t)) {
-        Crossing::At(b) => Some(f64::from_bits(b)),
-        Crossing::Nowhere => None,
-        Crossing::Broke => None,
+        Ok(b) => Some(f64::from_bits(b)),
+        Err(Missed::Nowhere) => None,
+        Err(Missed::Broke) => None,
     }
 }
 

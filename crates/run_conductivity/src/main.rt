@@ -4,8 +4,7 @@
 // state whose conductivity fails, which no door gives.
 #![tactic(auto)]
 
-use door_answers::Answer;
-use door_conductivity::{Carried, Conducted, with_conductivity};
+use door_conductivity::{Carried, with_conductivity};
 use door_density::from_density;
 use door_limits::document_01;
 use door_pressure::from_pressure;
@@ -59,8 +58,8 @@ fn conductivity_of(c: Carried) -> Worked {
 // By the density door, asked for it.
 fn by_density(t: f64, rho: f64) -> Worked {
     match with_conductivity(true, from_density(document_01(), t, rho)) {
-        Conducted::State(c) => in_milliwatts(conductivity_of(c)),
-        Conducted::Refused(_) => None,
+        Ok(c) => in_milliwatts(conductivity_of(c)),
+        Err(_) => None,
     }
 }
 
@@ -71,8 +70,8 @@ fn without_enhancement(t: f64, rho: f64) -> Worked {
 // The same at the density that the pressure door gives.
 fn without_enhancement_at(t: f64, p: f64) -> Worked {
     match from_pressure(document_01(), t, p) {
-        Answer::State(s) => without_enhancement(s.t, s.rho),
-        Answer::Refused(_) => None,
+        Ok(s) => without_enhancement(s.t, s.rho),
+        Err(_) => None,
     }
 }
 
@@ -159,10 +158,10 @@ fn at_a_pole() -> State {
     }
 }
 
-fn tell_refusal(c: Conducted) {
+fn tell_refusal(c: Result<Carried, Refusal>) {
     match c {
-        Conducted::State(_) => say(b"answered\n"),
-        Conducted::Refused(n) => {
+        Ok(_) => say(b"answered\n"),
+        Err(n) => {
             say(b"refused by ");
             io::print_decimal(STDOUT, n as u64);
             say(b"\n");
@@ -172,9 +171,9 @@ fn tell_refusal(c: Conducted) {
 
 fn pole() {
     say(b"a state at a pole of eq. (10), asked for its conductivity: ");
-    tell_refusal(with_conductivity(true, Answer::State(at_a_pole())));
+    tell_refusal(with_conductivity(true, Ok(at_a_pole())));
     say(b"the same, not asked for it: ");
-    tell_refusal(with_conductivity(false, Answer::State(at_a_pole())));
+    tell_refusal(with_conductivity(false, Ok(at_a_pole())));
 }
 
 fn main() {

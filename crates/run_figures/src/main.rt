@@ -4,7 +4,7 @@
 #![tactic(auto)]
 
 use door_limits::document_01;
-use door_saturation::{Saturated, saturated_at};
+use door_saturation::{saturated_at};
 use eos_brackets::Five;
 use eos_densities::{liquid_density, vapour_density};
 use eos_ideal::ideal_part;
@@ -87,12 +87,12 @@ fn saturation_at(t: f64) {
     show(t);
     say(b" is ");
     match saturated_at(document_01(), t) {
-        Saturated::Is(s) => {
+        Ok(s) => {
             show(s.pressure);
             also(s.vapour);
             also(s.liquid);
         }
-        Saturated::Refused(n) => {
+        Err(n) => {
             say(b"refused by ");
             io::print_decimal(STDOUT, n as u64);
         }

@@ -1,6 +1,5 @@
 // RULES 8.3: 004's Table 35, its isobars, against the pressure door at the printed temperature and pressure
 // (docs/READING.md, D).
-use door_answers::Answer;
 use door_limits::{document_01, is_outside};
 use door_pressure::from_pressure;
 use eos_state::State;
@@ -103,11 +102,11 @@ fn compared(text: &[u8], line: usize, tally: Tally, x: State) -> Tally {
 // What the pressure door says of a row that is on neither line. A refusal but that of the critical box is a failure.
 fn asked(text: &[u8], line: usize, tally: Tally, t: f64, p: f64) -> Tally {
     match from_pressure(document_01(), t, p) {
-        Answer::State(x) => {
+        Ok(x) => {
             let tally = compared(text, line, counted(tally, COMPARED), x);
             difference(text, line, tally, p)
         }
-        Answer::Refused(n) => {
+        Err(n) => {
             if n == 6 {
                 return counted(tally, IN_CRITICAL_BOX);
             }

@@ -2,8 +2,7 @@
 // floats beside them, both sides of the saturation line, the edges of the critical box, both sides of the melting line
 // (RULES 8.4), the states of docs/ARRANGEMENT.md, section 12, and what is no number; then doors that are asked for the
 // thermal conductivity too (RULES 5.5). Bits and counts worked elsewhere (crosscheck/doors.py).
-use door_answers::Answer;
-use door_conductivity::{Carried, Conducted, with_conductivity};
+use door_conductivity::{Carried, with_conductivity};
 use door_density::from_density;
 use door_limits::document_01;
 use door_pressure::from_pressure;
@@ -51,10 +50,10 @@ fn tell_carried(c: Carried) {
     tell_conductivity(conductivity);
 }
 
-fn tell_answer(c: Conducted) {
+fn tell_answer(c: Result<Carried, Refusal>) {
     match c {
-        Conducted::State(x) => tell_carried(x),
-        Conducted::Refused(n) => {
+        Ok(x) => tell_carried(x),
+        Err(n) => {
             say(b" refused by ");
             io::print_decimal(STDOUT, n as u64);
         }
@@ -91,7 +90,7 @@ fn by_density(t: f64, rho: f64) {
 
 // The density that the pressure door gives, put to the other door.
 fn by_both(asked: bool, t: f64, p: f64) {
-    let Answer::State(x) = from_pressure(document_01(), t, p) else {
+    let Ok(x) = from_pressure(document_01(), t, p) else {
         return;
     };
     density_asked(asked, x.t, x.rho);

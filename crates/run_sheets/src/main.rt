@@ -8,7 +8,6 @@ use door_limits::document_01;
 use run_print::bits::{STDOUT, say};
 use run_texts::sheets::{each, reported};
 use run_texts::texts::{fill, load};
-use sheet_report::Written;
 use sheet_score::score;
 use std::rt::Files;
 
@@ -28,11 +27,11 @@ fn lent(out: &mut [u8]) {
     say(b"= an output of dots: ");
     io::print_decimal(STDOUT, out.len() as u64);
     match w {
-        Written::Bytes(n) => {
+        Ok(n) => {
             say(b", bytes written: ");
             io::print_decimal(STDOUT, n as u64);
         }
-        Written::Refused(n) => {
+        Err(n) => {
             say(b", refused by ");
             io::print_decimal(STDOUT, n as u64);
         }

@@ -2,7 +2,6 @@
 use crate::texts::titled;
 use door_limits::document_01;
 use run_print::bits::say;
-use sheet_report::Written;
 use sheet_score::score;
 
 // The output holds the longest report.
@@ -10,7 +9,7 @@ pub fn reported(title: &[u8], text: &[u8]) {
     let mut out = [0; 1512];
     say(title);
     say(b"\n");
-    if let Written::Bytes(n) = score(document_01(), text, &mut out) {
+    if let Ok(n) = score(document_01(), text, &mut out) {
         say(&out[..n]);
     }
 }

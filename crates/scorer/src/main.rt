@@ -11,7 +11,6 @@ use desk_paper::help::{say_help, say_usage};
 use desk_paper::paper::{Paper, Stream, paper_of, say, say_failure, say_number};
 use desk_words::version;
 use door_limits::document_01;
-use sheet_report::Written;
 use sheet_score::score;
 use std::env::FillError;
 use std::io::{Error, IsTerminal};
@@ -50,7 +49,7 @@ fn read_text<R: std::io::Read>(from: &mut R, space: &mut [u8]) -> Read
 fn report_of(text: &[u8], out: &mut [u8; 1512]) -> usize
     ensures { Reports text.now out.old out.new result }
 {
-    let Written::Bytes(long) = score(document_01(), text, out) else {
+    let Ok(long) = score(document_01(), text, out) else {
         return 0;
     };
     long

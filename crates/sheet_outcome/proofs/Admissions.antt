@@ -1,4 +1,6 @@
 -- A sheet that is admitted has 32 lines at most. Assumes nothing.
+use Rattle.std.specs.Prelude.{Ok, Err}
+use Rattle.refusal.specs.Refused.{refused}
 use mathlib.Core.Path.{◌≡◌, refl}
 use mathlib.Core.Bool.{Bool, true, false, not, cond}
 use Prim.Native.Nat.{ℕ, ◌≤◌}
@@ -7,17 +9,16 @@ use lib.Dec.{ltb, eqb}
 use borrow.Author.Tests.{ltb-false}
 use Rattle.sheet_text.specs.Field.{Field}
 use Rattle.sheet_outcome.specs.Outcome.{needed, admitted}
-use Rattle.sheet_outcome.specs.declared.Admitted.TheVariants.{Need, SentBack}
 
-no_need : {A : Type 0} {number mg : ℕ} → SentBack number ≡ Need mg → A
+no_need : {A : Type 0} {number mg : ℕ} → Err number ≡ Ok mg → A
 no_need e = let z : ◌≡◌ {A = ℕ} 0 1 = cc in absurd (omega arith)
 
-pub few : (ok : Bool) (n : ℕ) (f : Field) (mg : ℕ) → admitted ok n f ≡ Need mg → n ≤ 32
+pub few : (ok : Bool) (n : ℕ) (f : Field) (mg : ℕ) → admitted ok n f ≡ Ok mg → n ≤ 32
 unfolding admitted
 few ok n f mg e = go (not ok) (eqb n 0) (ltb 32 n) refl e
   where
     go : (a b c : Bool) → ltb 32 n ≡ c
-        → cond a (SentBack 14) (cond b (SentBack 10) (cond c (SentBack 11) (needed f))) ≡ Need mg → n ≤ 32
+        → cond a (refused 14) (cond b (refused 10) (cond c (refused 11) (needed f))) ≡ Ok mg → n ≤ 32
     go true b c l q = no_need q
     go false true c l q = no_need q
     go false false true l q = no_need q

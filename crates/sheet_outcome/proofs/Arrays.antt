@@ -1,4 +1,5 @@
 -- The marks that count in an array: how many there are, and which stands where. Assumes nothing.
+use Rattle.std.specs.Prelude.{Ok}
 use mathlib.Core.Path.{◌≡◌, sym, ap, ◌∙◌}
 use mathlib.Core.List.{List, map}
 use Prim.Native.Nat.{ℕ, ◌≤◌, ◌<◌}
@@ -6,8 +7,7 @@ use native.Mathlib.Omega.{arith}
 use lib.ListN.{length, get_or, length-map}
 use lib.Seq.{get_or-take, length-take-le}
 use Rattle.sheet_mass.specs.Mass.{as_milligrams}
-use Rattle.sheet_outcome.specs.Outcome.{marks_of}
-use Rattle.sheet_outcome.specs.declared.Weighed.{Weighed}
+use Rattle.sheet_outcome.specs.Outcome.{marks_of, Weighed}
 use Rattle.sheet_outcome.specs.declared.Mark.{Mark}
 use Rattle.sheet_outcome.specs.declared.Marks.{Marks}
 
@@ -17,7 +17,7 @@ unmapped X Y f l n p = sym (length-map l f) ∙ p
 
 -- what is read past an array's end
 abbrev pub past_end : Mark
-past_end = record { weighed = Weighed.Mass (as_milligrams 0) }
+past_end = record { weighed = Ok (as_milligrams 0) }
 
 abbrev pub mark_at : Marks → ℕ → Mark
 mark_at m i = get_or m.marks i past_end

@@ -1,5 +1,5 @@
 -- The total, line by line from the front: what was added, and then what is left. Assumes nothing.
-use Rattle.std.specs.Prelude.{Some, None}
+use Rattle.std.specs.Prelude.{Some, None, Ok, Err}
 use mathlib.Core.Path.{◌≡◌, refl, sym, ap, ◌∙◌}
 use mathlib.Core.List.{List}
 use Prim.Native.Nat.{ℕ, suc, ◌+◌, ◌≤◌, ◌<◌}
@@ -10,8 +10,7 @@ use lib.ListN.{length, drop, get_or, drop_of_length-le}
 use lib.Seq.{drop-cons}
 use Rattle.sheet_mass.specs.Mass.{as_milligrams}
 use Rattle.sheet_mass.specs.declared.Milligrams.{Milligrams}
-use Rattle.sheet_outcome.specs.Outcome.{plus, total, Summed}
-use Rattle.sheet_outcome.specs.declared.Weighed.{Weighed}
+use Rattle.sheet_outcome.specs.Outcome.{plus, total, Summed, Weighed}
 use Rattle.sheet_outcome.specs.declared.Mark.{Mark}
 
 abbrev summed : ℕ → Summed
@@ -25,7 +24,7 @@ pub onto_none : (t : Summed) → t ≡ onto 0 t
 onto_none (Some t) = ap summed (omega arith)
 onto_none None = refl
 
-onto_plus : (s : ℕ) (mg : Milligrams) (t : Summed) → onto s (plus (Weighed.Mass mg) t) ≡ onto (s + mg.0) t
+onto_plus : (s : ℕ) (mg : Milligrams) (t : Summed) → onto s (plus (Ok mg) t) ≡ onto (s + mg.0) t
 onto_plus s mg (Some t) = ap summed (sym (add_assoc s mg.0 t.0))
 onto_plus s mg None = refl
 
@@ -37,10 +36,10 @@ module _ (ms : List Mark) (s i : ℕ) (e : total ms ≡ onto s (total (drop i ms
   at_end h = sym (e ∙ rw (drop_of_length-le ms h) (ap summed (omega arith)))
 
   module _ (d : Mark) (h : i < length ms) where
-    pub one_refused : (n : ℕ) → (get_or ms i d).weighed ≡ Weighed.Refused n → None ≡ total ms
+    pub one_refused : (n : ℕ) → (get_or ms i d).weighed ≡ Err n → None ≡ total ms
     unfolding total
     one_refused n r = sym (e ∙ rw (drop-cons ms i d h, r))
 
-    pub one_more : (mg : Milligrams) → (get_or ms i d).weighed ≡ Weighed.Mass mg → total ms ≡ onto (s + mg.0) (total (drop (i + 1) ms))
+    pub one_more : (mg : Milligrams) → (get_or ms i d).weighed ≡ Ok mg → total ms ≡ onto (s + mg.0) (total (drop (i + 1) ms))
     unfolding total
     one_more mg r = e ∙ rw (drop-cons ms i d h, r, add-one) (onto_plus s mg (total (drop (suc i) ms)))

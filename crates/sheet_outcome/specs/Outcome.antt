@@ -1,11 +1,10 @@
 -- RULES 3.4 and 7.2: what a sheet comes to. Definitions only.
-use Rattle.std.specs.Prelude.{ℕ, ◌+◌, Bool, not, cond, ◌&&◌, List, [], ◌∷◌, leb, ltb, eqb, take, Some, None}
+use Rattle.refusal.specs.Refused.{refused}
+use Rattle.std.specs.Prelude.{ℕ, ◌+◌, Bool, not, cond, ◌&&◌, List, [], ◌∷◌, leb, ltb, eqb, take, Some, None, Ok, Err}
 use Rattle.sheet_text.specs.Field.{Field}
 use Rattle.sheet_mass.specs.Mass.{as_milligrams}
-use Rattle.sheet_outcome.specs.declared.Weighed.{Weighed}
 use Rattle.sheet_outcome.specs.declared.Mark.{Mark}
 use Rattle.sheet_outcome.specs.declared.Marks.{Marks}
-use Rattle.sheet_outcome.specs.declared.Admitted.{Admitted}
 use Rattle.sheet_outcome.specs.declared.Ending.{Ending}
 
 -- ---- before the lines are worked: 14, 10, 11, 12, in this order
@@ -16,15 +15,15 @@ is_need mg = leb 1 mg && leb mg 9_999_999_999
 
 -- 12 where the agent needed is blank or out of its range
 abbrev pub needed : Field → Admitted
-needed None = Admitted.SentBack 12
-needed (Some mg) = cond (is_need mg) (Admitted.Need mg) (Admitted.SentBack 12)
+needed None = refused 12
+needed (Some mg) = cond (is_need mg) (Ok mg) (refused 12)
 
 -- 14 where the text is not in the form, 10 where there is no cylinder line, 11 where there are more than 32
 unfoldable pub admitted : Bool → ℕ → Field → Admitted
 admitted ok count need =
-    cond (not ok) (Admitted.SentBack 14)
-    (cond (eqb count 0) (Admitted.SentBack 10)
-    (cond (ltb 32 count) (Admitted.SentBack 11)
+    cond (not ok) (refused 14)
+    (cond (eqb count 0) (refused 10)
+    (cond (ltb 32 count) (refused 11)
     (needed need)))
 
 -- ---- the lines
@@ -34,9 +33,9 @@ abbrev pub marks_of : Marks → List Mark
 marks_of m = take m.count m.marks
 
 abbrev pub plus : Weighed → Summed → Summed
-plus (Weighed.Mass mg) (Some rest) = Some (as_milligrams (mg.0 + rest.0))
-plus (Weighed.Mass mg) None = None
-plus (Weighed.Refused n) t = None
+plus (Ok mg) (Some rest) = Some (as_milligrams (mg.0 + rest.0))
+plus (Ok mg) None = None
+plus (Err n) t = None
 
 -- the exact sum of the lines' milligrams, or that some line was refused
 unfoldable pub total : List Mark → Summed

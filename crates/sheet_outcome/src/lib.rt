@@ -8,16 +8,10 @@ ghost use Rattle.sheet_outcome.specs.Outcome.{is_need, needed, admitted, ending}
 use sheet_mass::Milligrams;
 
 // A cylinder line's milligrams, or the number of its refusal.
-#[derive(Clone, Copy)]
-pub enum Weighed {
-    Mass(Milligrams),
-    Refused(u8),
-}
-
 // An array holds structs: what came of a line, in one.
 #[derive(Clone, Copy)]
 pub struct Mark {
-    pub weighed: Weighed,
+    pub weighed: Result<Milligrams, Refusal>,
 }
 
 // The first `count` marks are the sheet's lines.
@@ -32,7 +26,7 @@ pub struct Marks {
 pub enum Ending {
     Covered(Milligrams),
     Short(Milligrams),
-    SentBack(u8),
+    SentBack(Refusal),
 }
 
 // What came of a sheet. One that is sent back before its lines are worked has no marks.
@@ -43,12 +37,6 @@ pub struct Outcome {
 }
 
 // A sheet whose lines are to be worked, with its need in mg, or one that is sent back before.
-#[derive(Clone, Copy)]
-pub enum Admitted {
-    Need(u64),
-    SentBack(u8),
-}
-
 // The milligrams of all lines, or that some line was refused.
 fn is_need(mg: u64) -> bool
     ensures { result ≡ is_need mg }
@@ -56,31 +44,31 @@ fn is_need(mg: u64) -> bool
     mg >= 1 && mg <= 9_999_999_999
 }
 
-fn need_of(need: Option<u64>) -> Admitted
+fn need_of(need: Option<u64>) -> Result<u64, Refusal>
     ensures { result ≡ needed need }
 {
     let Some(mg) = need else {
-        return Admitted::SentBack(12);
+        return Err(Refusal(12));
     };
     if is_need(mg) {
-        return Admitted::Need(mg);
+        return Ok(mg);
     }
-    Admitted::SentBack(12)
+    Err(Refusal(12))
 }
 
 // ok: the text is in the form.
 #[tactic(auto, unfolding(crate::specs::Outcome::admitted))]
-pub fn admit(ok: bool, count: usize, need: Option<u64>) -> Admitted
+pub fn admit(ok: bool, count: usize, need: Option<u64>) -> Result<u64, Refusal>
     ensures { result ≡ admitted ok count need }
 {
     if !ok {
-        return Admitted::SentBack(14);
+        return Err(Refusal(14));
     }
     if count == 0 {
-        return Admitted::SentBack(10);
+        return Err(Refusal(10));
     }
     if count > 32 {
-        return Admitted::SentBack(11);
+        return Err(Refusal(11));
     }
     need_of(need)
 }

@@ -1,4 +1,5 @@
 -- The report's parts: how long each is, and the lines one after the other. Assumes nothing.
+use Rattle.std.specs.Prelude.{Ok, Err}
 use mathlib.Core.Path.{◌≡◌, refl, ap, ◌∙◌}
 use mathlib.Core.List.{List, [], ◌++◌, append_assoc, append-nil}
 use Prim.Native.Nat.{ℕ, ◌+◌, ◌≤◌, ◌<◌}
@@ -9,8 +10,7 @@ use lib.Seq.{drop-cons, get_or-take}
 use Rattle.sheet_text.specs.Decimal.{decimal}
 use Rattle.sheet_write.specs.Writing.{ascii, Wrote}
 use Rattle.sheet_write.proofs.Writings.{nothing, from, back, long, inside, room, then}
-use Rattle.sheet_outcome.specs.Outcome.{marks_of}
-use Rattle.sheet_outcome.specs.declared.Weighed.{Weighed}
+use Rattle.sheet_outcome.specs.Outcome.{marks_of, Weighed}
 use Rattle.sheet_outcome.specs.declared.Marks.{Marks}
 use Rattle.sheet_outcome.proofs.Arrays.{past_end, mark_at}
 use Rattle.sheet_report.specs.Report.{weighed_bytes, line_bytes, lines_bytes}
@@ -24,17 +24,17 @@ line_length i w = length-append (ascii "L " ++ decimal i ++ ascii " ") (weighed_
 
 -- the milligrams, or the number of the refusal
 abbrev pub number_of : Weighed → ℕ
-number_of (Weighed.Mass mg) = mg.0
-number_of (Weighed.Refused number) = number
+number_of (Ok mg) = mg.0
+number_of (Err number) = number
 
 pub line_size : (i : ℕ) (w : Weighed) → length (line_bytes i w) ≡ length (decimal i) + length (decimal (number_of w)) + 6
 unfolding weighed_bytes
-line_size i (Weighed.Mass mg) =
+line_size i (Ok mg) =
     let front = between_length (ascii "L ") i (ascii " ") in
-    omega (arith, line_length i (Weighed.Mass mg), front, between_length (ascii "M ") mg.0 (ascii "\n"))
-line_size i (Weighed.Refused n) =
+    omega (arith, line_length i (Ok mg), front, between_length (ascii "M ") mg.0 (ascii "\n"))
+line_size i (Err n) =
     let front = between_length (ascii "L ") i (ascii " ") in
-    omega (arith, line_length i (Weighed.Refused n), front, between_length (ascii "R ") n (ascii "\n"))
+    omega (arith, line_length i (Err n), front, between_length (ascii "R ") n (ascii "\n"))
 
 -- ---- the marks of a sheet's lines
 

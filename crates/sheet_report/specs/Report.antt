@@ -1,18 +1,16 @@
 -- RULES 7: the report as bytes. Definitions only.
-use Rattle.std.specs.Prelude.{ℕ, ◌+◌, ◌≤◌, ◌<◌, ◌≡◌, List, [], ◌∷◌, ◌++◌, length}
+use Rattle.std.specs.Prelude.{ℕ, ◌+◌, ◌≤◌, ◌<◌, ◌≡◌, List, [], ◌∷◌, ◌++◌, length, Ok, Err}
 use Rattle.sheet_text.specs.Decimal.{decimal}
 use Rattle.sheet_write.specs.Writing.{ascii, Wrote}
-use Rattle.sheet_outcome.specs.Outcome.{marks_of}
-use Rattle.sheet_outcome.specs.declared.Weighed.{Weighed}
+use Rattle.sheet_outcome.specs.Outcome.{marks_of, Weighed}
 use Rattle.sheet_outcome.specs.declared.Mark.{Mark}
 use Rattle.sheet_outcome.specs.declared.Ending.{Ending}
 use Rattle.sheet_outcome.specs.declared.Outcome.{Outcome}
-use Rattle.sheet_report.specs.declared.Written.{Written}
 
 -- `M mg` or `R no`, and the line's end
 unfoldable pub weighed_bytes : Weighed → List ℕ
-weighed_bytes (Weighed.Mass mg) = ascii "M " ++ decimal mg.0 ++ ascii "\n"
-weighed_bytes (Weighed.Refused number) = ascii "R " ++ decimal number ++ ascii "\n"
+weighed_bytes (Ok mg) = ascii "M " ++ decimal mg.0 ++ ascii "\n"
+weighed_bytes (Err number) = ascii "R " ++ decimal number ++ ascii "\n"
 
 -- RULES 7.1: `L i M mg` or `L i R no`
 unfoldable pub line_bytes : ℕ → Weighed → List ℕ
@@ -37,5 +35,5 @@ report_bytes o = lines_bytes 1 (marks_of o.marks) ++ ending_bytes o.ending
 -- where bs fits, it lies over the front of o; where it doesn't, the answer is 15 and every byte stays as it was
 -- no report is longer than 32 lines of 46 bytes and an ending of 40
 abbrev pub ReportIs : List ℕ → List ℕ → List ℕ → Written → Type 0
-ReportIs o xs bs (Written.Bytes r) = Wrote o xs r bs × (length bs ≤ length o)
-ReportIs o xs bs (Written.Refused n) = (n ≡ 15) × (xs ≡ o) × (length o < length bs) × (length bs ≤ 1512)
+ReportIs o xs bs (Ok r) = Wrote o xs r bs × (length bs ≤ length o)
+ReportIs o xs bs (Err n) = (n ≡ 15) × (xs ≡ o) × (length o < length bs) × (length bs ≤ 1512)

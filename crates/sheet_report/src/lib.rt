@@ -8,16 +8,10 @@ ghost use Rattle.sheet_outcome.specs.Outcome.{marks_of};
 ghost use Rattle.sheet_write.specs.Writing.{Wrote};
 ghost use Rattle.sheet_report.specs.Report.{weighed_bytes, line_bytes, lines_bytes, ending_bytes, report_bytes, ReportIs};
 
-use sheet_outcome::{Ending, Marks, Outcome, Weighed};
+use sheet_outcome::{Ending, Marks, Outcome};
 use sheet_write::{number_len, put, put_number};
 
 // How many bytes were written, or the number of the refusal.
-#[derive(Clone, Copy)]
-pub enum Written {
-    Bytes(usize),
-    Refused(u8),
-}
-
 // RULES 3.1: the report is longer than the output lent for it.
 const TOO_LONG: u8 = 15;
 
@@ -30,17 +24,17 @@ fn put_between(out: &mut [u8], front: &[u8], n: u64, back: &[u8]) -> usize
     b + put(&mut out[b..], back)
 }
 
-fn put_weighed(out: &mut [u8], w: Weighed) -> usize
+fn put_weighed(out: &mut [u8], w: Result<Milligrams, Refusal>) -> usize
     requires { length (weighed_bytes w) ≤ length out.old }
     ensures { Wrote out.old out.new result (weighed_bytes w) }
 {
     match w {
-        Weighed::Mass(mg) => put_between(out, b"M ", mg.0, b"\n"),
-        Weighed::Refused(number) => put_between(out, b"R ", number as u64, b"\n"),
+        Ok(mg) => put_between(out, b"M ", mg.0, b"\n"),
+        Err(number) => put_between(out, b"R ", number as u64, b"\n"),
     }
 }
 
-fn put_line(out: &mut [u8], i: u64, w: Weighed) -> usize
+fn put_line(out: &mut [u8], i: u64, w: Result<Milligrams, Refusal>) -> usize
     requires { length (line_bytes i w) ≤ length out.old }
     ensures { Wrote out.old out.new result (line_bytes i w) }
 {
@@ -83,13 +77,13 @@ fn put_ending(out: &mut [u8], e: Ending) -> usize
     }
 }
 
-fn line_len(i: u64, w: Weighed) -> usize
+fn line_len(i: u64, w: Result<Milligrams, Refusal>) -> usize
     ensures { (result ≡ length (line_bytes i w)) × (result ≤ 46) }
 {
     let n = number_len(i);
     match w {
-        Weighed::Mass(mg) => n + number_len(mg.0) + 6,
-        Weighed::Refused(number) => n + number_len(number as u64) + 6,
+        Ok(mg) => n + number_len(mg.0) + 6,
+        Err(number) => n + number_len(number as u64) + 6,
     }
 }
 
@@ -118,16 +112,16 @@ fn ending_len(e: Ending) -> usize
     }
 }
 
-pub fn write_report(out: &mut [u8], o: Outcome) -> Written
+pub fn write_report(out: &mut [u8], o: Outcome) -> Result<usize, Refusal>
     ensures { ReportIs out.old out.new (report_bytes o) result }
 {
     let m = o.marks;
     let e = o.ending;
     let long = lines_len(m) + ending_len(e);
     if long > out.len() {
-        return Written::Refused(TOO_LONG);
+        return Err(Refusal(TOO_LONG));
     }
     let a = put_lines(out, m);
     let b = a + put_ending(&mut out[a..], e);
-    Written::Bytes(b)
+    Ok(b)
 }

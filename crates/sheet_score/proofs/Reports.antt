@@ -1,4 +1,5 @@
 -- What the arrays of 32 hold is the sheet's lines and their marks, so the outcome's report is the sheet's. Assumes nothing.
+use Rattle.std.specs.Prelude.{Ok, Err}
 use mathlib.Core.Path.{◌≡◌, refl}
 use mathlib.Core.Bool.{true}
 use mathlib.Core.List.{List, [], map}
@@ -13,9 +14,8 @@ use Rattle.sheet_read.specs.Form.{Bank}
 use Rattle.sheet_read.specs.Padded.{padded}
 use Rattle.sheet_read.specs.Sheet.{sheet_of, sheet_read}
 use Rattle.sheet_read.proofs.Paddings.{taken_back}
-use Rattle.sheet_outcome.specs.Outcome.{admitted}
+use Rattle.sheet_outcome.specs.Outcome.{admitted, Admitted}
 use Rattle.sheet_outcome.specs.declared.Mark.{Mark}
-use Rattle.sheet_outcome.specs.declared.Admitted.{Admitted}
 use Rattle.sheet_outcome.proofs.Admissions.{few}
 use Rattle.sheet_weigh.specs.Sheet.{marks_for, finished, marked, outcome}
 use Rattle.sheet_weigh.proofs.Markings.{marks_of_lem}
@@ -23,7 +23,7 @@ use Rattle.sheet_report.specs.Report.{lines_bytes, report_bytes}
 use Rattle.sheet_score.specs.Score.{sent_back, listed, report}
 
 -- a sheet that is sent back has the one line
-sent_back_lem : (number : ℕ) (ms : List Mark) → report_bytes (finished (Admitted.SentBack number) ms) ≡ sent_back number
+sent_back_lem : (number : ℕ) (ms : List Mark) → report_bytes (finished (Err number) ms) ≡ sent_back number
 unfolding report_bytes lines_bytes marks_for
 sent_back_lem number ms = refl
 
@@ -40,8 +40,8 @@ module _ (L : Limits) where
     by_admission : (a : Admitted) → admitted true (length b.cylinders) b.need ≡ a
         → report_bytes (finished a (marked L (take (length b.cylinders) (padded blank_line 32 lines)))) ≡ listed a (marked L lines)
     unfolding report_bytes
-    by_admission (Admitted.SentBack number) e = sent_back_lem number (marked L lines)
-    by_admission (Admitted.Need mg) e =
+    by_admission (Err number) e = sent_back_lem number (marked L lines)
+    by_admission (Ok mg) e =
         let h = few true (length b.cylinders) b.need mg e in
         rw (lines_back h, marks_of_lem L lines (omega (arith, length-map b.cylinders line_of)))
 

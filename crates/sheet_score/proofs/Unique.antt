@@ -5,7 +5,7 @@ use mathlib.Core.List.{List}
 use contract.Lifetimes.{Lfts}
 use denote.MutBor.{MutBor}
 use Rattle.sheet_report.proofs.Unique.{one_report}
-use Rattle.sheet_report.specs.declared.Written.{Written}
+use Rattle.sheet_report.specs.Report.{Written}
 use Rattle.sheet_score.proofs.score.Reads as score
 
 -- of a function that writes into its third argument

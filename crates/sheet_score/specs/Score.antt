@@ -1,12 +1,11 @@
 -- RULES 3.4, 7.1 and 7.2: a sheet's report. Definitions only.
-use Rattle.std.specs.Prelude.{ℕ, true, List, ◌++◌, map, length}
+use Rattle.std.specs.Prelude.{ℕ, true, List, ◌++◌, map, length, Ok, Err}
 use Rattle.std.proofs.Math.Option.{Option, none, some}
 use Rattle.door_limits.specs.declared.Limits.{Limits}
 use Rattle.sheet_line.specs.Line.{line_of}
 use Rattle.sheet_read.specs.Form.{Bank}
-use Rattle.sheet_outcome.specs.Outcome.{admitted, total, ending}
+use Rattle.sheet_outcome.specs.Outcome.{admitted, total, ending, Admitted}
 use Rattle.sheet_outcome.specs.declared.Mark.{Mark}
-use Rattle.sheet_outcome.specs.declared.Admitted.{Admitted}
 use Rattle.sheet_outcome.specs.declared.Ending.{Ending}
 use Rattle.sheet_weigh.specs.Sheet.{marked}
 use Rattle.sheet_report.specs.Report.{lines_bytes, ending_bytes}
@@ -17,8 +16,8 @@ sent_back number = ending_bytes (Ending.SentBack number)
 
 -- a line for each cylinder, and then the ending
 abbrev pub listed : Admitted → List Mark → List ℕ
-listed (Admitted.SentBack number) ms = sent_back number
-listed (Admitted.Need mg) ms = lines_bytes 1 ms ++ ending_bytes (ending mg (total ms))
+listed (Err number) ms = sent_back number
+listed (Ok mg) ms = lines_bytes 1 ms ++ ending_bytes (ending mg (total ms))
 
 -- of a text, from what it says
 unfoldable pub report : Limits → Option Bank → List ℕ

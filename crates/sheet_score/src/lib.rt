@@ -8,10 +8,10 @@ ghost use Rattle.sheet_score.specs.Score.{report};
 
 use door_limits::Limits;
 use sheet_read::read_sheet;
-use sheet_report::{Written, write_report};
+use sheet_report::{write_report};
 use sheet_weigh::weigh_sheet;
 
-pub fn score(limits: Limits, text: &[u8], out: &mut [u8]) -> Written
+pub fn score(limits: Limits, text: &[u8], out: &mut [u8]) -> Result<usize, Refusal>
     ensures { ReportIs out.old out.new (report limits (in_form text.now)) result }
 {
     let r = read_sheet(text);

@@ -1,5 +1,6 @@
 -- RULES 14.3: the first line that has a number, and that it is the one that is named. Assumes nothing.
-use Rattle.std.specs.Prelude.{Some, None}
+use Rattle.refusal.specs.Refused.{refused}
+use Rattle.std.specs.Prelude.{Some, None, Ok, Err}
 use mathlib.Core.Path.{◌≡◌, refl, sym, ap, ◌∙◌}
 use mathlib.Core.Bool.{Bool, true, false, cond, ◌||◌, false≢true, or-false}
 use mathlib.Core.List.{List, [], ◌∷◌}
@@ -10,7 +11,6 @@ use lib.Seq.{drop-cons}
 use borrow.Author.Tests.{eqb-true}
 use Rattle.sheet_text.specs.Field.{Field}
 use Rattle.sheet_line.specs.declared.line.Line.{Line}
-use Rattle.door_checks.specs.declared.Check.TheVariants.{Passed, No}
 use Rattle.sheet_standing.specs.Standing.{if_numbered, lacking, is_on, onto, numbers, standing, first_with}
 
 -- ---- one turn of the loop that looks for it
@@ -111,20 +111,20 @@ first ls i n e =
     }
 
 -- so where a line after them is refused by 30
-pub first_of_again : (ls : List Line) (i : ℕ) (l : Line) → standing (numbers (take i ls)) l ≡ No 30
+pub first_of_again : (ls : List Line) (i : ℕ) (l : Line) → standing (numbers (take i ls)) l ≡ refused 30
     → (n : ℕ) × (l.number ≡ Some n) × First ls i n (first_with 1 ls n)
 unfolding standing
 first_of_again ls i l = by_number l.number
   where
-    no : {A : Type 0} {m : ℕ} → No m ≡ No 30 → (m ≡ 30 → ⊥) → A
+    no : {A : Type 0} {m : ℕ} → Err m ≡ refused 30 → (m ≡ 30 → ⊥) → A
     no e h = absurd (h cc)
 
-    told : (a b : Bool) → cond a (No 1) (cond b (No 30) Passed) ≡ No 30 → b ≡ true
+    told : (a b : Bool) → cond a (refused 1) (cond b (refused 30) (Ok tt)) ≡ refused 30 → b ≡ true
     told true b e = no e (λ h. omega (arith, h))
     told false true e = refl
     told false false e = let z : ◌≡◌ {A = ℕ} 0 1 = cc in absurd (omega arith)
 
-    by_number : (f : Field) → if_numbered f (λ n. cond (lacking l) (No 1) (cond (is_on (numbers (take i ls)) n) (No 30) Passed)) ≡ No 30
+    by_number : (f : Field) → if_numbered f (λ n. cond (lacking l) (refused 1) (cond (is_on (numbers (take i ls)) n) (refused 30) (Ok tt))) ≡ refused 30
         → (n : ℕ) × (f ≡ Some n) × First ls i n (first_with 1 ls n)
     by_number None e = no e (λ h. omega (arith, h))
     by_number (Some n) e = (n, refl, first ls i n (told (lacking l) (is_on (numbers (take i ls)) n) e))

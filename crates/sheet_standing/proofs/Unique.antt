@@ -2,7 +2,7 @@
 use Prim.Native.Nat.{ℕ}
 use contract.Lifetimes.{Lfts}
 use Rattle.num_working.proofs.Unique.{OneAnswer, by_equation}
-use Rattle.door_checks.specs.declared.Check.{Check}
+use Rattle.door_checks.specs.Check.{Check}
 use Rattle.sheet_standing.proofs.standing_of.Reads as standing_of
 use Rattle.sheet_standing.proofs.first_with.Reads as first_with
 

@@ -1,7 +1,7 @@
 -- RULES 3.2, 6.6 and 6.7: the first checks of a line, before it is worked, by its own fields and by the cylinder numbers of the lines before it. Definitions only.
-use Rattle.std.specs.Prelude.{ℕ, ◌+◌, Bool, true, false, cond, ◌||◌, List, [], ◌∷◌, eqb, Some, None}
-use Rattle.door_checks.specs.declared.Check.{Check}
-use Rattle.door_checks.specs.declared.Check.TheVariants.{Passed, No}
+use Rattle.refusal.specs.Refused.{refused}
+use Rattle.std.specs.Prelude.{ℕ, ◌+◌, Bool, true, false, cond, ◌||◌, List, [], ◌∷◌, eqb, Some, None, Ok}
+use Rattle.door_checks.specs.Check.{Check}
 use Rattle.sheet_text.specs.Field.{Field}
 use Rattle.sheet_line.specs.Line.{Temperature}
 use Rattle.sheet_line.specs.declared.line.Reading.{Reading}
@@ -11,7 +11,7 @@ use Rattle.sheet_line.specs.declared.line.Line.{Line}
 
 -- its cylinder number
 abbrev pub if_numbered : Field → (ℕ → Check) → Check
-if_numbered None f = No 1
+if_numbered None f = refused 1
 if_numbered (Some n) f = f n
 
 -- its volume
@@ -51,7 +51,7 @@ numbers (l ∷ ls) = onto l.number (numbers ls)
 -- ---- 1, then 30; the numbers are those of the lines before it
 
 unfoldable pub standing : List ℕ → Line → Check
-standing before l = if_numbered l.number (λ n. cond (lacking l) (No 1) (cond (is_on before n) (No 30) Passed))
+standing before l = if_numbered l.number (λ n. cond (lacking l) (refused 1) (cond (is_on before n) (refused 30) (Ok tt)))
 
 -- ---- RULES 14.3: the place of the first line that has a number, where i is that of the first of all; 0 where none has
 

@@ -5,7 +5,6 @@
 ghost use Rattle.std.specs.Prelude.{◌≡◌, [], ◌∷◌};
 ghost use Rattle.sheet_standing.specs.Standing.{no_temperature, lacking, is_on, numbers, standing, first_with};
 
-use door_checks::Check;
 use sheet_line::line::{Line, Reading};
 use sheet_read::Sheet;
 
@@ -50,20 +49,20 @@ fn is_on(numbers: &[u64], n: u64) -> bool
 }
 
 // The numbers are those of the lines before it. A blank is none.
-pub fn standing_of(numbers: &[u64], l: Line) -> Check
+pub fn standing_of(numbers: &[u64], l: Line) -> Result<(), Refusal>
     ensures { result ≡ standing numbers.now l }
 {
     let number = l.number;
     let Some(n) = number else {
-        return Check::No(1);
+        return Err(Refusal(1));
     };
     if is_lacking(l) {
-        return Check::No(1);
+        return Err(Refusal(1));
     }
     if is_on(numbers, n) {
-        return Check::No(30);
+        return Err(Refusal(30));
     }
-    Check::Passed
+    Ok(())
 }
 
 fn has_number(l: Line, n: u64) -> bool

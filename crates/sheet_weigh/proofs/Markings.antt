@@ -13,8 +13,7 @@ use Rattle.sheet_line.specs.declared.line.Line.{Line}
 use Rattle.sheet_read.proofs.Paddings.{padded_set, taken_back}
 use Rattle.sheet_standing.specs.Standing.{numbers}
 use Rattle.sheet_standing.proofs.Standings.{numbers_joined}
-use Rattle.sheet_outcome.specs.Outcome.{marks_of}
-use Rattle.sheet_outcome.specs.declared.Weighed.{Weighed}
+use Rattle.sheet_outcome.specs.Outcome.{marks_of, Weighed}
 use Rattle.sheet_outcome.specs.declared.Mark.{Mark}
 use Rattle.sheet_weigh.specs.Weighing.{weighed_after}
 use Rattle.sheet_weigh.specs.Sheet.{marks_for, mark, marked_after, marked, Light}

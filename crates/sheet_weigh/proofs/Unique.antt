@@ -1,7 +1,7 @@
 -- No second answer meets a public function's promise. Assumes nothing.
 use mathlib.Core.Bool.{Bool}
 use Rattle.num_working.proofs.Unique.{OneAnswer, by_equation}
-use Rattle.sheet_outcome.specs.declared.Weighed.{Weighed}
+use Rattle.sheet_outcome.specs.Outcome.{Weighed}
 use Rattle.sheet_outcome.specs.declared.Outcome.{Outcome}
 use Rattle.sheet_weigh.proofs.is_volume.Reads as is_volume
 use Rattle.sheet_weigh.proofs.weigh.Reads as weigh

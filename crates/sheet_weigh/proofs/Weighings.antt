@@ -1,4 +1,5 @@
 -- A line's working, by what its parts are. Assumes nothing.
+use Rattle.refusal.specs.Refused.{refused}
 use mathlib.Core.Path.{◌≡◌, refl, ap}
 use mathlib.Core.Bool.{true, false, and-eq-true_iff}
 use Prim.Native.Nat.{ℕ, ◌^◌, ◌≤◌}
@@ -9,7 +10,7 @@ use lib.Ieee.{Float, binary64, mul, in_float}
 use borrow.Author.Tests.{leb-true}
 use Rattle.num_working.specs.Number.{whole}
 use Rattle.num_whole.specs.Whole.{whole_below, Below}
-use Rattle.sheet_outcome.specs.declared.Weighed.{Weighed}
+use Rattle.sheet_outcome.specs.Outcome.{Weighed}
 use Rattle.sheet_weigh.specs.Weighing.{is_volume, filled, mass, milligrams}
 
 pub in_float_lem : (v : ℕ) → v ≤ 1_000_000 → T (in_float binary64 (pos v))
@@ -23,7 +24,7 @@ pub mass_of : (rho : Float) (v : ℕ) (b : Below) → b ≡ whole_below (mul bin
 unfolding milligrams
 mass_of rho v b e = ap mass e
 
-pub out_of_range : (v : ℕ) (w : Weighed) → is_volume v ≡ false → Weighed.Refused 2 ≡ filled v w
+pub out_of_range : (v : ℕ) (w : Weighed) → is_volume v ≡ false → refused 2 ≡ filled v w
 unfolding filled
 out_of_range v w e = rw e refl
 

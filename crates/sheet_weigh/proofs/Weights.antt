@@ -1,5 +1,6 @@
 -- A line's milligrams are below 2⁵³, whatever its figures are. Assumes nothing.
-use Rattle.std.specs.Prelude.{Some, None}
+use Rattle.refusal.specs.Refused.{refused}
+use Rattle.std.specs.Prelude.{Some, None, Ok, Err}
 use mathlib.Core.Path.{◌≡◌, refl}
 use mathlib.Core.List.{List}
 use Prim.Native.Nat.{ℕ, ◌^◌, ◌<◌}
@@ -11,8 +12,8 @@ use Rattle.num_whole.specs.Whole.{whole_below, Below}
 use Rattle.num_whole.proofs.Wholes.{is_at_or_below}
 use Rattle.equation.specs.Equation.{of1996}
 use Rattle.door_limits.specs.declared.Limits.{Limits}
-use Rattle.door_checks.specs.declared.Check.{Check}
-use Rattle.door_answers.specs.declared.Answer.{Answer}
+use Rattle.door_checks.specs.Check.{Check}
+use Rattle.door_answers.specs.Answer.{Answer}
 use Rattle.door_pressure.specs.PressureDoor.{pressure_door}
 use Rattle.door_density.specs.DensityDoor.{density_door}
 use Rattle.sheet_text.specs.Field.{Field}
@@ -22,13 +23,13 @@ use Rattle.sheet_line.specs.Line.{Temperature}
 use Rattle.sheet_line.specs.declared.line.Reading.{Reading}
 use Rattle.sheet_line.specs.declared.line.Line.{Line}
 use Rattle.sheet_standing.specs.Standing.{standing}
-use Rattle.sheet_outcome.specs.declared.Weighed.{Weighed}
+use Rattle.sheet_outcome.specs.Outcome.{Weighed}
 use Rattle.sheet_weigh.specs.Weighing.{if_number, if_kelvin, is_volume, filled, on_scale, mass, milligrams, by_answer, if_passed, by_reading, weighed, weighed_after}
 
 -- one that was refused has none
 abbrev pub Under : Weighed → Type 0
-Under (Weighed.Mass mg) = mg.0 < 2 ^ 53
-Under (Weighed.Refused n) = Unit {0}
+Under (Ok mg) = mg.0 < 2 ^ 53
+Under (Err n) = Unit {0}
 
 mass_under : (x : Float) (b : Below) → whole_below x ≡ b → Under (mass b)
 mass_under x (Some n) e = (is_at_or_below x n e).2
@@ -36,8 +37,8 @@ mass_under x None e = tt
 
 answered_under : (a : Answer) (v : ℕ) → Under (by_answer a v)
 unfolding milligrams
-answered_under (Answer.State s) v = let x = mul binary64 s.rho (whole v) in mass_under x (whole_below x) refl
-answered_under (Answer.Refused n) v = tt
+answered_under (Ok s) v = let x = mul binary64 s.rho (whole v) in mass_under x (whole_below x) refl
+answered_under (Err n) v = tt
 
 number_under : (f : Field) (g : ℕ → Weighed) → ((n : ℕ) → Under (g n)) → Under (if_number f g)
 number_under None g h = tt
@@ -53,11 +54,11 @@ scaled_under None h = tt
 
 filled_under : (v : ℕ) (w : Weighed) → Under w → Under (filled v w)
 unfolding filled
-filled_under v w u = by_test Under (is_volume v) w (Weighed.Refused 2) (λ _. u) (λ _. tt)
+filled_under v w u = by_test Under (is_volume v) w (refused 2) (λ _. u) (λ _. tt)
 
 passed_under : (c : Check) (w : Weighed) → Under w → Under (if_passed c w)
-passed_under (Check.No n) w u = tt
-passed_under Check.Passed w u = u
+passed_under (Err n) w u = tt
+passed_under (Ok tt) w u = u
 
 module _ (L : Limits) where
   reading_under : (k : Temperature) (v : ℕ) (r : Reading) → Under (by_reading L k v r)

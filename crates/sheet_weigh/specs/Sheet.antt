@@ -1,28 +1,27 @@
 -- RULES 6.6, 7.1 and 7.2: what comes of a sheet, line by line. Definitions only.
-use Rattle.std.specs.Prelude.{ℕ, ◌^◌, ◌<◌, ◌≡◌, List, [], ◌∷◌, ◌++◌, length, take, get_or}
+use Rattle.refusal.specs.Refused.{refused}
+use Rattle.std.specs.Prelude.{ℕ, ◌^◌, ◌<◌, ◌≡◌, List, [], ◌∷◌, ◌++◌, length, take, get_or, Ok, Err}
 use Rattle.door_limits.specs.declared.Limits.{Limits}
 use Rattle.sheet_mass.specs.declared.Milligrams.{Milligrams}
 use Rattle.sheet_line.specs.declared.line.Line.{Line}
 use Rattle.sheet_read.specs.Padded.{padded}
 use Rattle.sheet_read.specs.declared.SheetRead.{SheetRead}
 use Rattle.sheet_standing.specs.Standing.{numbers}
-use Rattle.sheet_outcome.specs.Outcome.{admitted, total, ending}
-use Rattle.sheet_outcome.specs.declared.Weighed.{Weighed}
+use Rattle.sheet_outcome.specs.Outcome.{admitted, total, ending, Weighed, Admitted}
 use Rattle.sheet_outcome.specs.declared.Mark.{Mark}
 use Rattle.sheet_outcome.specs.declared.Marks.{Marks}
-use Rattle.sheet_outcome.specs.declared.Admitted.{Admitted}
 use Rattle.sheet_outcome.specs.declared.Ending.{Ending}
 use Rattle.sheet_outcome.specs.declared.Outcome.{Outcome}
 use Rattle.sheet_weigh.specs.Weighing.{weighed_after}
 
 -- marks in the code's array of 32; past the count stands a filler, whose 0 is no refusal
 unfoldable pub marks_for : List Mark → Marks
-marks_for ms = record { marks = padded (record { weighed = Weighed.Refused 0 }) 32 ms; count = length ms }
+marks_for ms = record { marks = padded (record { weighed = refused 0 }) 32 ms; count = length ms }
 
 -- sent back with 10, 11, 12 or 14 it has that number alone; else the marks of its lines, and then the ending
 abbrev pub finished : Admitted → List Mark → Outcome
-finished (Admitted.SentBack number) ms = record { marks = marks_for []; ending = Ending.SentBack number }
-finished (Admitted.Need mg) ms = record { marks = marks_for ms; ending = ending mg (total ms) }
+finished (Err number) ms = record { marks = marks_for []; ending = Ending.SentBack number }
+finished (Ok mg) ms = record { marks = marks_for ms; ending = ending mg (total ms) }
 
 module _ (L : Limits) where
   abbrev pub mark : List ℕ → Line → Mark
@@ -43,4 +42,4 @@ module _ (L : Limits) where
 
 -- ---- what code inside asks for, to add: each line's milligrams are below 2⁵³
 abbrev pub Light : List Mark → Type 0
-Light ms = (i : ℕ) (mg : Milligrams) (d : Mark) → i < length ms → (get_or ms i d).weighed ≡ Weighed.Mass mg → mg.0 < 2 ^ 53
+Light ms = (i : ℕ) (mg : Milligrams) (d : Mark) → i < length ms → (get_or ms i d).weighed ≡ Ok mg → mg.0 < 2 ^ 53

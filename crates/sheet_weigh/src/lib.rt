@@ -5,20 +5,19 @@
 ghost use Rattle.std.specs.Prelude.{◌≡◌, [], ◌≤◌, take};
 ghost use Rattle.sheet_mass.specs.Mass.{from_scale};
 ghost use Rattle.sheet_outcome.specs.Outcome.{marks_of, total};
-ghost use Rattle.sheet_outcome.specs.declared.Admitted.{Admitted};
 ghost use Rattle.sheet_line.specs.declared.line.Reading.{Reading};
 ghost use Rattle.sheet_weigh.specs.Weighing.{is_volume, milligrams, by_answer, on_scale, filled, by_reading, weighed, weighed_after};
 ghost use Rattle.sheet_weigh.specs.Sheet.{marks_for, finished, marked, outcome, Light};
 
-use door_answers::{Answer, refusal_number};
-use door_checks::{Check, number_of};
+use door_answers::{refusal_number};
+use door_checks::{number_of};
 use door_density::from_density;
 use door_limits::Limits;
 use door_pressure::from_pressure;
 use num_whole::{whole_below};
 use sheet_line::line::{Line, Reading};
 use sheet_mass::{Grams, Milligrams, from_scale};
-use sheet_outcome::{Admitted, Ending, Mark, Marks, Outcome, Weighed, admit, conclude};
+use sheet_outcome::{Ending, Mark, Marks, Outcome, admit, conclude};
 use sheet_read::{Sheet, SheetRead};
 use sheet_standing::standing_of;
 
@@ -28,77 +27,77 @@ pub fn is_volume(v: u64) -> bool
     v >= 1 && v <= 1_000_000
 }
 
-fn milligrams(rho: f64, v: u64) -> Weighed
+fn milligrams(rho: f64, v: u64) -> Result<Milligrams, Refusal>
     requires { v ≤ 1_000_000 }
     ensures { result ≡ milligrams rho v }
 {
     let Some(mg) = whole_below(rho * (v as f64)) else {
-        return Weighed::Refused(7);
+        return Err(Refusal(7));
     };
-    Weighed::Mass(Milligrams(mg))
+    Ok(Milligrams(mg))
 }
 
 // By the state's density, or the door's refusal handed on.
-fn by_answer(a: Answer, v: u64) -> Weighed
+fn by_answer(a: Result<State, Refusal>, v: u64) -> Result<Milligrams, Refusal>
     requires { v ≤ 1_000_000 }
     ensures { result ≡ by_answer a v }
 {
-    let Answer::State(s) = a else {
-        return Weighed::Refused(refusal_number(a));
+    let Ok(s) = a else {
+        return Err(refusal_number(a));
     };
     milligrams(s.rho, v)
 }
 
-fn by_pressure(limits: Limits, k: Option<f64>, p: f64, v: u64) -> Weighed
+fn by_pressure(limits: Limits, k: Option<f64>, p: f64, v: u64) -> Result<Milligrams, Refusal>
     ensures { result ≡ by_reading limits k v (Reading.Pressure p) }
 {
     let Some(t) = k else {
-        return Weighed::Refused(1);
+        return Err(Refusal(1));
     };
     if !is_volume(v) {
-        return Weighed::Refused(2);
+        return Err(Refusal(2));
     }
     by_answer(from_pressure(limits, t, p), v)
 }
 
-fn by_density(limits: Limits, k: Option<f64>, d: f64, v: u64) -> Weighed
+fn by_density(limits: Limits, k: Option<f64>, d: f64, v: u64) -> Result<Milligrams, Refusal>
     ensures { result ≡ by_reading limits k v (Reading.Density d) }
 {
     let Some(t) = k else {
-        return Weighed::Refused(1);
+        return Err(Refusal(1));
     };
     if !is_volume(v) {
-        return Weighed::Refused(2);
+        return Err(Refusal(2));
     }
     by_answer(from_density(limits, t, d), v)
 }
 
 // No door is asked, and no temperature.
-fn by_scale(g: Grams, v: u64) -> Weighed
+fn by_scale(g: Grams, v: u64) -> Result<Milligrams, Refusal>
     ensures { result ≡ filled v (on_scale (from_scale g)) }
 {
     if !is_volume(v) {
-        return Weighed::Refused(2);
+        return Err(Refusal(2));
     }
     let Some(mg) = from_scale(g) else {
-        return Weighed::Refused(23);
+        return Err(Refusal(23));
     };
-    Weighed::Mass(mg)
+    Ok(mg)
 }
 
 // A reading that asks a door takes the temperature with it.
-fn by_reading(limits: Limits, k: Option<f64>, v: u64, r: Reading) -> Weighed
+fn by_reading(limits: Limits, k: Option<f64>, v: u64, r: Reading) -> Result<Milligrams, Refusal>
     ensures { result ≡ by_reading limits k v r }
 {
     match r {
-        Reading::Blank => Weighed::Refused(1),
+        Reading::Blank => Err(Refusal(1)),
         Reading::Pressure(p) => by_pressure(limits, k, p, v),
         Reading::Density(d) => by_density(limits, k, d, v),
         Reading::Weighed(g) => by_scale(g, v),
     }
 }
 
-pub fn weigh(limits: Limits, l: Line) -> Weighed
+pub fn weigh(limits: Limits, l: Line) -> Result<Milligrams, Refusal>
     ensures { result ≡ weighed limits l }
 {
     let number = l.number;
@@ -106,21 +105,21 @@ pub fn weigh(limits: Limits, l: Line) -> Weighed
     let temperature = l.temperature;
     let reading = l.reading;
     let Some(_) = number else {
-        return Weighed::Refused(1);
+        return Err(Refusal(1));
     };
     let Some(v) = volume else {
-        return Weighed::Refused(1);
+        return Err(Refusal(1));
     };
     by_reading(limits, temperature, v, reading)
 }
 
 // After lines with these cylinder numbers: 1, then 30, and else what the line alone comes to.
-fn weigh_after(limits: Limits, numbers: &[u64], l: Line) -> Weighed
+fn weigh_after(limits: Limits, numbers: &[u64], l: Line) -> Result<Milligrams, Refusal>
     ensures { result ≡ weighed_after limits numbers.now l }
 {
     let c = standing_of(numbers, l);
-    let Check::Passed = c else {
-        return Weighed::Refused(number_of(c));
+    let Ok(()) = c else {
+        return Err(number_of(c));
     };
     weigh(limits, l)
 }
@@ -131,7 +130,7 @@ fn weigh_all(limits: Limits, s: Sheet) -> Marks
     ensures { result ≡ marks_for (marked limits (take s.count s.lines)) }
 {
     let none = Mark {
-        weighed: Weighed::Refused(0),
+        weighed: Err(Refusal(0)),
     };
     let mut marks = [none; 32];
     let mut numbers: [u64; 32] = [0; 32];
@@ -166,7 +165,7 @@ fn total(m: Marks) -> Option<Milligrams>
     while i < n {
         let mark = m.marks[i];
         let w = mark.weighed;
-        let Weighed::Mass(mg) = w else {
+        let Ok(mg) = w else {
             return None;
         };
         sum += mg.0;
@@ -180,7 +179,7 @@ fn send_back(number: u8) -> Outcome
     ensures { result ≡ finished (Admitted.SentBack number) [] }
 {
     let none = Mark {
-        weighed: Weighed::Refused(0),
+        weighed: Err(Refusal(0)),
     };
     Outcome {
         marks: Marks {
@@ -210,7 +209,7 @@ pub fn weigh_sheet(limits: Limits, r: SheetRead) -> Outcome
     let s = r.sheet;
     let need = s.need;
     match admit(r.ok, s.count, need) {
-        Admitted::SentBack(number) => send_back(number),
-        Admitted::Need(mg) => work(limits, s, mg),
+        Err(number) => send_back(number),
+        Ok(mg) => work(limits, s, mg),
     }
 }

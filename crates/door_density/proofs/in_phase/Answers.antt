@@ -1,12 +1,11 @@
 -- Each step is the definition's. Assumes nothing.
-use Rattle.std.specs.Prelude.{Some}
+use Rattle.std.specs.Prelude.{Some, Err}
 use mathlib.Core.Path.{◌≡◌, sym, ap, ◌∙◌}
 use mathlib.Core.Bool.{false}
 use Rattle.equation.specs.Equation.{of1996}
 use Rattle.equation.proofs.Curves.{on_curve, state_on_curve}
 use Rattle.door_limits.specs.Limits.{outside}
 use Rattle.door_checks.specs.Check.{solid, number_of}
-use Rattle.door_answers.specs.declared.Answer.TheVariants.{Refused}
 use Rattle.door_density.specs.DensityDoor.{in_phase}
 use Rattle.door_density.proofs.in_phase.Goals as goal
 use Rattle.door_density.proofs.in_phase.Goals.{After-not_solid-c, After-pressure_on}
@@ -38,7 +37,7 @@ pub returns-in_default-c : goal.returns-in_default-c
 unfolding in_phase
 returns-in_default-c c =
     let e = c.in_default-c.is in
-    ap Refused (c.number_of.ensures ∙ ap number_of e) ∙ rw (number_is (goal.at.returns-in_default-c c).After-not_solid-c, inside (goal.at.returns-in_default-c c).After-not_solid-c, check_is (goal.at.returns-in_default-c c).After-not_solid-c ∙ e)
+    ap Err (c.number_of.ensures ∙ ap number_of e) ∙ rw (number_is (goal.at.returns-in_default-c c).After-not_solid-c, inside (goal.at.returns-in_default-c c).After-not_solid-c, check_is (goal.at.returns-in_default-c c).After-not_solid-c ∙ e)
 
 pub returns : goal.returns
 unfolding in_phase

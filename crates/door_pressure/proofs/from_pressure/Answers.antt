@@ -1,7 +1,7 @@
 -- The check, and the steps after it. Assumes nothing.
+use Rattle.std.specs.Prelude.{Err}
 use mathlib.Core.Path.{sym, ap, ◌∙◌}
 use Rattle.door_checks.specs.Check.{number_of}
-use Rattle.door_answers.specs.declared.Answer.TheVariants.{Refused}
 use Rattle.door_pressure.specs.PressureDoor.{pressure_door}
 use Rattle.door_pressure.proofs.from_pressure.Goals as goal
 
@@ -9,7 +9,7 @@ pub returns-in_default : goal.returns-in_default
 unfolding pressure_door
 returns-in_default c =
     let e = c.in_default.is in
-    ap Refused (c.number_of.ensures ∙ ap number_of e) ∙ rw (sym c.in_range-c.ensures ∙ e)
+    ap Err (c.number_of.ensures ∙ ap number_of e) ∙ rw (sym c.in_range-c.ensures ∙ e)
 
 pub returns : goal.returns
 unfolding pressure_door

@@ -1,6 +1,6 @@
 -- 15 where fewer than eight are lent; else by what the door answered. Assumes nothing.
 use mathlib.Core.Path.{sym, ap, ◌∙◌}
-use Rattle.door_answers.specs.declared.Answer.{Answer}
+use Rattle.door_answers.specs.Answer.{Answer}
 use Rattle.interface_figures.specs.Figures.{number_of, figures_of}
 use Rattle.interface_figures.proofs.Handed.{too_few, enough}
 use Rattle.interface_figures.proofs.put_answer.Goals as goal

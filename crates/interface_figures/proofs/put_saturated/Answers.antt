@@ -1,6 +1,6 @@
 -- 15 where fewer than three are lent; else by what saturation came to. Assumes nothing.
 use mathlib.Core.Path.{sym, ap, ◌∙◌}
-use Rattle.door_saturation.specs.declared.Saturated.{Saturated}
+use Rattle.door_saturation.specs.Saturation.{Saturated}
 use Rattle.interface_figures.specs.Figures.{saturated_number, saturated_of}
 use Rattle.interface_figures.proofs.Handed.{too_few, enough}
 use Rattle.interface_figures.proofs.put_saturated.Goals as goal

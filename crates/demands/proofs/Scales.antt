@@ -1,11 +1,10 @@
 -- A line's record, and a weighed line: by what it is refused and with what it is answered, that its temperature is not used, the largest total, and what is as
 -- it was. Assumes nothing.
-use Rattle.std.specs.Prelude.{Some, None}
+use Rattle.std.specs.Prelude.{Some, None, Option}
 use Prim.Native.Nat.{ℕ, ◌*◌, ◌≤◌}
 use mathlib.Core.Path.{◌≡◌, refl, ap, subst, ◌∙◌}
 use mathlib.Core.Bool.{true}
 use mathlib.Core.List.{List, [], ◌∷◌, ◌++◌, map}
-use mathlib.Core.Option.{Option, none, some}
 use native.Mathlib.Omega.{arith}
 use lib.ListN.{length}
 use lib.Ieee.{Float}
@@ -235,22 +234,22 @@ module _ (L : Limits) where
       (by_fields before c.number c.temperature c.kind c.value c.volume a)
       ∙ ap (λ (ms : List Mark). record { weighed = came_then before (line_then c) } ∷ ms) (marks_as_then later p)
 
-  bank_as_then : (b : Bank) → NoneOnScale b.cylinders → report L (some b) ≡ report_then L (some b)
+  bank_as_then : (b : Bank) → NoneOnScale b.cylinders → report L (Some b) ≡ report_then L (Some b)
   unfolding report marked
   bank_as_then b h = ap (listed (admitted true (length b.cylinders) b.need)) (marks_as_then [] h)
 
   pub as_then : AsThen L
   unfolding report
-  as_then none h = refl
-  as_then (some b) h = bank_as_then b (h b refl)
+  as_then None h = refl
+  as_then (Some b) h = bank_as_then b (h b refl)
 
   -- and so has every text without a `W`
   pub text_as_then : TextAsThen L
   text_as_then t w = go (in_form t) refl
     where
       go : (o : Option Bank) → in_form t ≡ o → ReportedThen L t (report L o)
-      go none e = rw (as_then none (λ b z. absurd (none_or_some refl z))) (was_not (λ b p f n h. none_or_some e ((the_form t b).1 (p, f, n))))
-      go (some b) e =
+      go None e = rw (as_then None (λ b z. absurd (none_or_some refl z))) (was_not (λ b p f n h. none_or_some e ((the_form t b).1 (p, f, n))))
+      go (Some b) e =
           let q = (the_form t b).0 e in
           let h = none_in b.cylinders (behind_need b (subst (Without 87) q.0 w)) in
           rw (bank_as_then b h) (was_in_form q.0 q.1 q.2 h)

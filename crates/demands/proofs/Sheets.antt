@@ -1,11 +1,10 @@
 -- A sheet: its report, for every byte string, and every byte of the lent output. Assumes nothing.
 use Rattle.refusal.specs.Refused.{refused}
-use Rattle.std.specs.Prelude.{Some, None, Ok, Err}
+use Rattle.std.specs.Prelude.{Some, None, Ok, Err, Option}
 use Prim.Native.Nat.{ℕ, zero, suc, ◌+◌, ◌-◌, ◌*◌, ◌^◌, ◌≤◌, ◌<◌}
 use mathlib.Core.Path.{◌≡◌, refl, sym, ap, subst, ◌∙◌}
 use mathlib.Core.Bool.{true}
 use mathlib.Core.List.{List, [], ◌∷◌, ◌++◌, map}
-use mathlib.Core.Option.{Option, none, some}
 use native.Mathlib.Nat.{le_of_suc-le-suc}
 use native.Mathlib.Omega.{arith}
 use contract.Lifetimes.{Lfts}
@@ -202,7 +201,7 @@ module _ (L : Limits) (t : List ℕ) where
         of_total mg (record { lined = l; need = e; at_least = i.0; at_most = i.1 }) (total bank) (tally bank))
         (λ r. no_need l (subst NoNeed (sym e) (out_of_need (outside 9_999_999_999 mg r))))
 
-    of_count : in_form t ≡ some b → Reported L t (listed (admitted true (length b.cylinders) b.need) bank)
+    of_count : in_form t ≡ Some b → Reported L t (listed (admitted true (length b.cylinders) b.need) bank)
     unfolding admitted
     of_count e =
         by_test ListedAs (eqb (length b.cylinders) 0) _ _ (λ p. no_lines e (eqb-true _ 0 p))
@@ -211,8 +210,8 @@ module _ (L : Limits) (t : List ℕ) where
 
   of_form : (o : Option Bank) → in_form t ≡ o → Reported L t (report L o)
   unfolding report
-  of_form none e = not_in_form e
-  of_form (some b) e = of_count b e
+  of_form None e = not_in_form e
+  of_form (Some b) e = of_count b e
 
   pub reported : Reported L t (report L (in_form t))
   reported = of_form (in_form t) refl

@@ -1,12 +1,11 @@
 -- A line on its sheet: each refusal exactly under its condition, 30 among them; and where no number stands twice, all as it was. Assumes nothing.
 use Rattle.refusal.specs.Refused.{refused}
-use Rattle.std.specs.Prelude.{Some, None, Ok, Err}
+use Rattle.std.specs.Prelude.{Some, None, Ok, Err, Option}
 use Prim.Native.Nat.{ℕ, zero, suc, ◌<◌}
 use mathlib.Core.Path.{◌≡◌, refl, sym, ap, subst, ◌∙◌}
 use mathlib.Core.Bool.{Bool, true, false, cond, ◌||◌, true≢false}
 use mathlib.Core.List.{List, [], ◌∷◌, map}
 use mathlib.Core.Logic.{◌⊎◌, inl, inr, ⊎_elim}
-use mathlib.Core.Option.{Option, none, some}
 use native.Mathlib.Nat.{le_of_suc-le-suc}
 use native.Mathlib.Omega.{arith}
 use lib.ListN.{length, take, get_or, length-map, length-take}
@@ -286,14 +285,14 @@ module _ (L : Limits) where
         ap (λ (w : Weighed). record { weighed = w }) (came_alone once i k ∙ sym (alone_at L cs i k)))
 
   -- and the report is what it was
-  pub report_as_before : (o : Option Bank) → ((b : Bank) → o ≡ some b → Twice b.cylinders → ⊥) → report L o ≡ report_before L o
+  pub report_as_before : (o : Option Bank) → ((b : Bank) → o ≡ Some b → Twice b.cylinders → ⊥) → report L o ≡ report_before L o
   unfolding report
-  report_as_before none once = refl
-  report_as_before (some b) once =
+  report_as_before None once = refl
+  report_as_before (Some b) once =
       ap (listed (admitted true (length b.cylinders) b.need)) (marked_as_before b.cylinders (once b refl))
 
   -- as it is, twice or not, where the sheet is sent back before its lines are worked
   pub sent_back_as_before : (b : Bank) (n : ℕ) → admitted true (length b.cylinders) b.need ≡ Err n
-      → report L (some b) ≡ report_before L (some b)
+      → report L (Some b) ≡ report_before L (Some b)
   unfolding report
   sent_back_as_before b n e = rw e

@@ -1,8 +1,7 @@
 -- RULES 3.2, 6.4, 6.7 and 10.1: what is demanded of a line's record, of a weighed line on its sheet and of the largest total, and what is as it was before a
 -- cylinder could be weighed. Definitions only.
 use Rattle.refusal.specs.Refused.{refused}
-use Rattle.std.specs.Prelude.{ℕ, zero, suc, ◌+◌, ◌*◌, ◌≤◌, ◌<◌, ◌≡◌, Bool, true, false, cond, ◌||◌, List, [], ◌∷◌, ◌++◌, map, length, Some, None, Ok, Err}
-use Rattle.std.proofs.Math.Option.{Option, none, some}
+use Rattle.std.specs.Prelude.{ℕ, zero, suc, ◌+◌, ◌*◌, ◌≤◌, ◌<◌, ◌≡◌, Bool, true, false, cond, ◌||◌, List, [], ◌∷◌, ◌++◌, map, length, Some, None, Ok, Err, Option}
 use Rattle.std.specs.Float.{binary64}
 use Rattle.std.specs.Float.Ieee.{div}
 use Rattle.num_working.specs.Number.{whole}
@@ -93,7 +92,7 @@ pub data ButForTemperatures : List Cylinder → List Cylinder → Type 0 where
 abbrev pub TemperatureNotUsed : Limits → Type 0
 TemperatureNotUsed L =
     (need : Field) (cs ds : List Cylinder) → ButForTemperatures cs ds
-    → report L (some (record { need = need; cylinders = cs })) ≡ report L (some (record { need = need; cylinders = ds }))
+    → report L (Some (record { need = need; cylinders = cs })) ≡ report L (Some (record { need = need; cylinders = ds }))
 
 -- ---- the largest total: 32 lines of 9,999,999,999 g
 
@@ -166,16 +165,16 @@ module _ (L : Limits) where
   marked_then before (l ∷ ls) = record { weighed = if_passed (standing_then before l) (weighed_then l) } ∷ marked_then (before ++ numbers (l ∷ [])) ls
 
   abbrev pub report_then : Option Bank → List ℕ
-  report_then none = sent_back 14
-  report_then (some b) = listed (admitted true (length b.cylinders) b.need) (marked_then [] (map line_then b.cylinders))
+  report_then None = sent_back 14
+  report_then (Some b) = listed (admitted true (length b.cylinders) b.need) (marked_then [] (map line_then b.cylinders))
 
   abbrev pub AsThen : Type 0
-  AsThen = (o : Option Bank) → ((b : Bank) → o ≡ some b → NoneOnScale b.cylinders) → report L o ≡ report_then o
+  AsThen = (o : Option Bank) → ((b : Bank) → o ≡ Some b → NoneOnScale b.cylinders) → report L o ≡ report_then o
 
   -- of every text: the form was that of the banks without a weighed line, by their printing, and any other text was sent back by 14
   pub data ReportedThen (t : List ℕ) : List ℕ → Type 0 where
-    was_in_form : {b : Bank} → t ≡ text b → Fair b → length t ≤ 65536 → NoneOnScale b.cylinders → ReportedThen t (report_then (some b))
-    was_not : ((b : Bank) → t ≡ text b → Fair b → length t ≤ 65536 → NoneOnScale b.cylinders → ⊥) → ReportedThen t (report_then none)
+    was_in_form : {b : Bank} → t ≡ text b → Fair b → length t ≤ 65536 → NoneOnScale b.cylinders → ReportedThen t (report_then (Some b))
+    was_not : ((b : Bank) → t ≡ text b → Fair b → length t ≤ 65536 → NoneOnScale b.cylinders → ⊥) → ReportedThen t (report_then None)
 
   -- and a text that has no `W`, which is 87, has the report that it had
   abbrev pub TextAsThen : Type 0

@@ -1,7 +1,6 @@
 -- RULES 10.1: what is demanded of a sheet: its report, for every byte string, in the order of RULES 3.4. Definitions only.
 use Rattle.refusal.specs.Refused.{refused}
 use Rattle.std.specs.Prelude.{ℕ, ◌+◌, ◌≤◌, ◌<◌, ◌≡◌, List, [], ◌∷◌, ◌++◌, map, length, get_or, Some, None, Ok, Err}
-use Rattle.std.proofs.Math.Option.{none, some}
 use Rattle.std.specs.Borrow.{Bor, MutBor}
 use Rattle.door_limits.specs.declared.Limits.{Limits}
 use Rattle.sheet_text.specs.Field.{Field}
@@ -33,7 +32,7 @@ pub data NoNeed : Field → Type 0 where
 
 -- in the form, with 1 to 32 lines
 pub record Lined (t : List ℕ) (b : Bank) : Type 0 where
-  pub read : in_form t ≡ some b
+  pub read : in_form t ≡ Some b
   pub some_line : 1 ≤ length b.cylinders
   pub at_most : length b.cylinders ≤ 32
 
@@ -57,9 +56,9 @@ module _ (L : Limits) where
 
   -- RULES 7.1 and 7.2: the report of a text
   pub data Reported (t : List ℕ) : List ℕ → Type 0 where
-    not_in_form : in_form t ≡ none → Reported t (sent_back 14)
-    no_lines : {b : Bank} → in_form t ≡ some b → length b.cylinders ≡ 0 → Reported t (sent_back 10)
-    many_lines : {b : Bank} → in_form t ≡ some b → 32 < length b.cylinders → Reported t (sent_back 11)
+    not_in_form : in_form t ≡ None → Reported t (sent_back 14)
+    no_lines : {b : Bank} → in_form t ≡ Some b → length b.cylinders ≡ 0 → Reported t (sent_back 10)
+    many_lines : {b : Bank} → in_form t ≡ Some b → 32 < length b.cylinders → Reported t (sent_back 11)
     no_need : {b : Bank} → Lined t b → NoNeed b.need → Reported t (sent_back 12)
     one_refused : {b : Bank} {need : ℕ} → Needs t b need → OneRefused (lines b) → Reported t (lines_bytes 1 (marked L (lines b)) ++ sent_back 13)
     named_twice : {b : Bank} {need : ℕ} → Needs t b need → Twice b.cylinders → Reported t (lines_bytes 1 (marked L (lines b)) ++ sent_back 13)

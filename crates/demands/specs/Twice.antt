@@ -1,7 +1,6 @@
 -- RULES 3.2, 6.6 and 10.1: what is demanded of a line on its sheet: when a number stands there twice, what came of each line then, and what is as it was
 -- before there was a refusal 30. Definitions only.
-use Rattle.std.specs.Prelude.{ℕ, ◌<◌, ◌≡◌, true, List, map, length, get_or, Some, None, Ok}
-use Rattle.std.proofs.Math.Option.{Option, none, some}
+use Rattle.std.specs.Prelude.{ℕ, ◌<◌, ◌≡◌, true, List, map, length, get_or, Some, None, Ok, Option}
 use Rattle.door_limits.specs.declared.Limits.{Limits}
 use Rattle.sheet_text.specs.Field.{Field}
 use Rattle.sheet_mass.specs.Mass.{as_milligrams}
@@ -74,5 +73,5 @@ module _ (L : Limits) where
   marked_before ls = map (λ (l : Line). record { weighed = weighed L l }) ls
 
   abbrev pub report_before : Option Bank → List ℕ
-  report_before none = sent_back 14
-  report_before (some b) = listed (admitted true (length b.cylinders) b.need) (marked_before (map line_of b.cylinders))
+  report_before None = sent_back 14
+  report_before (Some b) = listed (admitted true (length b.cylinders) b.need) (marked_before (map line_of b.cylinders))

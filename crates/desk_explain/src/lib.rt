@@ -12,12 +12,12 @@ use desk_paper::paper::{Paper, say, say_number, say_refusal, say_shown};
 use desk_units::{kilograms_down, kilograms_up};
 use desk_where::say_where;
 use door_limits::Limits;
-use sheet_line::cylinder::{CylinderAt, read_cylinder};
-use sheet_line::line::{LineAt, read_line};
+use sheet_line::cylinder::{read_cylinder};
+use sheet_line::line::{read_line};
 use sheet_outcome::{Ending, Marks};
 use sheet_read::{Sheet, read_sheet};
 use sheet_standing::first_with;
-use sheet_text::{FieldAt, read_field_after};
+use sheet_text::{read_field_after};
 use sheet_weigh::weigh_sheet;
 
 // How many gauges can't tell, and how many lines hold more than a cylinder is filled with.
@@ -60,10 +60,10 @@ fn say_cylinder(
     name: &[u8],
     explained: bool,
 ) -> Paper {
-    let CylinderAt::Found(c, _) = read_cylinder(s, at) else {
+    let Some((c, _)) = read_cylinder(s, at) else {
         return p;
     };
-    let LineAt::Found(l, _) = read_line(s, at) else {
+    let Some((l, _)) = read_line(s, at) else {
         return p;
     };
     let number = c.number;
@@ -83,7 +83,7 @@ fn line_after(s: &[u8], at: usize) -> usize
     requires { at < length s.now }
     ensures { (at < result) × (result ≤ length s.now) }
 {
-    let LineAt::Found(_, next) = read_line(s, at) else {
+    let Some((_, next)) = read_line(s, at) else {
         return s.len();
     };
     next
@@ -99,7 +99,7 @@ fn say_cylinders(
     name: &[u8],
     explained: bool,
 ) -> Paper {
-    let FieldAt::Found(_, from) = read_field_after(s, 0, b'N', b'\n') else {
+    let Some((_, from)) = read_field_after(s, 0, b'N', b'\n') else {
         return p;
     };
     let mut out = p;
@@ -125,7 +125,7 @@ fn say_need(p: Paper, need: Option<u64>) -> Paper {
 fn doubt_at(limits: Limits, s: &[u8], at: usize) -> usize
     ensures { result ≤ 1 }
 {
-    let LineAt::Found(l, _) = read_line(s, at) else {
+    let Some((l, _)) = read_line(s, at) else {
         return 0;
     };
     match gauge_of(limits, l) {
@@ -138,7 +138,7 @@ fn doubt_at(limits: Limits, s: &[u8], at: usize) -> usize
 fn heavy_at(limits: Limits, s: &[u8], at: usize, w: Result<Milligrams, Refusal>) -> usize
     ensures { result ≤ 1 }
 {
-    let LineAt::Found(l, _) = read_line(s, at) else {
+    let Some((l, _)) = read_line(s, at) else {
         return 0;
     };
     if is_heavy(look_at(limits, w, l)) {
@@ -149,7 +149,7 @@ fn heavy_at(limits: Limits, s: &[u8], at: usize, w: Result<Milligrams, Refusal>)
 }
 
 fn count_warned(limits: Limits, s: &[u8], marks: Marks) -> Warned {
-    let FieldAt::Found(_, from) = read_field_after(s, 0, b'N', b'\n') else {
+    let Some((_, from)) = read_field_after(s, 0, b'N', b'\n') else {
         return Warned {
             gauges: 0,
             heavy: 0,

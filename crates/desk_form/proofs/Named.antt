@@ -1,8 +1,8 @@
 -- A text of no more than 65,536 bytes is not in the form exactly where a line is named. Assumes nothing.
+use Rattle.std.specs.Prelude.{Option, Some, None, option_map}
 use mathlib.Core.Path.{◌≡◌, refl, subst, ◌∙◌}
 use mathlib.Core.Bool.{Bool, true, false}
 use mathlib.Core.List.{List, [], ◌∷◌, ◌++◌}
-use mathlib.Core.Option.{Option, none, some, map}
 use Prim.Native.Nat.{ℕ, zero, suc, ◌+◌, ◌≤◌, ◌<◌}
 use native.Mathlib.Omega.{arith}
 use lib.ListN.{length, length-append}
@@ -18,16 +18,16 @@ use Rattle.desk_form.specs.Wrong.{cut, wrong_cylinder, first_wrong}
 use Rattle.desk_form.proofs.Turns.{need_passed, need_wrong, cylinder_passed, cylinder_wrong}
 
 abbrev pub is_none : {A : Type 0} → Option A → Bool
-is_none none = true
-is_none (some a) = false
+is_none None = true
+is_none (Some a) = false
 
 abbrev pub is_some : {A : Type 0} → Option A → Bool
-is_some none = false
-is_some (some a) = true
+is_some None = false
+is_some (Some a) = true
 
 none_mapped : {A B : Type 0} (f : A → B) (o : Option A) → is_none (map f o) ≡ is_none o
-none_mapped f none = refl
-none_mapped f (some a) = refl
+none_mapped f None = refl
+none_mapped f (Some a) = refl
 
 -- what is left is shorter
 shorter : (u t v : List ℕ) → u ≡ t ++ v → 1 ≤ length t → length v < length u
@@ -40,8 +40,8 @@ cylinder_long c = omega arith
 agree_by : (k i b : ℕ) (rest : List ℕ) → length (b ∷ rest) ≤ suc k → ((v : List ℕ) → length v ≤ k → is_none (cylinders k v) ≡ is_some (wrong_cylinder (i + 1) (cut v)))
     → (o : Option (Cylinder × List ℕ)) → cylinder (b ∷ rest) ≡ o → is_none (cylinders (suc k) (b ∷ rest)) ≡ is_some (wrong_cylinder i (cut (b ∷ rest)))
 unfolding cylinders
-agree_by k i b rest h ih none e = rw (cylinder_wrong i b (b ∷ rest) rest refl e, e) refl
-agree_by k i b rest h ih (some (c, v)) e =
+agree_by k i b rest h ih None e = rw (cylinder_wrong i b (b ∷ rest) rest refl e, e) refl
+agree_by k i b rest h ih (Some (c, v)) e =
     let less = shorter (b ∷ rest) (cylinder_text c) v (subst (Says cylinder_text (b ∷ rest)) e (cylinder_says (b ∷ rest))) (cylinder_long c) in
     rw (cylinder_passed i (b ∷ rest) v c e, e) (none_mapped _ (cylinders k v) ∙ ih v (omega (arith, less, h)))
 
@@ -54,8 +54,8 @@ agree (suc k) i (b ∷ rest) h = agree_by k i b rest h (λ v. agree k (i + 1) v)
 
 bank_by : (t : List ℕ) (o : Option (Field × List ℕ)) → field_after 78 10 t ≡ o → is_none (bank (length t) t) ≡ is_some (first_wrong t)
 unfolding bank
-bank_by t none e = rw (need_wrong t e, e) refl
-bank_by t (some (f, v)) e =
+bank_by t None e = rw (need_wrong t e, e) refl
+bank_by t (Some (f, v)) e =
     let less = shorter t (78 ∷ 32 ∷ field_text f ++ (10 ∷ [])) v (subst (Says (λ (x : Field). 78 ∷ 32 ∷ field_text x ++ (10 ∷ [])) t) e (after_says 78 10 t)) (omega arith) in
     rw (need_passed t v f e, e) (none_mapped _ (cylinders (length t) v) ∙ agree (length t) 2 v (omega (arith, less)))
 

@@ -1,8 +1,8 @@
 -- One turn of the loop that passes the lines of a text: so many were passed and are in the form, and the rest is left. Assumes nothing.
+use Rattle.std.specs.Prelude.{Some, None}
 use mathlib.Core.Path.{◌≡◌, refl, ap, ◌∙◌}
 use mathlib.Core.Bool.{Bool, true, false}
 use mathlib.Core.List.{List, [], ◌∷◌, ◌++◌, append_assoc}
-use mathlib.Core.Option.{none, some}
 use Prim.Native.Nat.{ℕ, ◌+◌, ◌≤◌, ◌<◌}
 use native.Mathlib.Omega.{arith}
 use lib.Dec.{eqb}
@@ -47,28 +47,28 @@ first b rest = first_by b rest (eqb b 10) refl
 abbrev need_text : Field → List ℕ
 need_text f = 78 ∷ 32 ∷ field_text f ++ (10 ∷ [])
 
-need_back : (f : Field) → Small f → (rest : List ℕ) → field_after 78 10 (need_text f ++ rest) ≡ some (f, rest)
+need_back : (f : Field) → Small f → (rest : List ℕ) → field_after 78 10 (need_text f ++ rest) ≡ Some (f, rest)
 need_back f h rest = ap (λ (l : List ℕ). field_after 78 10 (78 ∷ 32 ∷ l)) (append_assoc (field_text f) (10 ∷ []) rest) ∙ after_back 78 10 refl f h rest
 
-need_off : (u v : List ℕ) (f : Field) → field_after 78 10 u ≡ some (f, v) → cut u ≡ need_text f ∷ cut v
+need_off : (u v : List ℕ) (f : Field) → field_after 78 10 u ≡ Some (f, v) → cut u ≡ need_text f ∷ cut v
 need_off = cut_off (field_after 78 10) need_text Small need_back (after_says 78 10) (after_small 78 10) need_line
 
-need_is : (u v : List ℕ) (f : Field) → field_after 78 10 u ≡ some (f, v) → is_need (need_text f) ≡ true
+need_is : (u v : List ℕ) (f : Field) → field_after 78 10 u ≡ Some (f, v) → is_need (need_text f) ≡ true
 unfolding is_need
 need_is = is_whole (field_after 78 10) need_text Small need_back (after_says 78 10) (after_small 78 10) need_line
 
-need_not : (u l : List ℕ) (ls : List (List ℕ)) → field_after 78 10 u ≡ none → cut u ≡ l ∷ ls → is_need l ≡ false
+need_not : (u l : List ℕ) (ls : List (List ℕ)) → field_after 78 10 u ≡ None → cut u ≡ l ∷ ls → is_need l ≡ false
 unfolding is_need
 need_not = not_whole (field_after 78 10) need_text Small need_back (after_says 78 10) (after_small 78 10) need_line
 
-cylinder_off : (u v : List ℕ) (c : Cylinder) → cylinder u ≡ some (c, v) → cut u ≡ cylinder_text c ∷ cut v
+cylinder_off : (u v : List ℕ) (c : Cylinder) → cylinder u ≡ Some (c, v) → cut u ≡ cylinder_text c ∷ cut v
 cylinder_off = cut_off cylinder cylinder_text AllSmall cylinder_back cylinder_says cylinder_all cylinder_line
 
-cylinder_is : (u v : List ℕ) (c : Cylinder) → cylinder u ≡ some (c, v) → is_cylinder (cylinder_text c) ≡ true
+cylinder_is : (u v : List ℕ) (c : Cylinder) → cylinder u ≡ Some (c, v) → is_cylinder (cylinder_text c) ≡ true
 unfolding is_cylinder
 cylinder_is = is_whole cylinder cylinder_text AllSmall cylinder_back cylinder_says cylinder_all cylinder_line
 
-cylinder_not : (u l : List ℕ) (ls : List (List ℕ)) → cylinder u ≡ none → cut u ≡ l ∷ ls → is_cylinder l ≡ false
+cylinder_not : (u l : List ℕ) (ls : List (List ℕ)) → cylinder u ≡ None → cut u ≡ l ∷ ls → is_cylinder l ≡ false
 unfolding is_cylinder
 cylinder_not = not_whole cylinder cylinder_text AllSmall cylinder_back cylinder_says cylinder_all cylinder_line
 
@@ -80,20 +80,20 @@ unfolding cut
 lines_cut [] l ls e = absurd (let z : ◌≡◌ {A = ℕ} 0 1 = cc in omega arith)
 lines_cut (b ∷ rest) l ls e = e
 
-pub need_passed : (s v : List ℕ) (f : Field) → field_after 78 10 s ≡ some (f, v) → first_wrong s ≡ wrong_cylinder 2 (cut v)
+pub need_passed : (s v : List ℕ) (f : Field) → field_after 78 10 s ≡ Some (f, v) → first_wrong s ≡ wrong_cylinder 2 (cut v)
 unfolding first_wrong
 need_passed s v f e = rw (lines_cut s _ _ (need_off s v f e), need_is s v f e) refl
 
-pub need_wrong : (s : List ℕ) → field_after 78 10 s ≡ none → first_wrong s ≡ some (1, lines_of s)
+pub need_wrong : (s : List ℕ) → field_after 78 10 s ≡ None → first_wrong s ≡ Some (1, lines_of s)
 unfolding first_wrong is_need field_after byte
 need_wrong [] e = refl
 need_wrong (b ∷ rest) e = let x = first b rest in rw (x.is, need_not (b ∷ rest) x.l x.ls e x.is) refl
 
-pub cylinder_passed : (i : ℕ) (u v : List ℕ) (c : Cylinder) → cylinder u ≡ some (c, v) → wrong_cylinder i (cut u) ≡ wrong_cylinder (i + 1) (cut v)
+pub cylinder_passed : (i : ℕ) (u v : List ℕ) (c : Cylinder) → cylinder u ≡ Some (c, v) → wrong_cylinder i (cut u) ≡ wrong_cylinder (i + 1) (cut v)
 unfolding wrong_cylinder
 cylinder_passed i u v c e = rw (cylinder_off u v c e, cylinder_is u v c e) refl
 
-pub cylinder_wrong : (i b : ℕ) (u rest : List ℕ) → u ≡ b ∷ rest → cylinder u ≡ none → wrong_cylinder i (cut u) ≡ some (i, lines_of u)
+pub cylinder_wrong : (i b : ℕ) (u rest : List ℕ) → u ≡ b ∷ rest → cylinder u ≡ None → wrong_cylinder i (cut u) ≡ Some (i, lines_of u)
 unfolding wrong_cylinder
 cylinder_wrong i b u rest g e =
     let x = first b rest in
@@ -111,12 +111,12 @@ pub begun : (s : List ℕ) (f : Field) (n : ℕ) → Leaves s 0 (field_after 78 
 begun s f n l = record { rest = need_passed s (drop n s) f l.0; within = l.2; few = l.1 }
 
 module _ {s : List ℕ} {passed at : ℕ} (t : Passed s passed at) where
-  pub done : length s ≤ at → first_wrong s ≡ none
+  pub done : length s ≤ at → first_wrong s ≡ None
   unfolding cut wrong_cylinder
   done h = t.rest ∙ rw (drop_of_length-le s h)
 
   module _ (h : at < length s) where
-    pub stops : line (drop at s) ≡ none → first_wrong s ≡ some (passed + 1, lines_of (drop at s))
+    pub stops : line (drop at s) ≡ None → first_wrong s ≡ Some (passed + 1, lines_of (drop at s))
     stops e = t.rest ∙ cylinder_wrong (passed + 1) _ (drop at s) _ (front s at h) (no_line (drop at s) e)
 
     pub one_more : (l : Line) (n : ℕ) → Leaves s at (line (drop at s)) l n → Passed s (passed + 1) n

@@ -1,8 +1,8 @@
 -- No second answer meets a public function's promise. Assumes nothing.
+use Rattle.std.specs.Prelude.{Option, Some}
 use contract.Lifetimes.{Lfts}
 use mathlib.Core.Path.{◌≡◌, refl, sym, ap, ◌∙◌}
 use mathlib.Core.List.{List}
-use mathlib.Core.Option.{Option, some}
 use Prim.Native.Nat.{ℕ, ◌-◌, ◌≤◌}
 use native.Mathlib.Omega.{arith}
 use lib.ListN.{length, drop, length-drop}
@@ -20,7 +20,7 @@ one_place t n m h g e =
     let l : length t - n ≡ length t - m = sym (length-drop n t) ∙ ap length d ∙ length-drop m t in
     omega (arith, h, g, l)
 
-one_line : {A : Type 0} (o : Option (ℕ × A)) (i j : ℕ) (x y : A) → o ≡ some (i, x) → o ≡ some (j, y) → (i ≡ j) × (x ≡ y)
+one_line : {A : Type 0} (o : Option (ℕ × A)) (i j : ℕ) (x y : A) → o ≡ Some (i, x) → o ≡ Some (j, y) → (i ≡ j) × (x ≡ y)
 one_line {A} o i j x y e f =
     let p : ◌≡◌ {A = ℕ × A} (i, x) (j, y) = cc in
     (ap (λ (q : ℕ × A). q.0) p, ap (λ (q : ℕ × A). q.1) p)

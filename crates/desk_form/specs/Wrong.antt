@@ -1,6 +1,5 @@
 -- RULES 14.5: the first line of a text that is not in the form at its place. Definitions only.
-use Rattle.std.specs.Prelude.{ℕ, ◌+◌, ◌≤◌, ◌≡◌, Bool, true, false, cond, List, [], ◌∷◌, eqb, length, drop}
-use Rattle.std.proofs.Math.Option.{Option, none, some}
+use Rattle.std.specs.Prelude.{ℕ, ◌+◌, ◌≤◌, ◌≡◌, Bool, true, false, cond, List, [], ◌∷◌, eqb, length, drop, Option, Some, None}
 use Rattle.sheet_text.specs.Field.{field_after}
 use Rattle.sheet_line.specs.Cylinder.{cylinder}
 use Rattle.desk_form.specs.declared.wrong.Wrong.{Wrong}
@@ -25,9 +24,9 @@ lines_of (b ∷ rest) = cut (b ∷ rest)
 
 -- all of it is read
 abbrev pub whole : {A : Type 0} → Option (A × List ℕ) → Bool
-whole none = false
-whole (some (a, [])) = true
-whole (some (a, b ∷ rest)) = false
+whole None = false
+whole (Some (a, [])) = true
+whole (Some (a, b ∷ rest)) = false
 
 -- that of the need, `N` and a number, and a cylinder's
 unfoldable pub is_need : List ℕ → Bool
@@ -39,17 +38,17 @@ is_cylinder l = whole (cylinder l)
 -- ---- the first line that isn't, by its place among the lines, the first having 1; and the lines from it on
 
 unfoldable pub wrong_cylinder : ℕ → List (List ℕ) → Option (ℕ × List (List ℕ))
-wrong_cylinder i [] = none
-wrong_cylinder i (l ∷ ls) = cond (is_cylinder l) (wrong_cylinder (i + 1) ls) (some (i, l ∷ ls))
+wrong_cylinder i [] = None
+wrong_cylinder i (l ∷ ls) = cond (is_cylinder l) (wrong_cylinder (i + 1) ls) (Some (i, l ∷ ls))
 
 abbrev pub wrong_in : List (List ℕ) → Option (ℕ × List (List ℕ))
-wrong_in [] = none
-wrong_in (l ∷ ls) = cond (is_need l) (wrong_cylinder 2 ls) (some (1, l ∷ ls))
+wrong_in [] = None
+wrong_in (l ∷ ls) = cond (is_need l) (wrong_cylinder 2 ls) (Some (1, l ∷ ls))
 
 unfoldable pub first_wrong : List ℕ → Option (ℕ × List (List ℕ))
 first_wrong t = wrong_in (lines_of t)
 
 -- what the code's answer says of a text: the line, and that it begins at a place
 abbrev pub WrongIs : List ℕ → Wrong → Type 0
-WrongIs t Wrong.Nowhere = first_wrong t ≡ none
-WrongIs t (Wrong.Line i from) = (first_wrong t ≡ some (i, lines_of (drop from t))) × (from ≤ length t)
+WrongIs t Wrong.Nowhere = first_wrong t ≡ None
+WrongIs t (Wrong.Line i from) = (first_wrong t ≡ Some (i, lines_of (drop from t))) × (from ≤ length t)

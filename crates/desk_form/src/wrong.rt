@@ -1,8 +1,8 @@
 // RULES 14.5: the first line of a text that is not in the form at its place.
 ghost use Rattle.desk_form.specs.Wrong.{WrongIs};
 
-use sheet_line::line::{LineAt, read_line};
-use sheet_text::{FieldAt, read_field_after};
+use sheet_line::line::{read_line};
+use sheet_text::{read_field_after};
 
 // The line's place among the lines, the first having 1, and where it begins in the text.
 #[derive(Clone, Copy)]
@@ -15,13 +15,13 @@ pub enum Wrong {
 pub fn first_wrong(s: &[u8]) -> Wrong
     ensures { WrongIs s.now result }
 {
-    let FieldAt::Found(_, from) = read_field_after(s, 0, b'N', b'\n') else {
+    let Some((_, from)) = read_field_after(s, 0, b'N', b'\n') else {
         return Wrong::Line(1, 0);
     };
     let mut passed: usize = 1;
     let mut at = from;
     while at < s.len() {
-        let LineAt::Found(_, next) = read_line(s, at) else {
+        let Some((_, next)) = read_line(s, at) else {
             return Wrong::Line(passed + 1, at);
         };
         passed += 1;

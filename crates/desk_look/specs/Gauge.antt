@@ -1,5 +1,5 @@
 -- RULES 14.4: a gauge that can't tell how much a cylinder holds, since it stands by the vapour pressure. Definitions only.
-use Rattle.std.specs.Prelude.{ℕ, Bool, not, cond, Float, Some, None, Ok, Err}
+use Rattle.std.specs.Prelude.{ℕ, Bool, not, cond, Float, Some, None, Ok, Err, Option}
 use Rattle.std.specs.Float.{binary64}
 use Rattle.std.specs.Float.Ieee.{neg, sub, mul}
 use Rattle.num_working.specs.Number.{whole}
@@ -15,6 +15,10 @@ use Rattle.sheet_line.specs.declared.line.Reading.{Reading}
 use Rattle.sheet_line.specs.declared.line.Line.{Line}
 use Rattle.sheet_weigh.specs.Weighing.{is_volume}
 use Rattle.desk_look.specs.declared.gauge.Doubt.{Doubt}
+
+-- what a gauge that can't tell leaves open; none where it tells
+abbrev pub Gauge : Type 0
+Gauge = Option Doubt
 
 -- within 2 bar, in Pa, both ends inside: one difference
 unfoldable pub near : Float → Float → Bool

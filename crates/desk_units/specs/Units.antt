@@ -1,10 +1,14 @@
 -- RULES 14.2: the numbers of a sheet and of an answer in the units of a person, all by whole numbers. Definitions only.
-use Rattle.std.specs.Prelude.{ℕ, zero, suc, ◌+◌, ◌-◌, ◌/◌, ◌%◌, Bool, true, false, cond, ltb, eqb, Float, Some, None}
+use Rattle.std.specs.Prelude.{ℕ, zero, suc, ◌+◌, ◌-◌, ◌/◌, ◌%◌, Bool, true, false, cond, ltb, eqb, Float, Some, None, Option}
 use Rattle.std.specs.Float.{binary64}
 use Rattle.std.specs.Float.Ieee.{mul}
 use Rattle.num_working.specs.Number.{whole}
 use Rattle.num_whole.specs.Whole.{whole_below, Below}
 use Rattle.desk_units.specs.declared.Shown.{Shown}
+
+-- a number that could be had, or none
+abbrev pub Figure : Type 0
+Figure = Option Shown
 
 -- digits, so many of them behind the point
 abbrev pub with : Bool → ℕ → ℕ → Shown

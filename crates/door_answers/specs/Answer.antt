@@ -1,8 +1,13 @@
 -- RULES 3.5: what a door answers, a state or a refusal's number and nothing else. Definitions only.
 use Rattle.refusal.specs.Refused.{refused}
-use Rattle.std.specs.Prelude.{ℕ, Some, None, Ok, Err}
+use Rattle.std.specs.Prelude.{ℕ, Some, None, Ok, Err, Result}
 use Rattle.eos_state.specs.State.{Stated}
 use Rattle.door_checks.specs.Check.{Check}
+use Rattle.refusal.specs.declared.Refusal.{Refusal}
+
+-- RULES 3.5: a state, or a refusal and nothing else
+abbrev pub Answer : Type 0
+Answer = Result State Refusal
 
 -- a refusal, or what the steps after the check answer
 abbrev pub passed : Check → Answer → Answer

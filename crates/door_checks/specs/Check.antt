@@ -1,11 +1,16 @@
 -- RULES 3.1 and 3.3: the checks on what is asked of a door, x being the pressure or the density; and RULES 5.4, on a pressure. Definitions only.
 use Rattle.refusal.specs.Refused.{refused}
-use Rattle.std.specs.Prelude.{cond, ◌&&◌, not, ℕ, Float, Ok, Err}
+use Rattle.std.specs.Prelude.{cond, ◌&&◌, not, ℕ, Float, Ok, Err, Result}
 use Rattle.std.specs.Float.Ieee.{lt}
 use Rattle.std.specs.Float.Ieee.Scale.{finite}
 use Rattle.num_working.specs.Working.{or_else, Worked}
 use Rattle.door_limits.specs.Limits.{outside}
 use Rattle.door_limits.specs.declared.Range.{Range}
+use Rattle.refusal.specs.declared.Refusal.{Refusal}
+
+-- a check is passed, or refuses
+abbrev pub Check : Type 0
+Check = Result (Unit {0}) Refusal
 
 -- the first that holds: 3 where one of the two is infinite or not a number, 4 where the temperature is out of its range, 5 where x is
 unfoldable pub ranged : Range → Range → Float → Float → Check

@@ -1,10 +1,18 @@
 -- RULES 5.5: what a door answers that may be asked for the thermal conductivity too, over any equation. Definitions only.
 use Rattle.refusal.specs.Refused.{refused}
-use Rattle.std.specs.Prelude.{Bool, cond, Some, None, Ok, Err}
+use Rattle.std.specs.Prelude.{Bool, cond, Some, None, Ok, Err, Result, Option, Float}
 use Rattle.num_working.specs.Working.{or_else}
 use Rattle.eos_state.specs.declared.State.{State}
 use Rattle.equation.specs.Equation.{Equation}
 use Rattle.door_answers.specs.Answer.{Answer}
+use Rattle.refusal.specs.declared.Refusal.{Refusal}
+
+-- none where it was not asked for
+abbrev pub Conductivity : Type 0
+Conductivity = Option Float
+
+abbrev pub Conducted : Type 0
+Conducted = Result Carried Refusal
 
 abbrev pub carrying : State → Conductivity → Conducted
 carrying s conductivity = Ok (record { state = s; conductivity = conductivity })

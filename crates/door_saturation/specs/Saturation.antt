@@ -1,12 +1,16 @@
 -- RULES 5.6: the vapour pressure and the two saturated densities at a temperature, over any equation and limits. Definitions only.
 use Rattle.refusal.specs.Refused.{refused}
-use Rattle.std.specs.Prelude.{cond, not, Float, Ok}
+use Rattle.std.specs.Prelude.{cond, not, Float, Ok, Result}
 use Rattle.std.specs.Float.Ieee.{lt}
 use Rattle.std.specs.Float.Ieee.Scale.{finite}
 use Rattle.num_working.specs.Working.{or_else}
 use Rattle.equation.specs.Equation.{Equation}
 use Rattle.door_limits.specs.Limits.{outside}
 use Rattle.door_limits.specs.declared.Limits.{Limits}
+use Rattle.refusal.specs.declared.Refusal.{Refusal}
+
+abbrev pub Saturated : Type 0
+Saturated = Result Saturation Refusal
 
 -- 7 where one of the three fails
 unfoldable pub worked_at : Equation → Float → Saturated

@@ -1,5 +1,5 @@
 -- RULES 4.8 (docs/ARRANGEMENT.md, section 7): the sums of the residual part, from the first row on in the table's order. Definitions only.
-use Rattle.std.specs.Prelude.{ℕ, ◌-◌, ◌≡◌, Bool, T, List, [], ◌∷◌, ◌++◌, get_or, Float, Some, None}
+use Rattle.std.specs.Prelude.{ℕ, ◌-◌, ◌≡◌, Bool, T, List, [], ◌∷◌, ◌++◌, get_or, Float, Some, None, Option}
 use Rattle.std.specs.Float.{nan}
 use Rattle.num_working.specs.Working.{checked, or_else, ◌+ᵂ◌, Worked}
 use Rattle.num_formulas.specs.Formula.{num, ◌⊗◌, ◌^^◌, work}
@@ -13,6 +13,10 @@ use Rattle.eos_isotherm.specs.declared.Isotherm.{Isotherm}
 use Rattle.eos_residual.specs.declared.sum.Residual.{Residual}
 use Rattle.eos_brackets.specs.Derivative.{Derivative, Delta, DeltaDelta, Tau, TauTau, DeltaTau, of, asked}
 use Rattle.eos_brackets.specs.declared.Five.{Five}
+
+-- all five sums, or none where one of them failed
+abbrev pub Sums : Type 0
+Sums = Option Five
 
 -- w, and then each figure added to it, in order
 unfoldable pub onto : Worked → List Worked → Worked

@@ -1,6 +1,6 @@
 -- RULES 4.9: the state at a temperature and a density, each field by its own formula (docs/ARRANGEMENT.md, section 9; 004, Table 3), or a failure.
 -- Definitions only.
-use Rattle.std.specs.Prelude.{ℕ, Float, List, [], ◌∷◌, Some, None}
+use Rattle.std.specs.Prelude.{ℕ, Float, List, [], ◌∷◌, Some, None, Option}
 use Rattle.num_working.specs.Working.{or_else, Worked}
 use Rattle.num_formulas.specs.Formula.{Formula, num, one, two, ◌⊕◌, ◌⊖◌, ◌⊗◌, ◌⊘◌, minus, root, value, work}
 use Rattle.eos_constants.specs.Constant.{span_wagner}
@@ -14,6 +14,10 @@ use Rattle.eos_ideal.specs.Ideal.{ideal_part}
 use Rattle.eos_pressure.specs.Pressure.{pressure_formula}
 use Rattle.eos_state.specs.declared.Phase.{Phase}
 use Rattle.eos_state.specs.declared.State.{State}
+
+-- a state, or none where a working failed
+abbrev pub Stated : Type 0
+Stated = Option State
 
 -- ---- Table 3, with S₁ to S₅ the sums, i1 = τφ°_τ and i2 = τ²φ°_ττ
 

@@ -1,9 +1,14 @@
 -- RULES 4.4: the exponential eˣ, and what it says with its answer. Definitions only.
-use Rattle.std.specs.Prelude.{ℕ, zero, suc, Bool, false, cond, Float, Some, None}
+use Rattle.std.specs.Prelude.{ℕ, zero, suc, Bool, false, cond, Float, Some, None, Option}
 use Rattle.std.specs.Float.Ieee as Ieee
 use Rattle.std.specs.Float.Ieee.Scale.{finite}
 use Rattle.num_working.specs.Number.{whole}
 use Rattle.num_working.specs.Working.{checked, or_else, ◌-ᵂ◌, ◌*ᵂ◌, ◌/ᵂ◌, Worked}
+use Rattle.num_exponential.specs.declared.exponential.Said.{Said}
+
+-- an answer and what is said with it; none where it is refused
+abbrev pub Raised : Type 0
+Raised = Option Said
 
 -- s becomes 1 − (y/k)·s for k, k − 1, .., 1
 unfoldable pub series : Worked → ℕ → Worked → Worked

@@ -1,9 +1,14 @@
 -- RULES 4.5: halving, over whatever figure is probed. Definitions only.
 use Rattle.num_halving.specs.declared.Missed.TheVariants.{Nowhere, Broke}
-use Rattle.std.specs.Prelude.{ℕ, zero, suc, ◌+◌, ◌-◌, ◌/◌, ◌≤◌, ◌≡◌, true, false, cond, leb, eqb, Float, Some, None, Ok, Err}
+use Rattle.std.specs.Prelude.{ℕ, zero, suc, ◌+◌, ◌-◌, ◌/◌, ◌≤◌, ◌≡◌, true, false, cond, leb, eqb, Float, Some, None, Ok, Err, Result}
 use Rattle.std.specs.Float.Ieee.{lt}
 use Rattle.std.specs.Float.Ieee.Scale.{finite}
 use Rattle.num_working.specs.Working.{Worked}
+use Rattle.num_halving.specs.declared.Missed.{Missed}
+
+-- where the figure passes the target, or why that is not known
+abbrev pub Crossing : Type 0
+Crossing = Result ℕ Missed
 
 -- a figure: what is worked at each number of bits
 abbrev pub Figure : Type 0

@@ -1,8 +1,12 @@
 -- RULES 6.5: the whole number at or below a float. Definitions only.
-use Rattle.std.specs.Prelude.{ℕ, ◌/◌, ◌^◌, cond, Float, Some, None}
+use Rattle.std.specs.Prelude.{ℕ, ◌/◌, ◌^◌, cond, Float, Some, None, Option}
 use Rattle.std.specs.Float.Ieee.{le}
 use Rattle.std.specs.Float.Ieee.Positive.{num, den}
 use Rattle.num_working.specs.Number.{whole}
+
+-- a whole number, or none where the float is out of the range
+abbrev pub Below : Type 0
+Below = Option ℕ
 
 -- a finite number's size, cut to a whole number
 abbrev pub cut : Float → ℕ

@@ -1,7 +1,11 @@
 -- RULES 4.2: a number that was worked is finite, or the working has failed. Definitions only.
 use Rattle.std.specs.Float.Ieee as Ieee
-use Rattle.std.specs.Prelude.{Float, Some, None}
+use Rattle.std.specs.Prelude.{Float, Some, None, Option}
 use Rattle.std.specs.Float.{nan, inf, fin, binary64}
+
+-- a number that was worked, or none where the working has failed
+abbrev pub Worked : Type 0
+Worked = Option Float
 
 -- a number, failed where it is not finite
 abbrev pub checked : Float → Worked

@@ -1,7 +1,7 @@
 -- One step of reading a kind, by what stands at the place; and what is read from a later place on is read past an earlier one.
+use Rattle.std.specs.Prelude.{Option, Some, None}
 use mathlib.Core.Path.{◌≡◌}
 use mathlib.Core.List.{List}
-use mathlib.Core.Option.{Option, none, some}
 use Prim.Native.Nat.{ℕ, ◌+◌, ◌≤◌, ◌<◌}
 use native.Mathlib.Omega.{arith}
 use lib.ListN.{length, drop, get_or, drop_of_length-le}
@@ -10,30 +10,29 @@ use Rattle.sheet_text.proofs.Parses.{front}
 use Rattle.sheet_line.specs.Cylinder.{kind, CylinderIs}
 use Rattle.sheet_line.specs.declared.cylinder.Kind.TheVariants.{Pressure, Density, Weighed}
 use Rattle.sheet_line.specs.declared.cylinder.Cylinder.{Cylinder}
-use Rattle.sheet_line.specs.declared.cylinder.CylinderAt.{CylinderAt}
 
 module _ (s : List ℕ) (at : ℕ) where
-  pub kind_end : length s ≤ at → kind (drop at s) ≡ none
+  pub kind_end : length s ≤ at → kind (drop at s) ≡ None
   unfolding kind
   kind_end h = rw (drop_of_length-le s h)
 
   module _ (h : at < length s) where
-    pub kind_pressure : get_or s at 0 ≡ 80 → kind (drop at s) ≡ some (Pressure, drop (at + 1) s)
+    pub kind_pressure : get_or s at 0 ≡ 80 → kind (drop at s) ≡ Some (Pressure, drop (at + 1) s)
     unfolding kind
     kind_pressure e = rw (front s at h, e)
 
-    pub kind_density : get_or s at 0 ≡ 68 → kind (drop at s) ≡ some (Density, drop (at + 1) s)
+    pub kind_density : get_or s at 0 ≡ 68 → kind (drop at s) ≡ Some (Density, drop (at + 1) s)
     unfolding kind
     kind_density e = rw (front s at h, e)
 
-    pub kind_weighed : get_or s at 0 ≡ 87 → kind (drop at s) ≡ some (Weighed, drop (at + 1) s)
+    pub kind_weighed : get_or s at 0 ≡ 87 → kind (drop at s) ≡ Some (Weighed, drop (at + 1) s)
     unfolding kind
     kind_weighed e = rw (front s at h, e)
 
-    pub kind_other : (get_or s at 0 ≡ 80 → ⊥) → (get_or s at 0 ≡ 68 → ⊥) → (get_or s at 0 ≡ 87 → ⊥) → kind (drop at s) ≡ none
+    pub kind_other : (get_or s at 0 ≡ 80 → ⊥) → (get_or s at 0 ≡ 68 → ⊥) → (get_or s at 0 ≡ 87 → ⊥) → kind (drop at s) ≡ None
     unfolding kind
     kind_other n m w = rw (front s at h, ne_eqb _ _ n, ne_eqb _ _ m, ne_eqb _ _ w)
 
-pub cylinder_from : (s : List ℕ) (at from : ℕ) (p : Option (Cylinder × List ℕ)) (r : CylinderAt) → CylinderIs s from p r → at < from → CylinderIs s at p r
-cylinder_from s at from p CylinderAt.Bad x h = x
-cylinder_from s at from p (CylinderAt.Found c n) x h = (x.0, omega (arith, x.1), x.2)
+pub cylinder_from : (s : List ℕ) (at from : ℕ) (p : Option (Cylinder × List ℕ)) (r : Option (Cylinder × ℕ)) → CylinderIs s from p r → at < from → CylinderIs s at p r
+cylinder_from s at from p None x h = x
+cylinder_from s at from p (Some (c, n)) x h = (x.0, omega (arith, x.1), x.2)

@@ -1,8 +1,7 @@
 -- A field's number has at most 10 digits, in the record too, so a float holds it; and the line that is read is that of the cylinder that is read.
-use Rattle.std.specs.Prelude.{Some, None}
+use Rattle.std.specs.Prelude.{Some, None, Option}
 use mathlib.Core.Path.{◌≡◌, refl, sym, ◌∙◌}
 use mathlib.Core.List.{List}
-use mathlib.Core.Option.{Option, none, some}
 use Prim.Native.Nat.{ℕ, ◌<◌}
 use native.Mathlib.Omega.{arith}
 use lib.Dec.{T, le→leb}
@@ -49,22 +48,22 @@ small_record c h = record { temperature = h.temperature; reading = small_reading
 -- l is the line of a cylinder that stands at the front of u, with r after it
 pub record Of (u : List ℕ) (l : Line) (r : List ℕ) : Type 0 where
   pub c : Cylinder
-  pub read : cylinder u ≡ some (c, r)
+  pub read : cylinder u ≡ Some (c, r)
   pub is : l ≡ line_of c
 
 module _ (u : List ℕ) where
-  none_of : (o : Option (Cylinder × List ℕ)) → and_then o (λ c. give (line_of c)) ≡ none → o ≡ none
-  none_of none e = refl
-  none_of (some p) e = absurd (none_or_some e refl)
+  none_of : (o : Option (Cylinder × List ℕ)) → and_then o (λ c. give (line_of c)) ≡ None → o ≡ None
+  none_of None e = refl
+  none_of (Some p) e = absurd (none_or_some e refl)
 
-  some_of : (l : Line) (r : List ℕ) (o : Option (Cylinder × List ℕ)) → cylinder u ≡ o → and_then o (λ c. give (line_of c)) ≡ some (l, r) → Of u l r
-  some_of l r none e f = absurd (none_or_some refl f)
-  some_of l r (some p) e f = let g = read_once (line_of p.0) l p.1 r f in record { c = p.0; read = e ∙ rw g.1; is = sym g.0 }
+  some_of : (l : Line) (r : List ℕ) (o : Option (Cylinder × List ℕ)) → cylinder u ≡ o → and_then o (λ c. give (line_of c)) ≡ Some (l, r) → Of u l r
+  some_of l r None e f = absurd (none_or_some refl f)
+  some_of l r (Some p) e f = let g = read_once (line_of p.0) l p.1 r f in record { c = p.0; read = e ∙ rw g.1; is = sym g.0 }
 
-  pub no_line : line u ≡ none → cylinder u ≡ none
+  pub no_line : line u ≡ None → cylinder u ≡ None
   unfolding line
   no_line e = none_of (cylinder u) e
 
-  pub of_cylinder : (l : Line) (r : List ℕ) → line u ≡ some (l, r) → Of u l r
+  pub of_cylinder : (l : Line) (r : List ℕ) → line u ≡ Some (l, r) → Of u l r
   unfolding line
   of_cylinder l r e = some_of l r (cylinder u) refl e

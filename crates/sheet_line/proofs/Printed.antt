@@ -1,7 +1,7 @@
 -- Reading a cylinder's line and printing it undo each other, and what is read has 10 digits at most.
+use Rattle.std.specs.Prelude.{Some}
 use mathlib.Core.Path.{◌≡◌, refl, ap, subst, ◌∙◌}
 use mathlib.Core.List.{List, [], ◌∷◌, ◌++◌, append_assoc}
-use mathlib.Core.Option.{some}
 use Prim.Native.Nat.{ℕ}
 use lib.Dec.{eqb}
 use borrow.Author.Tests.{eqb-true}
@@ -33,13 +33,13 @@ opened c rest = simp append_assoc
 
 -- ---- what is printed is read back
 
-kind_back : (k : Kind) (rest : List ℕ) → kind (kind_letter k ∷ rest) ≡ some (k, rest)
+kind_back : (k : Kind) (rest : List ℕ) → kind (kind_letter k ∷ rest) ≡ Some (k, rest)
 unfolding kind
 kind_back Pressure rest = refl
 kind_back Density rest = refl
 kind_back Weighed rest = refl
 
-pub cylinder_back : (c : Cylinder) → AllSmall c → (rest : List ℕ) → cylinder (cylinder_text c ++ rest) ≡ some (c, rest)
+pub cylinder_back : (c : Cylinder) → AllSmall c → (rest : List ℕ) → cylinder (cylinder_text c ++ rest) ≡ Some (c, rest)
 unfolding cylinder reading
 cylinder_back c w rest =
     rw (opened c rest)
@@ -88,5 +88,5 @@ cylinder_all u =
     (λ v u₅ hv. bind_all Small AllSmall (field_to 10 u₅) _ (to_small 10 u₅)
     (λ m u₆ hm. record { number = hn; temperature = ht; value = hv; volume = hm }))))))
 
-pub cylinder_small : (u : List ℕ) (c : Cylinder) (r : List ℕ) → cylinder u ≡ some (c, r) → AllSmall c
+pub cylinder_small : (u : List ℕ) (c : Cylinder) (r : List ℕ) → cylinder u ≡ Some (c, r) → AllSmall c
 cylinder_small u c r e = subst (All AllSmall) e (cylinder_all u)

@@ -1,14 +1,11 @@
 -- RULES 6.1 and 6.3: a cylinder's line as it is written. Definitions only.
-use Rattle.std.specs.Prelude.{ℕ, ◌≡◌, cond, List, [], ◌∷◌, ◌++◌, eqb}
-use Rattle.std.proofs.Math.Option.{Option, none, some}
+use Rattle.std.specs.Prelude.{ℕ, ◌≡◌, cond, List, [], ◌∷◌, ◌++◌, eqb, Option, Some, None}
 use Rattle.sheet_text.specs.Parse.{Parser, ◌>>=◌, ◌>>◌, give, byte}
 use Rattle.sheet_text.specs.Field.{Small, field_text, field_to, field_after, Field}
 use Rattle.sheet_text.specs.Place.{Leaves}
 use Rattle.sheet_line.specs.declared.cylinder.Kind.{Kind}
 use Rattle.sheet_line.specs.declared.cylinder.Kind.TheVariants.{Pressure, Density, Weighed}
-use Rattle.sheet_line.specs.declared.cylinder.KindAt.{KindAt}
 use Rattle.sheet_line.specs.declared.cylinder.Cylinder.{Cylinder}
-use Rattle.sheet_line.specs.declared.cylinder.CylinderAt.{CylinderAt}
 
 -- ---- as text: `C` is 67, a space 32, LF 10
 
@@ -33,11 +30,11 @@ pub record AllSmall (c : Cylinder) : Type 0 where
 
 -- `P`, `D` or `W`
 unfoldable pub kind : Parser Kind
-kind [] = none
+kind [] = None
 kind (b ∷ rest) =
-    cond (eqb b 80) (some (Pressure, rest))
-    (cond (eqb b 68) (some (Density, rest))
-    (cond (eqb b 87) (some (Weighed, rest)) none))
+    cond (eqb b 80) (Some (Pressure, rest))
+    (cond (eqb b 68) (Some (Density, rest))
+    (cond (eqb b 87) (Some (Weighed, rest)) None))
 
 -- `P`, `D` or `W`, the value and the volume, after a number and a temperature
 unfoldable pub reading : Field → Field → Parser Cylinder
@@ -57,10 +54,10 @@ cylinder = do
 
 -- ---- what the code's answers say of a text s
 
-abbrev pub KindIs : List ℕ → ℕ → Option (Kind × List ℕ) → KindAt → Type 0
-KindIs s at p KindAt.Bad = p ≡ none
-KindIs s at p (KindAt.Found k n) = Leaves s at p k n
+abbrev pub KindIs : List ℕ → ℕ → Option (Kind × List ℕ) → Option (Kind × ℕ) → Type 0
+KindIs s at p None = p ≡ None
+KindIs s at p (Some (k, n)) = Leaves s at p k n
 
-abbrev pub CylinderIs : List ℕ → ℕ → Option (Cylinder × List ℕ) → CylinderAt → Type 0
-CylinderIs s at p CylinderAt.Bad = p ≡ none
-CylinderIs s at p (CylinderAt.Found c n) = Leaves s at p c n
+abbrev pub CylinderIs : List ℕ → ℕ → Option (Cylinder × List ℕ) → Option (Cylinder × ℕ) → Type 0
+CylinderIs s at p None = p ≡ None
+CylinderIs s at p (Some (c, n)) = Leaves s at p c n

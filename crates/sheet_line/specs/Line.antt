@@ -1,6 +1,5 @@
 -- RULES 6.4: what a cylinder's line says. Definitions only.
-use Rattle.std.specs.Prelude.{ℕ, ◌≡◌, List, Some, None}
-use Rattle.std.proofs.Math.Option.{Option, none}
+use Rattle.std.specs.Prelude.{ℕ, ◌≡◌, List, Some, None, Option}
 use Rattle.std.specs.Float.{binary64}
 use Rattle.std.specs.Float.Ieee.{div}
 use Rattle.num_working.specs.Number.{whole}
@@ -14,7 +13,10 @@ use Rattle.sheet_line.specs.declared.record.Recorded.{Recorded}
 use Rattle.sheet_line.specs.declared.record.Record.{Record}
 use Rattle.sheet_line.specs.declared.line.Reading.{Reading}
 use Rattle.sheet_line.specs.declared.line.Line.{Line}
-use Rattle.sheet_line.specs.declared.line.LineAt.{LineAt}
+
+-- in K; none is a blank
+abbrev pub Temperature : Type 0
+Temperature = Option Float
 
 -- the number over 10000, in K, one division
 abbrev pub temperature_of : Field → Temperature
@@ -46,6 +48,6 @@ line = do
   give (line_of c)
 
 -- what the code's answer says of a text s
-abbrev pub LineIs : List ℕ → ℕ → Option (Line × List ℕ) → LineAt → Type 0
-LineIs s at p LineAt.Bad = p ≡ none
-LineIs s at p (LineAt.Found l n) = Leaves s at p l n
+abbrev pub LineIs : List ℕ → ℕ → Option (Line × List ℕ) → Option (Line × ℕ) → Type 0
+LineIs s at p None = p ≡ None
+LineIs s at p (Some (l, n)) = Leaves s at p l n

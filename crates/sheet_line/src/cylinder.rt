@@ -3,20 +3,13 @@
 ghost use Rattle.std.specs.Prelude.{drop};
 ghost use Rattle.sheet_line.specs.Cylinder.{kind, reading, cylinder, KindIs, CylinderIs};
 
-use sheet_text::{FieldAt, read_field_after, read_field_to, skip};
+use sheet_text::{read_field_after, read_field_to, skip};
 
 #[derive(Clone, Copy)]
 pub enum Kind {
     Pressure,
     Density,
     Weighed,
-}
-
-// A kind and the place after it.
-#[derive(Clone, Copy)]
-pub enum KindAt {
-    Bad,
-    Found(Kind, usize),
 }
 
 #[derive(Clone, Copy)]
@@ -28,47 +21,40 @@ pub struct Cylinder {
     pub volume: Option<u64>,
 }
 
-// A cylinder and the place after its line.
-#[derive(Clone, Copy)]
-pub enum CylinderAt {
-    Bad,
-    Found(Cylinder, usize),
-}
-
-fn read_kind(s: &[u8], at: usize) -> KindAt
+fn read_kind(s: &[u8], at: usize) -> Option<(Kind, usize)>
     ensures { KindIs s.now at (kind (drop at s.now)) result }
 {
     if at >= s.len() {
-        return KindAt::Bad;
+        return None;
     }
     let b = s[at];
     if b == b'P' {
-        return KindAt::Found(Kind::Pressure, at + 1);
+        return Some((Kind::Pressure, at + 1));
     }
     if b == b'D' {
-        return KindAt::Found(Kind::Density, at + 1);
+        return Some((Kind::Density, at + 1));
     }
     if b == b'W' {
-        return KindAt::Found(Kind::Weighed, at + 1);
+        return Some((Kind::Weighed, at + 1));
     }
-    KindAt::Bad
+    None
 }
 
 // The rest of a line whose number and temperature are read.
-fn read_reading(s: &[u8], at: usize, number: Option<u64>, temperature: Option<u64>) -> CylinderAt
+fn read_reading(s: &[u8], at: usize, number: Option<u64>, temperature: Option<u64>) -> Option<(Cylinder, usize)>
     ensures { CylinderIs s.now at (reading number temperature (drop at s.now)) result }
 {
-    let KindAt::Found(kind, space_at) = read_kind(s, at) else {
-        return CylinderAt::Bad;
+    let Some((kind, space_at)) = read_kind(s, at) else {
+        return None;
     };
     let Some(value_at) = skip(s, space_at, b' ') else {
-        return CylinderAt::Bad;
+        return None;
     };
-    let FieldAt::Found(value, volume_at) = read_field_to(s, value_at, b' ') else {
-        return CylinderAt::Bad;
+    let Some((value, volume_at)) = read_field_to(s, value_at, b' ') else {
+        return None;
     };
-    let FieldAt::Found(volume, next) = read_field_to(s, volume_at, b'\n') else {
-        return CylinderAt::Bad;
+    let Some((volume, next)) = read_field_to(s, volume_at, b'\n') else {
+        return None;
     };
     let c = Cylinder {
         number: number,
@@ -77,17 +63,17 @@ fn read_reading(s: &[u8], at: usize, number: Option<u64>, temperature: Option<u6
         value: value,
         volume: volume,
     };
-    CylinderAt::Found(c, next)
+    Some((c, next))
 }
 
-pub fn read_cylinder(s: &[u8], at: usize) -> CylinderAt
+pub fn read_cylinder(s: &[u8], at: usize) -> Option<(Cylinder, usize)>
     ensures { CylinderIs s.now at (cylinder (drop at s.now)) result }
 {
-    let FieldAt::Found(number, temperature_at) = read_field_after(s, at, b'C', b' ') else {
-        return CylinderAt::Bad;
+    let Some((number, temperature_at)) = read_field_after(s, at, b'C', b' ') else {
+        return None;
     };
-    let FieldAt::Found(temperature, kind_at) = read_field_to(s, temperature_at, b' ') else {
-        return CylinderAt::Bad;
+    let Some((temperature, kind_at)) = read_field_to(s, temperature_at, b' ') else {
+        return None;
     };
     read_reading(s, kind_at, number, temperature)
 }

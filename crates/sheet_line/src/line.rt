@@ -6,7 +6,7 @@ ghost use Rattle.sheet_line.specs.Cylinder.{AllSmall};
 ghost use Rattle.sheet_line.specs.Record.{SmallReading, SmallRecord};
 ghost use Rattle.sheet_line.specs.Line.{temperature_of, reading_of, line_from, line_of, line, LineIs};
 
-use crate::cylinder::{Cylinder, CylinderAt, read_cylinder};
+use crate::cylinder::{Cylinder, read_cylinder};
 use crate::record::{Record, Recorded, record_of};
 use sheet_mass::Grams;
 
@@ -25,13 +25,6 @@ pub struct Line {
     pub temperature: Option<f64>,
     pub reading: Reading,
     pub volume: Option<u64>,
-}
-
-// A line and the place after it.
-#[derive(Clone, Copy)]
-pub enum LineAt {
-    Bad,
-    Found(Line, usize),
 }
 
 // From 0.1 mK.
@@ -83,11 +76,11 @@ fn line_of(c: Cylinder) -> Line
     line_from(record_of(c))
 }
 
-pub fn read_line(s: &[u8], at: usize) -> LineAt
+pub fn read_line(s: &[u8], at: usize) -> Option<(Line, usize)>
     ensures { LineIs s.now at (line (drop at s.now)) result }
 {
-    let CylinderAt::Found(c, next) = read_cylinder(s, at) else {
-        return LineAt::Bad;
+    let Some((c, next)) = read_cylinder(s, at) else {
+        return None;
     };
-    LineAt::Found(line_of(c), next)
+    Some((line_of(c), next))
 }

@@ -1,7 +1,11 @@
 -- RULES 2.4 and 6.7: a mass that was weighed, in grams, and its milligrams. Definitions only.
-use Rattle.std.specs.Prelude.{ℕ, ◌*◌, Bool, cond, ◌&&◌, leb, Some, None}
+use Rattle.std.specs.Prelude.{ℕ, ◌*◌, Bool, cond, ◌&&◌, leb, Some, None, Option}
 use Rattle.sheet_mass.specs.declared.Grams.{Grams}
 use Rattle.sheet_mass.specs.declared.Milligrams.{Milligrams}
+
+-- a weighed mass, or none where it is out of its range
+abbrev pub Scaled : Type 0
+Scaled = Option Milligrams
 
 -- so many grams, so many milligrams
 abbrev pub as_grams : ℕ → Grams

@@ -1,11 +1,25 @@
 -- RULES 3.4 and 7.2: what a sheet comes to. Definitions only.
 use Rattle.refusal.specs.Refused.{refused}
-use Rattle.std.specs.Prelude.{ℕ, ◌+◌, Bool, not, cond, ◌&&◌, List, [], ◌∷◌, leb, ltb, eqb, take, Some, None, Ok, Err}
+use Rattle.std.specs.Prelude.{ℕ, ◌+◌, Bool, not, cond, ◌&&◌, List, [], ◌∷◌, leb, ltb, eqb, take, Some, None, Ok, Err, Result, Option}
 use Rattle.sheet_text.specs.Field.{Field}
 use Rattle.sheet_mass.specs.Mass.{as_milligrams}
 use Rattle.sheet_outcome.specs.declared.Mark.{Mark}
 use Rattle.sheet_outcome.specs.declared.Marks.{Marks}
 use Rattle.sheet_outcome.specs.declared.Ending.{Ending}
+use Rattle.sheet_mass.specs.declared.Milligrams.{Milligrams}
+use Rattle.refusal.specs.declared.Refusal.{Refusal}
+
+-- of a cylinder's line: its mass, or its refusal
+abbrev pub Weighed : Type 0
+Weighed = Result Milligrams Refusal
+
+-- of a sheet whose lines are to be worked: its need in mg
+abbrev pub Admitted : Type 0
+Admitted = Result ℕ Refusal
+
+-- the masses of all lines together; none where some line was refused
+abbrev pub Summed : Type 0
+Summed = Option Milligrams
 
 -- ---- before the lines are worked: 14, 10, 11, 12, in this order
 

@@ -1,9 +1,9 @@
 -- One turn of the loop that reads the cylinders' lines: what was read stands in front of what is left.
+use Rattle.std.specs.Prelude.{Option, Some, None}
 use mathlib.Core.Path.{◌≡◌, refl, sym, ap, ◌∙◌}
 use mathlib.Core.Bool.{true}
 use mathlib.Core.List.{List, [], ◌∷◌, ◌++◌, map, append_assoc, append-nil}
 use mathlib.Core.Option
-use mathlib.Core.Option.{Option, none, some}
 use Prim.Native.Nat.{ℕ, zero, suc, ◌+◌, ◌-◌, ◌≤◌, ◌<◌}
 use native.Mathlib.Omega.{arith}
 use lib.ListN.{length, drop, set, length-append, length-map, drop_of_length-le}
@@ -25,14 +25,14 @@ abbrev pub after : List Cylinder → Option (List Cylinder) → Option (List Cyl
 after cs = Option.map (λ ds. cs ++ ds)
 
 after_none : (o : Option (List Cylinder)) → after [] o ≡ o
-after_none none = refl
-after_none (some ds) = refl
+after_none None = refl
+after_none (Some ds) = refl
 
 after_more : (cs : List Cylinder) (c : Cylinder) (o : Option (List Cylinder)) → after cs (Option.map (λ ds. c ∷ ds) o) ≡ after (cs ++ (c ∷ [])) o
-after_more cs c none = refl
-after_more cs c (some ds) = rw append_assoc
+after_more cs c None = refl
+after_more cs c (Some ds) = rw append_assoc
 
-pub cylinders_end : (k : ℕ) → cylinders k [] ≡ some []
+pub cylinders_end : (k : ℕ) → cylinders k [] ≡ Some []
 unfolding cylinders
 cylinders_end zero = refl
 cylinders_end (suc k) = refl
@@ -41,11 +41,11 @@ not_at_end : (u : List ℕ) (b : ℕ) (rest : List ℕ) (o : Option (List Cylind
 not_at_end u b rest o e = rw e
 
 module _ (k : ℕ) (u : List ℕ) (b : ℕ) (rest : List ℕ) (e : u ≡ b ∷ rest) where
-  cylinders_bad : cylinder u ≡ none → cylinders (suc k) u ≡ none
+  cylinders_bad : cylinder u ≡ None → cylinders (suc k) u ≡ None
   unfolding cylinders
   cylinders_bad n = not_at_end u b rest _ e ∙ rw n
 
-  pub cylinders_more : (c : Cylinder) (v : List ℕ) → cylinder u ≡ some (c, v) → cylinders (suc k) u ≡ Option.map (λ cs. c ∷ cs) (cylinders k v)
+  pub cylinders_more : (c : Cylinder) (v : List ℕ) → cylinder u ≡ Some (c, v) → cylinders (suc k) u ≡ Option.map (λ cs. c ∷ cs) (cylinders k v)
   unfolding cylinders
   cylinders_more c v n = not_at_end u b rest _ e ∙ rw n
 
@@ -100,16 +100,16 @@ module _ (s : List ℕ) (from : ℕ) (lines : List Line) (count at : ℕ) (t : T
     left : length s - count ≡ suc (length s - (count + 1))
     left = omega (arith, t.passed)
 
-    pub bad : line (drop at s) ≡ none → cylinders (length s) (drop from s) ≡ none
+    pub bad : line (drop at s) ≡ None → cylinders (length s) (drop from s) ≡ None
     bad e = t.rest ∙ rw (left, cylinders_bad _ (drop at s) _ _ (front s at h) (no_line (drop at s) e))
 
-    one_more : (c : Cylinder) (v : List ℕ) → cylinder (drop at s) ≡ some (c, v)
+    one_more : (c : Cylinder) (v : List ℕ) → cylinder (drop at s) ≡ Some (c, v)
         → after t.cs (cylinders (suc (length s - (count + 1))) (drop at s)) ≡ after (t.cs ++ (c ∷ [])) (cylinders (length s - (count + 1)) v)
     one_more c v e =
         ap (after t.cs) (cylinders_more _ (drop at s) _ _ (front s at h) c v e)
         ∙ after_more t.cs c (cylinders (length s - (count + 1)) v)
 
-    pub more : (c : Cylinder) (next : ℕ) → cylinder (drop at s) ≡ some (c, drop next s) → at < next → next ≤ length s
+    pub more : (c : Cylinder) (next : ℕ) → cylinder (drop at s) ≡ Some (c, drop next s) → at < next → next ≤ length s
         → (lines' : List Line) → lines' ≡ kept (t.cs ++ (c ∷ [])) → Turn s from lines' (count + 1) next
     more c next e l m lines' k =
         record {

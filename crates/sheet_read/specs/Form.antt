@@ -1,6 +1,5 @@
 -- RULES 6.1, 6.2 and 6.3: the form of a text, how a sheet is printed and how it is read. Definitions only.
-use Rattle.std.specs.Prelude.{ℕ, zero, suc, cond, List, [], ◌∷◌, ◌++◌, leb, length}
-use Rattle.std.proofs.Math.Option.{Option, none, some, map}
+use Rattle.std.specs.Prelude.{ℕ, zero, suc, cond, List, [], ◌∷◌, ◌++◌, leb, length, Option, Some, None, option_map}
 use Rattle.sheet_text.specs.Parse.{and_then}
 use Rattle.sheet_text.specs.Field.{Small, field_text, field_after, Field}
 use Rattle.sheet_line.specs.Cylinder.{AllSmall, cylinder_text, cylinder}
@@ -34,12 +33,12 @@ pub record Fair (b : Bank) : Type 0 where
 
 -- at the end of the text there are no more cylinders; elsewhere there are those of o
 abbrev pub unless_end : List ℕ → Option (List Cylinder) → Option (List Cylinder)
-unless_end [] o = some []
+unless_end [] o = Some []
 unless_end (b ∷ rest) o = o
 
 -- one cylinder's line after the other, up to the end of the text; the first argument only bounds the recursion
 unfoldable pub cylinders : ℕ → List ℕ → Option (List Cylinder)
-cylinders zero s = unless_end s none
+cylinders zero s = unless_end s None
 cylinders (suc k) s = unless_end s (and_then (cylinder s) (λ c rest. map (λ cs. c ∷ cs) (cylinders k rest)))
 
 -- with the need that stands before them
@@ -52,4 +51,4 @@ bank k t = and_then (field_after 78 10 t) (λ need rest. with_need need (cylinde
 
 -- 65,536 bytes are the most that a text in the form has
 unfoldable pub in_form : List ℕ → Option Bank
-in_form t = cond (leb (length t) 65536) (bank (length t) t) none
+in_form t = cond (leb (length t) 65536) (bank (length t) t) None

@@ -1,6 +1,5 @@
 -- RULES 11: the sheet that a text says, an array of 32 lines and a count. Definitions only.
-use Rattle.std.specs.Prelude.{true, false, [], map, length, None}
-use Rattle.std.proofs.Math.Option.{Option, none, some}
+use Rattle.std.specs.Prelude.{true, false, [], map, length, None, Option, Some}
 use Rattle.sheet_line.specs.Line.{line_of, blank_line}
 use Rattle.sheet_read.specs.Form.{Bank}
 use Rattle.sheet_read.specs.Padded.{padded}
@@ -13,5 +12,5 @@ sheet_of b = record { need = b.need; lines = padded blank_line 32 (map line_of b
 
 -- a text that is not in the form has a blank sheet
 unfoldable pub sheet_read : Option Bank → SheetRead
-sheet_read none = record { ok = false; sheet = sheet_of (record { need = None; cylinders = [] }) }
-sheet_read (some b) = record { ok = true; sheet = sheet_of b }
+sheet_read None = record { ok = false; sheet = sheet_of (record { need = None; cylinders = [] }) }
+sheet_read (Some b) = record { ok = true; sheet = sheet_of b }

@@ -3,13 +3,12 @@
 #![tactic(auto)]
 
 ghost use Rattle.std.specs.Prelude.{◌≡◌, ◌≤◌, length, drop};
-ghost use Rattle.std.proofs.Math.Option.{none};
 ghost use Rattle.sheet_line.specs.Line.{blank_line};
 ghost use Rattle.sheet_read.specs.Form.{cylinders, with_need, in_form};
 ghost use Rattle.sheet_read.specs.Sheet.{sheet_read};
 
-use sheet_line::line::{Line, LineAt, Reading, read_line};
-use sheet_text::{FieldAt, read_field_after};
+use sheet_line::line::{Line, Reading, read_line};
+use sheet_text::{read_field_after};
 
 // The first 32 lines, and how many there are.
 #[derive(Clone, Copy)]
@@ -62,7 +61,7 @@ fn read_lines(s: &[u8], from: usize, need: Option<u64>) -> SheetRead
     let mut count: usize = 0;
     let mut at = from;
     while at < s.len() {
-        let LineAt::Found(line, next) = read_line(s, at) else {
+        let Some((line, next)) = read_line(s, at) else {
             return not_in_form();
         };
         if count < 32 {
@@ -88,7 +87,7 @@ pub fn read_sheet(s: &[u8]) -> SheetRead
     if s.len() > 65536 {
         return not_in_form();
     }
-    let FieldAt::Found(need, at) = read_field_after(s, 0, b'N', b'\n') else {
+    let Some((need, at)) = read_field_after(s, 0, b'N', b'\n') else {
         return not_in_form();
     };
     read_lines(s, at, need)

@@ -1,11 +1,16 @@
 -- RULES 7: the report as bytes. Definitions only.
-use Rattle.std.specs.Prelude.{ℕ, ◌+◌, ◌≤◌, ◌<◌, ◌≡◌, List, [], ◌∷◌, ◌++◌, length, Ok, Err}
+use Rattle.std.specs.Prelude.{ℕ, ◌+◌, ◌≤◌, ◌<◌, ◌≡◌, List, [], ◌∷◌, ◌++◌, length, Ok, Err, Result}
 use Rattle.sheet_text.specs.Decimal.{decimal}
 use Rattle.sheet_write.specs.Writing.{ascii, Wrote}
 use Rattle.sheet_outcome.specs.Outcome.{marks_of, Weighed}
 use Rattle.sheet_outcome.specs.declared.Mark.{Mark}
 use Rattle.sheet_outcome.specs.declared.Ending.{Ending}
 use Rattle.sheet_outcome.specs.declared.Outcome.{Outcome}
+use Rattle.refusal.specs.declared.Refusal.{Refusal}
+
+-- how many bytes were written
+abbrev pub Written : Type 0
+Written = Result ℕ Refusal
 
 -- `M mg` or `R no`, and the line's end
 unfoldable pub weighed_bytes : Weighed → List ℕ

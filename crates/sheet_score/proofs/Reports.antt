@@ -1,9 +1,8 @@
 -- What the arrays of 32 hold is the sheet's lines and their marks, so the outcome's report is the sheet's. Assumes nothing.
-use Rattle.std.specs.Prelude.{Ok, Err}
+use Rattle.std.specs.Prelude.{Ok, Err, Option, Some, None}
 use mathlib.Core.Path.{◌≡◌, refl}
 use mathlib.Core.Bool.{true}
 use mathlib.Core.List.{List, [], map}
-use mathlib.Core.Option.{Option, none, some}
 use Prim.Native.Nat.{ℕ, ◌≤◌}
 use native.Mathlib.Omega.{arith}
 use lib.ListN.{length, take, length-map}
@@ -47,5 +46,5 @@ module _ (L : Limits) where
 
   pub reported : (o : Option Bank) → report_bytes (outcome L (sheet_read o)) ≡ report L o
   unfolding report outcome sheet_read sheet_of admitted
-  reported none = sent_back_lem 14 (marked L (take 0 (padded blank_line 32 (map line_of []))))
-  reported (some b) = by_admission b (admitted true (length b.cylinders) b.need) refl
+  reported None = sent_back_lem 14 (marked L (take 0 (padded blank_line 32 (map line_of []))))
+  reported (Some b) = by_admission b (admitted true (length b.cylinders) b.need) refl

@@ -1,6 +1,5 @@
 -- RULES 3.4, 7.1 and 7.2: a sheet's report. Definitions only.
-use Rattle.std.specs.Prelude.{ℕ, true, List, ◌++◌, map, length, Ok, Err}
-use Rattle.std.proofs.Math.Option.{Option, none, some}
+use Rattle.std.specs.Prelude.{ℕ, true, List, ◌++◌, map, length, Ok, Err, Option, Some, None}
 use Rattle.door_limits.specs.declared.Limits.{Limits}
 use Rattle.sheet_line.specs.Line.{line_of}
 use Rattle.sheet_read.specs.Form.{Bank}
@@ -21,5 +20,5 @@ listed (Ok mg) ms = lines_bytes 1 ms ++ ending_bytes (ending mg (total ms))
 
 -- of a text, from what it says
 unfoldable pub report : Limits → Option Bank → List ℕ
-report L none = sent_back 14
-report L (some b) = listed (admitted true (length b.cylinders) b.need) (marked L (map line_of b.cylinders))
+report L None = sent_back 14
+report L (Some b) = listed (admitted true (length b.cylinders) b.need) (marked L (map line_of b.cylinders))

@@ -3,7 +3,6 @@ use Rattle.std.specs.Prelude.{Some, None}
 use mathlib.Core.Path.{◌≡◌, refl, ap, subst, ◌∙◌}
 use mathlib.Core.Bool.{true, false}
 use mathlib.Core.List.{List, [], ◌∷◌, ◌++◌, append_assoc}
-use mathlib.Core.Option.{some}
 use Prim.Native.Nat.{ℕ, zero, suc, ◌+◌, ◌-◌, ◌*◌, ◌/◌, ◌%◌, ◌≤◌, ◌<◌}
 use native.Mathlib.Decide.{dec_lt}
 use native.Mathlib.Omega.{arith}
@@ -44,20 +43,20 @@ digits_back (suc k) n h g u =
           (digits_back k (n / 10) (omega arith) (omega arith) ((48 + n % 10) ∷ u) ∙ more_digits n (omega arith) g u)
     ]
 
-digits_end : (n sep : ℕ) → digit sep ≡ false → (rest : List ℕ) → digits_after n (sep ∷ rest) ≡ some (Some n, sep ∷ rest)
+digits_end : (n sep : ℕ) → digit sep ≡ false → (rest : List ℕ) → digits_after n (sep ∷ rest) ≡ Some (Some n, sep ∷ rest)
 unfolding digits_after
 digits_end n sep e rest = rw e
 
-pub field_back : (sep : ℕ) → digit sep ≡ false → (f : Field) → Small f → (rest : List ℕ) → field (field_text f ++ (sep ∷ rest)) ≡ some (f, sep ∷ rest)
+pub field_back : (sep : ℕ) → digit sep ≡ false → (f : Field) → Small f → (rest : List ℕ) → field (field_text f ++ (sep ∷ rest)) ≡ Some (f, sep ∷ rest)
 unfolding field field_text
 field_back sep e None h rest = refl
 field_back sep e (Some n) h rest = digits_back n n (omega arith) h (sep ∷ rest) ∙ digits_end n sep e rest
 
-pub to_back : (sep : ℕ) → digit sep ≡ false → (f : Field) → Small f → (rest : List ℕ) → field_to sep (field_text f ++ (sep ∷ rest)) ≡ some (f, rest)
+pub to_back : (sep : ℕ) → digit sep ≡ false → (f : Field) → Small f → (rest : List ℕ) → field_to sep (field_text f ++ (sep ∷ rest)) ≡ Some (f, rest)
 to_back sep e f h rest = to_some sep _ (field_back sep e f h rest) (byte_back sep rest)
 
 pub after_back : (letter sep : ℕ) → digit sep ≡ false → (f : Field) → Small f → (rest : List ℕ)
-    → field_after letter sep (letter ∷ 32 ∷ field_text f ++ (sep ∷ rest)) ≡ some (f, rest)
+    → field_after letter sep (letter ∷ 32 ∷ field_text f ++ (sep ∷ rest)) ≡ Some (f, rest)
 unfolding field_after
 after_back letter sep e f h rest =
     rw (byte_back letter (32 ∷ field_text f ++ (sep ∷ rest)), byte_back 32 (field_text f ++ (sep ∷ rest))) (to_back sep e f h rest)

@@ -4,5 +4,5 @@ use Rattle.desk_explain.proofs.count_warned.Goals as goal
 
 pub loop-at-init : goal.loop-at-init
 loop-at-init c =
-    let e = rw c.in-Found.is at c.read_field_after.ensures in
+    let e = rw c.in-Some.is at c.read_field_after.ensures in
     (search rules, search rules, search rules, e.2)

@@ -3,5 +3,5 @@ use Rattle.desk_explain.proofs.line_after.Goals as goal
 
 pub returns : goal.returns
 returns c =
-    let e = rw c.in-Found.is at c.read_line.ensures in
+    let e = rw c.in-Some.is at c.read_line.ensures in
     (e.1, e.2)

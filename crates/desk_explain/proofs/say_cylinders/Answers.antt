@@ -4,5 +4,5 @@ use Rattle.desk_explain.proofs.say_cylinders.Goals as goal
 
 pub loop-at-init : goal.loop-at-init
 loop-at-init c =
-    let e = rw c.in-Found.is at c.read_field_after.ensures in
+    let e = rw c.in-Some.is at c.read_field_after.ensures in
     (omega arith, omega (arith, e.1), e.2)

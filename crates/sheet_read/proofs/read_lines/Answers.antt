@@ -18,12 +18,12 @@ returns-in_default c =
 
 pub loop-at-smaller : goal.loop-at-smaller
 loop-at-smaller c =
-    let e = c.in-Found.ensures in
+    let e = c.in-Some.ensures in
     omega (arith, e.1, e.2)
 
 pub loop-at-preserved : goal.loop-at-preserved
 loop-at-preserved c =
-    let e = c.in-Found.ensures in
+    let e = c.in-Some.ensures in
     let l = of_cylinder _ _ _ e.0 in
     more _ _ _ _ _ c.loop-at.invariant c.loop-at-test.true _ _ l.read e.1 e.2 _
     (elim c.if-count-lt32.branch [

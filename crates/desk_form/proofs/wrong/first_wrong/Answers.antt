@@ -7,7 +7,7 @@ pub returns-in_default : goal.returns-in_default
 returns-in_default c = (need_wrong _ (rw c.in_default.is at c.read_field_after.ensures), omega arith)
 
 pub loop-at-init : goal.loop-at-init
-loop-at-init c = begun _ _ _ (rw c.in-Found.is at c.read_field_after.ensures)
+loop-at-init c = begun _ _ _ (rw c.in-Some.is at c.read_field_after.ensures)
 
 pub returns-in_default-read_line : goal.returns-in_default-read_line
 returns-in_default-read_line c =
@@ -15,12 +15,12 @@ returns-in_default-read_line c =
 
 pub loop-at-smaller : goal.loop-at-smaller
 loop-at-smaller c =
-    let e = rw c.in-Found-read_line.is at c.read_line.ensures in
+    let e = rw c.in-Some-read_line.is at c.read_line.ensures in
     omega (arith, e.1, e.2)
 
 pub loop-at-preserved : goal.loop-at-preserved
 loop-at-preserved c =
-    one_more c.loop-at.invariant c.loop-at-test.true _ _ (rw c.in-Found-read_line.is at c.read_line.ensures)
+    one_more c.loop-at.invariant c.loop-at-test.true _ _ (rw c.in-Some-read_line.is at c.read_line.ensures)
 
 pub returns : goal.returns
 returns c = done c.loop-at.invariant c.loop-at-test.false

@@ -8,10 +8,10 @@ unfolding line
 returns-in_default c = rw (c.in_default.ensures)
 
 pub line_of-requires : goal.line_of-requires
-line_of-requires c = cylinder_small _ _ _ (c.in-Found.ensures).0
+line_of-requires c = cylinder_small _ _ _ (c.in-Some.ensures).0
 
 pub returns : goal.returns
 unfolding line
 returns c =
-    let e = c.in-Found.ensures in
+    let e = c.in-Some.ensures in
     (rw (e.0, c.line_of.ensures), e.1, e.2)

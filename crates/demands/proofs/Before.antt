@@ -28,7 +28,7 @@ use Rattle.demands.specs.Before.{never_solid, Kept, same, solid, no_melting, AsB
 use Rattle.demands.proofs.Checks.{stops, passes, finds, melts, first}
 
 -- no pressure is above the infinity
-unreached : (p : Float) → check.solid (Some (inf false)) p ≡ (Ok tt)
+unreached : (p : Float) → check.solid (Some (inf false)) p ≡ Ok tt
 unfolding check.solid lt
 unreached nan = refl
 unreached (inf true) = refl

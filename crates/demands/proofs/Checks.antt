@@ -28,7 +28,7 @@ second false b h = absurd (true≢false (sym h))
 module _ (temperature value : Range) (t x : Float) where
   pub data Finds (c : Check) : Type 0 where
     stops : (n : ℕ) → c ≡ Err n → OutOfRange temperature value t x n → Finds c
-    passes : c ≡ (Ok tt) → InRange temperature value t x → Finds c
+    passes : c ≡ Ok tt → InRange temperature value t x → Finds c
 
   pub finds : Finds (ranged temperature value t x)
   unfolding ranged
@@ -44,7 +44,7 @@ module _ (temperature value : Range) (t x : Float) where
   stops_back (no_temperature e f) = rw (e, f) refl
   stops_back (no_value e f g) = rw (e, f, g) refl
 
-  pub passes_back : InRange temperature value t x → ranged temperature value t x ≡ (Ok tt)
+  pub passes_back : InRange temperature value t x → ranged temperature value t x ≡ Ok tt
   unfolding ranged
   passes_back p = rw (p.numbers, p.temperature, p.value) refl
 
@@ -59,6 +59,6 @@ module _ (E : Equation) (t p : Float) where
       by_working (λ (c : Check). P (passed c a)) (E.melting_pressure t) _ _ f
       (λ m e. by_test (λ (c : Check). P (passed c a)) (lt m p) _ _ (s m e) (λ q. h (record { melting = m; worked = e; not_above = q })))
 
-  pub thawed_back : Fluid E t p → solid (E.melting_pressure t) p ≡ (Ok tt)
+  pub thawed_back : Fluid E t p → solid (E.melting_pressure t) p ≡ Ok tt
   unfolding solid
   thawed_back f = rw (f.worked, f.not_above) refl

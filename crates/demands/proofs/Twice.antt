@@ -142,10 +142,10 @@ module _ (cs : List Cylinder) (i : ℕ) where
   pub stands_again : (Dashed (at cs i) → ⊥) → Again cs i → stands ≡ refused 30
   stands_again h a = by_number h (refused 30) (λ n e. rw (again_on n e a))
 
-  stands_ready : (Dashed (at cs i) → ⊥) → (Again cs i → ⊥) → stands ≡ (Ok tt)
+  stands_ready : (Dashed (at cs i) → ⊥) → (Again cs i → ⊥) → stands ≡ Ok tt
   stands_ready h a = by_number h (Ok tt) (λ n e. go n e (is_on (numbers above) n) refl)
     where
-      go : (n : ℕ) → (at cs i).number ≡ Some n → (b : Bool) → is_on (numbers above) n ≡ b → cond b (refused 30) (Ok tt) ≡ (Ok tt)
+      go : (n : ℕ) → (at cs i).number ≡ Some n → (b : Bool) → is_on (numbers above) n ≡ b → cond b (refused 30) (Ok tt) ≡ Ok tt
       go n e true p = absurd (a (on_again n e p))
       go n e false p = refl
 

@@ -110,7 +110,7 @@ module _ (f : Figure) (t : Float) where
   unfolding narrow
   narrow_lower n lo hi ne a = rw (ne_eqb hi (lo + 1) ne, side_high f t (middle lo hi) a) refl
 
-  narrow_broke : (n lo hi : ℕ) → (hi ≡ lo + 1 → ⊥) → Unworthy f (middle lo hi) → narrow f t (suc n) lo hi ≡ (Err Broke)
+  narrow_broke : (n lo hi : ℕ) → (hi ≡ lo + 1 → ⊥) → Unworthy f (middle lo hi) → narrow f t (suc n) lo hi ≡ Err Broke
   unfolding narrow
   narrow_broke n lo hi ne e = rw (ne_eqb hi (lo + 1) ne, side_broken f t (middle lo hi) e) refl
 
@@ -188,22 +188,22 @@ module _ (f : Figure) (t : Float) where
       record { from = i.from; to = omega arith; here = i.here; next = i.next }
   found (broke ne e) r h a b q = never (cc)
 
-  somewhere : {lo hi m : ℕ} {c : Crossing} → Halves f t lo hi m c → c ≡ (Err Nowhere) → ⊥
+  somewhere : {lo hi m : ℕ} {c : Crossing} → Halves f t lo hi m c → c ≡ Err Nowhere → ⊥
   somewhere (ended e) q = never (cc)
   somewhere (upper ne x g) q = somewhere g q
   somewhere (lower ne x g) q = somewhere g q
   somewhere (broke ne e) q = never (cc)
 
-high_any : (b : Bool) (c : Crossing) → ends high (cond b high low) c ≡ (Err Nowhere)
+high_any : (b : Bool) (c : Crossing) → ends high (cond b high low) c ≡ Err Nowhere
 high_any true c = refl
 high_any false c = refl
 
-any_low : (b : Bool) (c : Crossing) → ends (cond b high low) low c ≡ (Err Nowhere)
+any_low : (b : Bool) (c : Crossing) → ends (cond b high low) low c ≡ Err Nowhere
 any_low true c = refl
 any_low false c = refl
 
-either_nowhere : (b : Bool) → cond b (Err Nowhere) (Err Nowhere) ≡ (Err Nowhere)
-either_nowhere b = by_test (λ (c : Crossing). c ≡ (Err Nowhere)) b (Err Nowhere) (Err Nowhere) (λ _. refl) (λ _. refl)
+either_nowhere : (b : Bool) → cond {A = Crossing} b (Err Nowhere) (Err Nowhere) ≡ Err Nowhere
+either_nowhere b = by_test (λ (c : Crossing). c ≡ Err Nowhere) b (Err Nowhere) (Err Nowhere) (λ _. refl) (λ _. refl)
 
 -- ---- THE SHARED FACT
 module _ (f : Figure) (t : Float) where
@@ -226,11 +226,11 @@ module _ (f : Figure) (t : Float) where
       go false p k = by (leb-false hi lo p) (side t (f lo)) (side t (f hi)) refl refl k
 
   -- no crossing exactly where there is none to be found
-  pub nowhere : (lo hi : ℕ) → hi ≤ 2 ^ 63 → halve f t lo hi ≡ (Err Nowhere) → NoCrossing f t lo hi
+  pub nowhere : (lo hi : ℕ) → hi ≤ 2 ^ 63 → halve f t lo hi ≡ Err Nowhere → NoCrossing f t lo hi
   unfolding halve
   nowhere lo hi w e = go (leb hi lo) refl e
     where
-      by : lo < hi → (a b : Side) → side t (f lo) ≡ a → side t (f hi) ≡ b → ends a b (narrow f t 63 lo hi) ≡ (Err Nowhere) → NoCrossing f t lo hi
+      by : lo < hi → (a b : Side) → side t (f lo) ≡ a → side t (f hi) ≡ b → ends a b (narrow f t 63 lo hi) ≡ Err Nowhere → NoCrossing f t lo hi
       by h low low p q k = second_not_above (worthy_low f t lo (not_above f t lo p)) (not_above f t hi q)
       by h low high p q k = absurd (somewhere f t (at_most_63 f t lo hi h w).2 k)
       by h low broken p q k = never (cc)
@@ -239,11 +239,11 @@ module _ (f : Figure) (t : Float) where
       by h high broken p q k = never (cc)
       by h broken b p q k = never (cc)
 
-      go : (x : Bool) → leb hi lo ≡ x → cond x (Err Nowhere) (ends (side t (f lo)) (side t (f hi)) (narrow f t 63 lo hi)) ≡ (Err Nowhere) → NoCrossing f t lo hi
+      go : (x : Bool) → leb hi lo ≡ x → cond x (Err Nowhere) (ends (side t (f lo)) (side t (f hi)) (narrow f t 63 lo hi)) ≡ Err Nowhere → NoCrossing f t lo hi
       go true p k = met (leb-true hi lo p)
       go false p k = by (leb-false hi lo p) (side t (f lo)) (side t (f hi)) refl refl k
 
-  pub nowhere_back : (lo hi : ℕ) → NoCrossing f t lo hi → halve f t lo hi ≡ (Err Nowhere)
+  pub nowhere_back : (lo hi : ℕ) → NoCrossing f t lo hi → halve f t lo hi ≡ Err Nowhere
   unfolding halve
   nowhere_back lo hi (met h) = rw (le-leb hi lo h) refl
   nowhere_back lo hi (first_above a w) = let s = side_worthy f t hi w in rw (side_high f t lo a, s.1, high_any s.0 _) (either_nowhere (leb hi lo))
@@ -255,11 +255,11 @@ module _ (f : Figure) (t : Float) where
   bracketed lo hi h a b = rw (lt-leb hi lo h, side_low f t lo a, side_high f t hi b) refl
 
   -- failure exactly where an end, or a middle that the halving comes to, can't be worked
-  pub breaks : (lo hi : ℕ) → hi ≤ 2 ^ 63 → halve f t lo hi ≡ (Err Broke) → (lo < hi) × Breaks f t lo hi
+  pub breaks : (lo hi : ℕ) → hi ≤ 2 ^ 63 → halve f t lo hi ≡ Err Broke → (lo < hi) × Breaks f t lo hi
   unfolding halve
   breaks lo hi w e = go (leb hi lo) refl e
     where
-      by : lo < hi → (a b : Side) → side t (f lo) ≡ a → side t (f hi) ≡ b → ends a b (narrow f t 63 lo hi) ≡ (Err Broke) → Breaks f t lo hi
+      by : lo < hi → (a b : Side) → side t (f lo) ≡ a → side t (f hi) ≡ b → ends a b (narrow f t 63 lo hi) ≡ Err Broke → Breaks f t lo hi
       by h low low p q k = never (cc)
       by h low high p q k = let r = at_most_63 f t lo hi h w in at_middle r.0 (not_above f t lo p) (is_above f t hi q) (rw k at r.2)
       by h low broken p q k = at_second (is_unworthy f t hi q)
@@ -268,16 +268,16 @@ module _ (f : Figure) (t : Float) where
       by h high broken p q k = at_second (is_unworthy f t hi q)
       by h broken b p q k = at_first (is_unworthy f t lo p)
 
-      go : (x : Bool) → leb hi lo ≡ x → cond x (Err Nowhere) (ends (side t (f lo)) (side t (f hi)) (narrow f t 63 lo hi)) ≡ (Err Broke) → (lo < hi) × Breaks f t lo hi
+      go : (x : Bool) → leb hi lo ≡ x → cond x (Err Nowhere) (ends (side t (f lo)) (side t (f hi)) (narrow f t 63 lo hi)) ≡ Err Broke → (lo < hi) × Breaks f t lo hi
       go true p k = never (cc)
       go false p k = let h = leb-false hi lo p in (h, by h (side t (f lo)) (side t (f hi)) refl refl k)
 
-  pub breaks_back : (lo hi : ℕ) → lo < hi → hi ≤ 2 ^ 63 → Breaks f t lo hi → halve f t lo hi ≡ (Err Broke)
+  pub breaks_back : (lo hi : ℕ) → lo < hi → hi ≤ 2 ^ 63 → Breaks f t lo hi → halve f t lo hi ≡ Err Broke
   unfolding halve
   breaks_back lo hi h w (at_first e) = rw (lt-leb hi lo h, side_broken f t lo e) refl
   breaks_back lo hi h w (at_second e) = rw (lt-leb hi lo h, side_broken f t hi e) (go (side t (f lo)))
     where
-      go : (x : Side) → ends x broken (narrow f t 63 lo hi) ≡ (Err Broke)
+      go : (x : Side) → ends x broken (narrow f t 63 lo hi) ≡ Err Broke
       go low = refl
       go high = refl
       go broken = refl
@@ -324,7 +324,7 @@ module _ (f : Figure) (t : Float) where
         same = next ∙ narrow_lower f t turn.0 lo hi ne a;
       }
 
-      pub to_broke : Unworthy f (middle lo hi) → asked ≡ (Err Broke)
+      pub to_broke : Unworthy f (middle lo hi) → asked ≡ Err Broke
       to_broke e = next ∙ narrow_broke f t turn.0 lo hi ne e
 
 -- ---- a figure that rises: it passes the target at one place only, however that is come by

@@ -24,19 +24,19 @@ side t None = broken
 
 -- at lo, then at hi: not finite is a failure; above the target at lo, or not above it at hi, is no crossing
 abbrev pub ends : Side → Side → Crossing → Crossing
-ends low low c = (Err Nowhere)
+ends low low c = Err Nowhere
 ends low high c = c
-ends low broken c = (Err Broke)
-ends high low c = (Err Nowhere)
-ends high high c = (Err Nowhere)
-ends high broken c = (Err Broke)
-ends broken b c = (Err Broke)
+ends low broken c = Err Broke
+ends high low c = Err Nowhere
+ends high high c = Err Nowhere
+ends high broken c = Err Broke
+ends broken b c = Err Broke
 
 -- at mid: the halving goes on in the upper half where the figure is not above the target, in the lower where it is; not finite is a failure
 abbrev pub half : Side → Crossing → Crossing → Crossing
 half low upper lower = upper
 half high upper lower = lower
-half broken upper lower = (Err Broke)
+half broken upper lower = Err Broke
 
 -- mid, rounded down
 unfoldable pub middle : ℕ → ℕ → ℕ

@@ -105,7 +105,7 @@ bounded_at : (k b : ℕ) → k ≤ 51 → b ≤ top → finite (power (of_bits b
 bounded_at k b h l = nonneg_finite (power (of_bits binary64 b) k) (figure_mono k b top l (omega arith) (top_finite k h)).first
 
 -- and past it none ever: 2²⁰ has no power to compare with
-pub fails : (k : ℕ) (t : Float) → 52 ≤ k → root_bits k t ≡ (Err Broke)
+pub fails : (k : ℕ) (t : Float) → 52 ≤ k → root_bits k t ≡ Err Broke
 fails k t h =
     let e : k ≡ k - 52 + 52 = omega arith in
     let f : power_at k top ≡ None =
@@ -137,7 +137,7 @@ module _ (k : ℕ) (t : Float) (one : 1 ≤ k) (few : k ≤ 51) (p : T (nonneg t
       ∙ unique_crossing (power_at k) t 0 top r (rises k t p) every_worthy (omega arith) (first_not_above k t one p) (last_above s h b)
       (omega arith) (omega arith) a (rw e at b)
 
-  pub no_crossing : NotAbove (power_at k) t top → root_bits k t ≡ (Err Nowhere)
+  pub no_crossing : NotAbove (power_at k) t top → root_bits k t ≡ Err Nowhere
   no_crossing b = root_bits_is k t ∙ nowhere_back (power_at k) t 0 top (second_not_above (worthy (whole 0) (at_0 k one) zero_finite) b)
 
 -- the bits of an answer are those of a number

@@ -8,16 +8,13 @@ ghost use Rattle.sheet_write.specs.Pairs.{pairs};
 ghost use Rattle.sheet_write.specs.Writing.{Wrote, Fitted};
 
 // The bytes of text.
+#[tactic(auto, unfolding(crate::specs::Writing::overlaid))]
 pub fn put(out: &mut [u8], text: &[u8]) -> usize
     requires { length text.now ≤ length out.old }
     ensures { Wrote out.old out.new result text.now }
 {
-    let mut i = 0;
-    while i < text.len() {
-        out[i] = text[i];
-        i += 1;
-    }
-    i
+    out[..text.len()].copy_from_slice(text);
+    text.len()
 }
 
 // The same where they fit; else 0, and nothing is written.
@@ -56,6 +53,7 @@ fn put_pair(out: &mut [u8], at: usize, table: &[u8], r: u64)
 }
 
 // The digits of n from the back, two a division; where their number is odd, the first stands alone.
+// The number left ends the loop and no place does: chunks of two from the back would ask in each turn whether one is short.
 fn put_pairs(out: &mut [u8], table: &[u8], n: u64) -> usize
     requires { (table.now ≡ pairs) × (length (decimal n) ≤ length out.old) }
     ensures { Wrote out.old out.new result (decimal n) }

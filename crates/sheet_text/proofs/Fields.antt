@@ -60,14 +60,14 @@ module _ (s : List ℕ) (i v : ℕ) where
       after_more l = rw (front s i h, e, ne_eqb v 0 n, ← ef, lt-leb _ _ l)
 
 module _ (end : ℕ) (u : List ℕ) where
-  pub to_none₁ : field u ≡ None → field_to end u ≡ None
+  pub to_none : field u ≡ None → field_to end u ≡ None
   unfolding field_to
-  to_none₁ e = rw e
+  to_none e = rw e
 
   module _ {f : Field} {u₁ : List ℕ} (e₁ : field u ≡ Some (f, u₁)) where
-    pub to_none₂ : byte end u₁ ≡ None → field_to end u ≡ None
+    pub to_open : byte end u₁ ≡ None → field_to end u ≡ None
     unfolding field_to
-    to_none₂ e = rw (e₁, e)
+    to_open e = rw (e₁, e)
 
     pub to_some : {u₂ : List ℕ} → byte end u₁ ≡ Some (tt, u₂) → field_to end u ≡ Some (f, u₂)
     unfolding field_to

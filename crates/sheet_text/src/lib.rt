@@ -5,41 +5,30 @@
 ghost use Rattle.std.specs.Prelude.{◌≡◌, true, ◌-◌, ◌≤◌, drop};
 ghost use Rattle.sheet_text.specs.Parse.{byte};
 ghost use Rattle.sheet_text.specs.Field.{digit, field, field_to, field_after};
-ghost use Rattle.sheet_text.specs.Place.{FieldIs, PlaceIs};
-
-// The place after a byte.
-fn is_digit(b: u8) -> bool
-    ensures { result ≡ digit b }
-{
-    b >= b'0' && b <= b'9'
-}
+ghost use Rattle.sheet_text.specs.Place.{Reads, PlaceIs};
 
 fn digit_of(b: u8) -> u64
     requires { digit b ≡ true }
     ensures { (result ≡ b - 48) × (result ≤ 9) }
 {
-    (b as u64) - 48
+    u64::from(b - b'0')
 }
 
 #[tactic(auto, using(crate::proofs::Fields::field_end, crate::proofs::Fields::field_blank, crate::proofs::Fields::field_bad, crate::proofs::Fields::field_digits, crate::proofs::Fields::after_end, crate::proofs::Fields::after_stop, crate::proofs::Fields::after_zero, crate::proofs::Fields::after_large, crate::proofs::Fields::after_more))]
 fn read_field(s: &[u8], at: usize) -> Option<(Option<u64>, usize)>
-    ensures { FieldIs s.now at (field (drop at s.now)) result }
+    ensures { Reads s.now at (field (drop at s.now)) result }
 {
-    if at >= s.len() {
-        return None;
-    }
-    let b = s[at];
+    let b = *s.get(at)?;
     if b == b'-' {
         return Some((None, at + 1));
     }
-    if !is_digit(b) {
+    if !b.is_ascii_digit() {
         return None;
     }
     let mut v = digit_of(b);
-    let mut i = at + 1;
-    while i < s.len() {
+    for i in at + 1..s.len() {
         let d = s[i];
-        if !is_digit(d) {
+        if !d.is_ascii_digit() {
             return Some((Some(v), i));
         }
         if v == 0 {
@@ -50,46 +39,37 @@ fn read_field(s: &[u8], at: usize) -> Option<(Option<u64>, usize)>
             return None;
         }
         v = next;
-        i += 1;
     }
-    Some((Some(v), i))
+    Some((Some(v), s.len()))
 }
 
 // Past the one byte b.
+#[tactic(auto, using(crate::proofs::Parses::byte_end, crate::proofs::Parses::byte_at, crate::proofs::Parses::byte_other))]
 pub fn skip(s: &[u8], at: usize, b: u8) -> Option<usize>
     ensures { PlaceIs s.now at (byte b (drop at s.now)) result }
 {
-    if at >= s.len() {
-        return None;
-    }
-    if s[at] == b {
+    if *s.get(at)? == b {
         return Some(at + 1);
     }
     None
 }
 
 // A field and the byte that ends it.
+#[tactic(auto, using(crate::proofs::Fields::to_none, crate::proofs::Fields::to_open, crate::proofs::Fields::to_some))]
 pub fn read_field_to(s: &[u8], at: usize, end: u8) -> Option<(Option<u64>, usize)>
-    ensures { FieldIs s.now at (field_to end (drop at s.now)) result }
+    ensures { Reads s.now at (field_to end (drop at s.now)) result }
 {
-    let Some((f, n)) = read_field(s, at) else {
-        return None;
-    };
-    let Some(next) = skip(s, n, end) else {
-        return None;
-    };
+    let (f, n) = read_field(s, at)?;
+    let next = skip(s, n, end)?;
     Some((f, next))
 }
 
 // A letter, a space, and a field and the byte that ends it.
+#[tactic(auto, unfolding(crate::specs::Field::field_after), using(crate::proofs::Places::reads_from))]
 pub fn read_field_after(s: &[u8], at: usize, letter: u8, end: u8) -> Option<(Option<u64>, usize)>
-    ensures { FieldIs s.now at (field_after letter end (drop at s.now)) result }
+    ensures { Reads s.now at (field_after letter end (drop at s.now)) result }
 {
-    let Some(space) = skip(s, at, letter) else {
-        return None;
-    };
-    let Some(next) = skip(s, space, b' ') else {
-        return None;
-    };
+    let space = skip(s, at, letter)?;
+    let next = skip(s, space, b' ')?;
     read_field_to(s, next, end)
 }

@@ -73,7 +73,7 @@ fn table_27() -> Table
 }
 
 // What stands before the rows.
-fn heads(t: Table, tau: f64) -> Option<Five>
+fn heads(t: Table, tau: f64) -> Sums
     ensures { result ≡ sums (head_τ t tau) (head_ττ t tau) }
 {
     Sums {
@@ -83,7 +83,7 @@ fn heads(t: Table, tau: f64) -> Option<Five>
 }
 
 // One row more; its exponential is worked once for both.
-fn with_row(s: Option<Five>, i: Row, tau: f64) -> Option<Five>
+fn with_row(s: Sums, i: Row, tau: f64) -> Sums
     ensures { result ≡ sums (num s.first ⊕ row_τ tau i) (num s.second ⊖ row_ττ tau i) }
 {
     let a = i.a;
@@ -96,7 +96,7 @@ fn with_row(s: Option<Five>, i: Row, tau: f64) -> Option<Five>
     }
 }
 
-fn all_rows(tau: f64) -> Option<Five>
+fn all_rows(tau: f64) -> Sums
     ensures { result ≡ sums (phi_τ tau) (phi_ττ tau) }
 {
     let t = table_27();

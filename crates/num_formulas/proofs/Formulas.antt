@@ -72,7 +72,7 @@ checked_exponential : (x : Float) → checked (plain (answer_alone (exponential 
 unfolding exponential steps
 checked_exponential = checked_refusing (λ x. answer_alone (exponential x)) exponential_sound refl (λ s. refl)
 
-either_failed : (b : Bool) → cond b None None ≡ None
+either_failed : (b : Bool) → cond {A = Worked} b None None ≡ None
 either_failed b = by_test (λ (w : Worked). w ≡ None) b None None (λ _. refl) (λ _. refl)
 
 refused : (e : Exponent) → Root.root e nan ≡ None

@@ -9,6 +9,7 @@ ghost use Rattle.num_powers.specs.Power.{power};
 ghost use Rattle.num_roots.specs.Root.{root, root_bits, searched};
 ghost use Rattle.num_roots.specs.Side.{Guessed, PowersAbout, searchable};
 
+use num_halving::Missed;
 use num_powers::whole_power;
 use num_working::{checked, is_finite};
 
@@ -215,14 +216,9 @@ fn searched(x: f64, m: usize, k: usize) -> Option<f64>
     requires le_k { (1 ≤ k) × (k ≤ 51) × (m < 102) }
     ensures { result ≡ searched m k x }
 {
-    let Some(t) = checked(whole_power(x, m)) else {
-        return None;
-    };
-    match crossing(t, k, guess(about_log(x), Exponent { m, k }, t)) {
-        Ok(b) => Some(f64::from_bits(b)),
-        Err(Missed::Nowhere) => None,
-        Err(Missed::Broke) => None,
-    }
+    let t = checked(whole_power(x, m))?;
+    let b = crossing(t, k, guess(about_log(x), Exponent { m, k }, t)).ok()?;
+    Some(f64::from_bits(b))
 }
 
 // Any root, looked for from a guess outward.

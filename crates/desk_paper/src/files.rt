@@ -7,8 +7,6 @@ use std::{fs, str};
 const NOT_TEXT: i32 = 84;
 
 pub fn open<R: Files>(files: &R, name: &[u8]) -> Result<R::File, Error> {
-    match str::from_utf8(name) {
-        Ok(path) => fs::open(files, path),
-        Err(_) => Err(Error::from_raw_os_error(NOT_TEXT)),
-    }
+    let path = str::from_utf8(name).map_err(|_| Error::from_raw_os_error(NOT_TEXT))?;
+    fs::open(files, path)
 }

@@ -1,16 +1,14 @@
 // How the program is asked, and how a sheet is written, with a whole one (RULES 6 and 13).
-use crate::paper::{Paper, say};
+use crate::paper::Paper;
 
 pub fn say_usage(p: Paper) -> Paper {
-    say(
-        p,
+    p.say(
         b"usage: scorer [--explain] [FILE..], scorer --help, scorer --version; - is standard input, which is read where no file is named\n",
     )
 }
 
 pub fn say_help(p: Paper) -> Paper {
-    say(
-        p,
+    p.say(
         b"scorer [FILE..]            scores the sheet in each file; - is standard input, which is read where no file is named\n\
             scorer --explain [FILE..]  the report, and under it what it says in kg, bar and Celsius, and what to do\n\
             scorer --help, -h          says this\n\

@@ -3,6 +3,7 @@ ghost use Rattle.std.specs.Prelude.{◌≤◌};
 
 use desk_units::{Shown, kilograms_down, put_shown};
 use desk_words::put_words;
+use refusal::Refusal;
 use std::io::{Cursor, Error, Print, Stderr, Stdout, Write};
 
 // What a paper lies on: a stream of the program's own, or an open file by its number.
@@ -34,9 +35,10 @@ const IO: i32 = 5;
 // Why a write by a number failed is not told.
 fn write_by(fd: i32, text: &[u8]) -> Result<(), Error> {
     if io::write_all(fd, text) {
-        return Ok(());
+        Ok(())
+    } else {
+        Err(Error::from_raw_os_error(IO))
     }
-    Err(Error::from_raw_os_error(IO))
 }
 
 fn write_on(on: Stream, text: &[u8]) -> Result<(), Error> {
@@ -47,78 +49,77 @@ fn write_on(on: Stream, text: &[u8]) -> Result<(), Error> {
     }
 }
 
-pub fn say(p: Paper, text: &[u8]) -> Paper {
-    if p.failure.is_some() {
-        return p;
-    }
-    Paper {
-        on: p.on,
-        failure: write_on(p.on, text).err(),
-    }
-}
-
-pub fn say_number(p: Paper, n: u64) -> Paper {
-    let mut digits = [0; 20];
-    let k = io::decimal(n, &mut digits);
-    say(p, &digits[..k])
-}
-
-// No number that is shown has more bytes.
-pub fn say_shown(p: Paper, s: Shown) -> Paper {
-    let mut space = [0; 277];
-    let n = put_shown(&mut space, s);
-    say(p, &space[..n])
-}
-
-pub fn say_figure(p: Paper, f: Option<Shown>) -> Paper {
-    match f {
-        Some(s) => say_shown(p, s),
-        None => say(p, b"-"),
-    }
-}
-
-// In kg, rounded down.
-pub fn say_mass(p: Paper, mg: Option<u64>) -> Paper {
-    match mg {
-        Some(n) => say_shown(p, kilograms_down(n)),
-        None => say(p, b"-"),
-    }
-}
-
-// RULES 14.1: the number of a refusal and its words.
-pub fn say_refused(p: Paper, n: u8) -> Paper {
-    let mut space = [0; 512];
-    let long = put_words(n as u32, &mut space);
-    let a = say_number(p, n as u64);
-    let b = say(a, b". ");
-    say(b, &space[..long])
-}
-
-// With the line's end.
-pub fn say_refusal(p: Paper, n: u8) -> Paper {
-    say(say_refused(p, n), b"\n")
-}
-
 // Behind the words of an error stands its number, which a person has no use for.
 fn end_of_words(text: &[u8; 256]) -> usize
     ensures { result ≤ 256 }
 {
     for i in 0..256 {
-        if text[i] == 0 {
-            return i;
-        }
-        if text[i..].starts_with(b" (os error ") {
+        if text[i] == 0 || text[i..].starts_with(b" (os error ") {
             return i;
         }
     }
     256
 }
 
-// A line of what failed and why, in the words of the system.
-pub fn say_failure(p: Paper, what: &[u8], e: Error) -> Paper {
-    let mut space = Cursor::new([0; 256]);
-    let _ = write!(space, "{e}");
-    let text = space.into_inner();
-    let words = say(say(p, what), b": ");
-    say(say(words, &text[..end_of_words(&text)]), b"\n")
+impl Paper {
+    pub fn say(self, text: &[u8]) -> Paper {
+        if self.failure.is_some() {
+            return self;
+        }
+        Paper {
+            failure: write_on(self.on, text).err(),
+            ..self
+        }
+    }
+
+    pub fn say_number(self, n: u64) -> Paper {
+        let mut digits = [0; 20];
+        let k = io::decimal(n, &mut digits);
+        self.say(&digits[..k])
+    }
+
+    // No number that is shown has more bytes.
+    pub fn say_shown(self, s: Shown) -> Paper {
+        let mut space = [0; 277];
+        let n = put_shown(&mut space, s);
+        self.say(&space[..n])
+    }
+
+    // `-` where there is none.
+    pub fn say_figure(self, f: Option<Shown>) -> Paper {
+        match f {
+            Some(s) => self.say_shown(s),
+            None => self.say(b"-"),
+        }
+    }
+
+    // In kg, rounded down.
+    pub fn say_mass(self, mg: Option<u64>) -> Paper {
+        self.say_figure(mg.map(kilograms_down))
+    }
+
+    // RULES 14.1: the number of a refusal and its words.
+    pub fn say_refused(self, n: Refusal) -> Paper {
+        let mut space = [0; 512];
+        let long = put_words(u32::from(n.0), &mut space);
+        self.say_number(u64::from(n.0))
+            .say(b". ")
+            .say(&space[..long])
+    }
+
+    // With the line's end.
+    pub fn say_refusal(self, n: Refusal) -> Paper {
+        self.say_refused(n).say(b"\n")
+    }
+
+    // A line of what failed and why, in the words of the system.
+    pub fn say_failure(self, what: &[u8], e: Error) -> Paper {
+        let mut space = Cursor::new([0; 256]);
+        let _ = write!(space, "{e}");
+        let text = space.into_inner();
+        self.say(what)
+            .say(b": ")
+            .say(&text[..end_of_words(&text)])
+            .say(b"\n")
+    }
 }

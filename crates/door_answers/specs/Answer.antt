@@ -2,6 +2,7 @@
 use Rattle.refusal.specs.Refused.{refused}
 use Rattle.std.specs.Prelude.{ℕ, Some, None, Ok, Err, Result}
 use Rattle.eos_state.specs.State.{Stated}
+use Rattle.eos_state.specs.declared.State.{State}
 use Rattle.door_checks.specs.Check.{Check}
 use Rattle.refusal.specs.declared.Refusal.{Refusal}
 
@@ -21,5 +22,5 @@ answer_with (Some x) = Ok x
 
 -- the refusal's number, to be handed on; of a state 0, which is no refusal and is not handed on
 abbrev pub refusal_number : Answer → ℕ
-refusal_number (Err n) = n
+refusal_number (Err n) = n.0
 refusal_number (Ok x) = 0

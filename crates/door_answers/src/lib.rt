@@ -4,16 +4,14 @@
 ghost use Rattle.std.specs.Prelude.{◌≡◌};
 ghost use Rattle.door_answers.specs.Answer.{answer_with, refusal_number};
 
-use eos_state::{State};
+use eos_state::State;
+use refusal::Refusal;
 
 // The state; 7 where the working failed.
 pub fn answer_with(s: Option<State>) -> Result<State, Refusal>
     ensures { result ≡ answer_with s }
 {
-    match s {
-        Some(x) => Ok(x),
-        None => Err(Refusal(7)),
-    }
+    s.ok_or(Refusal(7))
 }
 
 // The number of a refusal, to be handed on; 0 of a state.
@@ -21,7 +19,7 @@ pub fn refusal_number(a: Result<State, Refusal>) -> u8
     ensures { result ≡ refusal_number a }
 {
     match a {
-        Err(n) => n,
+        Err(Refusal(n)) => n,
         Ok(_) => 0,
     }
 }

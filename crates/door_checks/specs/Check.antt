@@ -30,5 +30,5 @@ boxed temperature value t x = cond (not (outside temperature t) && not (outside 
 
 -- the refusal's number, to be handed on; of a check that was passed 0, which is no refusal and is not handed on
 abbrev pub number_of : Check → ℕ
-number_of (Err n) = n
+number_of (Err n) = n.0
 number_of (Ok tt) = 0

@@ -7,14 +7,15 @@ ghost use Rattle.std.specs.Float.Ieee.Scale.{finite};
 ghost use Rattle.door_checks.specs.Check.{boxed, number_of, ranged, solid};
 
 use door_limits::{Range, is_outside};
-use num_working::{is_finite};
+use num_working::is_finite;
+use refusal::Refusal;
 
 // The number of a check that was not passed, to be handed on; 0 of one that was.
 pub fn number_of(c: Result<(), Refusal>) -> u8
     ensures { result ≡ number_of c }
 {
     match c {
-        Err(n) => n,
+        Err(Refusal(n)) => n,
         Ok(()) => 0,
     }
 }
@@ -22,14 +23,15 @@ pub fn number_of(c: Result<(), Refusal>) -> u8
 fn are_finite(x: f64, y: f64) -> bool
     ensures { result ≡ finite x && finite y }
 {
-    if is_finite(x) { is_finite(y) } else { false }
+    is_finite(x) && is_finite(y)
 }
 
 // 3, 4 and 5: x is the pressure or the density, with its range.
+#[tactic(auto, unfolding(crate::specs::Check::ranged))]
 pub fn in_range(temperature: Range, value: Range, t: f64, x: f64) -> Result<(), Refusal>
     ensures { result ≡ ranged temperature value t x }
 {
-    if are_finite(t, x) {} else {
+    if !are_finite(t, x) {
         return Err(Refusal(3));
     }
     if is_outside(temperature, t) {
@@ -42,12 +44,11 @@ pub fn in_range(temperature: Range, value: Range, t: f64, x: f64) -> Result<(), 
 }
 
 // 19, with the melting pressure; 7 where that failed.
+#[tactic(auto, unfolding(crate::specs::Check::solid))]
 pub fn not_solid(melting: Option<f64>, p: f64) -> Result<(), Refusal>
     ensures { result ≡ solid melting p }
 {
-    let Some(m) = melting else {
-        return Err(Refusal(7));
-    };
+    let m = melting.ok_or(Refusal(7))?;
     if m < p {
         return Err(Refusal(19));
     }
@@ -55,13 +56,11 @@ pub fn not_solid(melting: Option<f64>, p: f64) -> Result<(), Refusal>
 }
 
 // 6, with the ranges of the critical box.
+#[tactic(auto, unfolding(crate::specs::Check::boxed))]
 pub fn out_of_box(temperature: Range, value: Range, t: f64, x: f64) -> Result<(), Refusal>
     ensures { result ≡ boxed temperature value t x }
 {
-    if is_outside(temperature, t) {
-        return Ok(());
-    }
-    if is_outside(value, x) {
+    if is_outside(temperature, t) || is_outside(value, x) {
         return Ok(());
     }
     Err(Refusal(6))

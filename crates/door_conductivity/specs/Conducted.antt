@@ -6,6 +6,7 @@ use Rattle.eos_state.specs.declared.State.{State}
 use Rattle.equation.specs.Equation.{Equation}
 use Rattle.door_answers.specs.Answer.{Answer}
 use Rattle.refusal.specs.declared.Refusal.{Refusal}
+use Rattle.door_conductivity.specs.declared.Carried.{Carried}
 
 -- none where it was not asked for
 abbrev pub Conductivity : Type 0

@@ -6,12 +6,11 @@ ghost use Rattle.std.specs.Prelude.{◌≡◌};
 ghost use Rattle.equation.specs.Equation.{of1996};
 ghost use Rattle.door_conductivity.specs.Conducted.{conducting, with_conductivity};
 
-use door_answers::{refusal_number};
 use eos_state::State;
 use equation::conductivity_at;
+use refusal::Refusal;
 
-// In W/(m K).
-// A state, and what it carries on request.
+// A state, and what it carries on request, in W/(m K).
 #[derive(Clone, Copy)]
 pub struct Carried {
     pub state: State,
@@ -19,14 +18,13 @@ pub struct Carried {
 }
 
 // Where it is asked for: 7 where its working fails, and then nothing of the state is carried.
-fn conducting(s: State) -> Result<Carried, Refusal>
-    ensures { result ≡ conducting of1996 s }
+#[tactic(auto, unfolding(crate::specs::Conducted::conducting))]
+fn conducting(state: State) -> Result<Carried, Refusal>
+    ensures { result ≡ conducting of1996 state }
 {
-    let Some(x) = conductivity_at(s.t, s.rho) else {
-        return Err(Refusal(7));
-    };
+    let x = conductivity_at(state.t, state.rho).ok_or(Refusal(7))?;
     Ok(Carried {
-        state: s,
+        state,
         conductivity: Some(x),
     })
 }
@@ -34,14 +32,12 @@ fn conducting(s: State) -> Result<Carried, Refusal>
 pub fn with_conductivity(asked: bool, a: Result<State, Refusal>) -> Result<Carried, Refusal>
     ensures { result ≡ with_conductivity of1996 asked a }
 {
-    let Ok(s) = a else {
-        return Err(refusal_number(a));
-    };
+    let state = a?;
     if asked {
-        return conducting(s);
+        return conducting(state);
     }
     Ok(Carried {
-        state: s,
+        state,
         conductivity: None,
     })
 }

@@ -86,5 +86,5 @@ pub fn search_ends() -> Ends
 pub fn is_outside(r: Range, x: f64) -> bool
     ensures { result ≡ outside r x }
 {
-    if x < r.from { true } else { r.to < x }
+    x < r.from || r.to < x
 }

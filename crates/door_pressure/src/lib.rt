@@ -6,34 +6,30 @@ mod search;
 
 ghost use Rattle.std.specs.Prelude.{◌≡◌};
 ghost use Rattle.equation.specs.Equation.{of1996};
-ghost use Rattle.door_pressure.specs.PressureDoor.{scaled, vapour, liquid, beneath, entered, unboxed, thawed, pressure_door};
+ghost use Rattle.door_pressure.specs.PressureDoor.{scaled, vapour, liquid, beneath, entered, pressure_door};
 
 use crate::search::search_at;
-use door_checks::{in_range, not_solid, number_of, out_of_box};
+use door_checks::{in_range, not_solid, out_of_box};
 use door_limits::{Limits, search_ends};
-use eos_state::Phase;
+use eos_state::{Phase, State};
 use equation::{
     critical_temperature, liquid_density, melting_pressure, vapour_density, vapour_pressure,
 };
-use num_working::{checked};
+use num_working::checked;
+use refusal::Refusal;
 
 // So many times a saturated density, one product.
 fn scaled(factor: f64, density: Option<f64>) -> Option<f64>
     ensures { result ≡ scaled factor density }
 {
-    let Some(d) = density else {
-        return None;
-    };
-    checked(factor * d)
+    checked(factor * density?)
 }
 
 fn as_vapour(t: f64, p: f64) -> Result<State, Refusal>
     ensures { result ≡ vapour of1996 t p }
 {
     let ends = search_ends();
-    let Some(to) = scaled(ends.vapour, vapour_density(t)) else {
-        return Err(Refusal(7));
-    };
+    let to = scaled(ends.vapour, vapour_density(t)).ok_or(Refusal(7))?;
     search_at(t, Phase::Vapour, ends.from, to, p)
 }
 
@@ -41,19 +37,16 @@ fn as_liquid(t: f64, p: f64) -> Result<State, Refusal>
     ensures { result ≡ liquid of1996 t p }
 {
     let ends = search_ends();
-    let Some(from) = scaled(ends.liquid, liquid_density(t)) else {
-        return Err(Refusal(7));
-    };
+    let from = scaled(ends.liquid, liquid_density(t)).ok_or(Refusal(7))?;
     search_at(t, Phase::Liquid, from, ends.to, p)
 }
 
 // Below the critical temperature.
+#[tactic(auto, unfolding(crate::specs::PressureDoor::beneath))]
 fn beneath(t: f64, p: f64) -> Result<State, Refusal>
     ensures { result ≡ beneath of1996 t p }
 {
-    let Some(s) = vapour_pressure(t) else {
-        return Err(Refusal(7));
-    };
+    let s = vapour_pressure(t).ok_or(Refusal(7))?;
     if p == s {
         return Err(Refusal(8));
     }
@@ -74,34 +67,13 @@ fn enter(t: f64, p: f64) -> Result<State, Refusal>
     beneath(t, p)
 }
 
-// Past 3, 4, 5 and 19.
-fn unbox(l: Limits, t: f64, p: f64) -> Result<State, Refusal>
-    ensures { result ≡ unboxed of1996 l t p }
-{
-    let c = out_of_box(l.critical.temperature, l.critical.pressure, t, p);
-    let Ok(()) = c else {
-        return Err(number_of(c));
-    };
-    enter(t, p)
-}
-
-// Past 3, 4 and 5.
-fn thaw(l: Limits, t: f64, p: f64) -> Result<State, Refusal>
-    ensures { result ≡ thawed of1996 l t p }
-{
-    let c = not_solid(melting_pressure(t), p);
-    let Ok(()) = c else {
-        return Err(number_of(c));
-    };
-    unbox(l, t, p)
-}
-
+// 3, 4 and 5, then 19, then 6.
+#[tactic(auto, unfolding(crate::specs::PressureDoor::unboxed, crate::specs::PressureDoor::thawed, crate::specs::PressureDoor::pressure_door))]
 pub fn from_pressure(l: Limits, t: f64, p: f64) -> Result<State, Refusal>
     ensures { result ≡ pressure_door of1996 l t p }
 {
-    let c = in_range(l.asked.temperature, l.asked.pressure, t, p);
-    let Ok(()) = c else {
-        return Err(number_of(c));
-    };
-    thaw(l, t, p)
+    in_range(l.asked.temperature, l.asked.pressure, t, p)?;
+    not_solid(melting_pressure(t), p)?;
+    out_of_box(l.critical.temperature, l.critical.pressure, t, p)?;
+    enter(t, p)
 }

@@ -1,6 +1,6 @@
 // RULES 4.5 and 5.1: the search for the density at which the pressure worked on a curve passes the one asked for.
 // Nothing is taken of the curve's shape, so each probe is where the definition's is (num_halving, specs/Halving.antt).
-ghost use Rattle.std.specs.Prelude.{◌≡◌, ◌<◌, T};
+ghost use Rattle.std.specs.Prelude.{◌≡◌, ◌<◌, T, Some};
 ghost use Rattle.std.specs.Float.{binary64};
 ghost use Rattle.std.specs.Float.Ieee.{fits, of_bits};
 ghost use Rattle.num_halving.specs.Halving.{NotAbove, Above, halve};
@@ -8,9 +8,11 @@ ghost use Rattle.num_working.specs.Number.{nonneg};
 ghost use Rattle.equation.specs.Equation.{of1996, pressure_on, state_on};
 ghost use Rattle.door_pressure.specs.Search.{figure, searched};
 
-use door_answers::{answer_with};
-use eos_state::Phase;
+use door_answers::answer_with;
+use eos_state::{Phase, State};
 use equation::{Curve, curve_at, pressure_on, state_on};
+use num_halving::Missed;
+use refusal::Refusal;
 
 // From where the pressure is not above p to where it is above.
 fn narrow(curve: Curve, p: f64, from: u64, to: u64) -> Result<u64, Missed>
@@ -24,9 +26,7 @@ fn narrow(curve: Curve, p: f64, from: u64, to: u64) -> Result<u64, Missed>
     let mut hi = to;
     while lo + 1 < hi {
         let mid = lo + (hi - lo) / 2;
-        let Some(x) = pressure_on(curve, f64::from_bits(mid)) else {
-            return Err(Missed::Broke);
-        };
+        let x = pressure_on(curve, f64::from_bits(mid)).ok_or(Missed::Broke)?;
         if p < x {
             hi = mid;
         } else {
@@ -40,8 +40,8 @@ fn narrow(curve: Curve, p: f64, from: u64, to: u64) -> Result<u64, Missed>
 fn between(curve: Curve, p: f64, from: u64, to: u64, low: f64, high: f64) -> Result<u64, Missed>
     requires from_lt_to { from < to }
     requires to_bound { to < 0x7ff0_0000_0000_0000 }
-    requires from_value { pressure_on curve (of_bits binary64 from) ≡ Number low }
-    requires to_value { pressure_on curve (of_bits binary64 to) ≡ Number high }
+    requires from_value { pressure_on curve (of_bits binary64 from) ≡ Some low }
+    requires to_value { pressure_on curve (of_bits binary64 to) ≡ Some high }
     ensures { result ≡ halve (figure (pressure_on curve)) p from to }
 {
     if p < low {
@@ -60,12 +60,8 @@ fn crossing(curve: Curve, p: f64, from: u64, to: u64) -> Result<u64, Missed>
     if to <= from {
         return Err(Missed::Nowhere);
     }
-    let Some(low) = pressure_on(curve, f64::from_bits(from)) else {
-        return Err(Missed::Broke);
-    };
-    let Some(high) = pressure_on(curve, f64::from_bits(to)) else {
-        return Err(Missed::Broke);
-    };
+    let low = pressure_on(curve, f64::from_bits(from)).ok_or(Missed::Broke)?;
+    let high = pressure_on(curve, f64::from_bits(to)).ok_or(Missed::Broke)?;
     between(curve, p, from, to, low, high)
 }
 

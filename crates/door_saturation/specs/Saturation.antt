@@ -8,6 +8,7 @@ use Rattle.equation.specs.Equation.{Equation}
 use Rattle.door_limits.specs.Limits.{outside}
 use Rattle.door_limits.specs.declared.Limits.{Limits}
 use Rattle.refusal.specs.declared.Refusal.{Refusal}
+use Rattle.door_saturation.specs.declared.Saturation.{Saturation}
 
 abbrev pub Saturated : Type 0
 Saturated = Result Saturation Refusal

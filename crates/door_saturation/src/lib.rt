@@ -8,7 +8,8 @@ ghost use Rattle.door_saturation.specs.Saturation.{worked_at, saturated};
 
 use door_limits::{Limits, is_outside};
 use equation::{critical_temperature, liquid_density, vapour_density, vapour_pressure};
-use num_working::{is_finite};
+use num_working::is_finite;
+use refusal::Refusal;
 
 // The vapour pressure in Pa, the saturated densities in kg/m³.
 #[derive(Clone, Copy)]
@@ -18,29 +19,21 @@ pub struct Saturation {
     pub liquid: f64,
 }
 
+#[tactic(auto, unfolding(crate::specs::Saturation::worked_at))]
 fn worked_at(t: f64) -> Result<Saturation, Refusal>
     ensures { result ≡ worked_at of1996 t }
 {
-    let Some(pressure) = vapour_pressure(t) else {
-        return Err(Refusal(7));
-    };
-    let Some(vapour) = vapour_density(t) else {
-        return Err(Refusal(7));
-    };
-    let Some(liquid) = liquid_density(t) else {
-        return Err(Refusal(7));
-    };
-    Ok(Saturation {
-        pressure: pressure,
-        vapour: vapour,
-        liquid: liquid,
-    })
+    let pressure = vapour_pressure(t).ok_or(Refusal(7))?;
+    let vapour = vapour_density(t).ok_or(Refusal(7))?;
+    let liquid = liquid_density(t).ok_or(Refusal(7))?;
+    Ok(Saturation { pressure, vapour, liquid })
 }
 
+#[tactic(auto, unfolding(crate::specs::Saturation::saturated))]
 pub fn saturated_at(limits: Limits, t: f64) -> Result<Saturation, Refusal>
     ensures { result ≡ saturated of1996 limits t }
 {
-    if is_finite(t) {} else {
+    if !is_finite(t) {
         return Err(Refusal(3));
     }
     if is_outside(limits.asked.temperature, t) {

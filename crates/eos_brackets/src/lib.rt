@@ -102,12 +102,6 @@ pub fn grow(all: bool, s: Five, term: f64, brackets: Five) -> Five
             dt: s.dt + term * brackets.dt,
         }
     } else {
-        Five {
-            d,
-            dd: s.dd,
-            t: s.t,
-            tt: s.tt,
-            dt: s.dt,
-        }
+        Five { d, ..s }
     }
 }

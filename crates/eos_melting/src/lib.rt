@@ -7,7 +7,7 @@ ghost use Rattle.num_formulas.specs.Formula.{value};
 ghost use Rattle.eos_melting.specs.Melting.{past_triple, melting_pressure};
 
 use num_powers::whole_power;
-use num_working::{checked};
+use num_working::checked;
 
 // y = T/T_t − 1, in plain f64
 fn past_triple(t: f64) -> f64

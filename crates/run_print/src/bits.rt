@@ -1,6 +1,6 @@
 // What the programs that run figures say, one a line: numbers as the sixteen hexadecimal digits of their bits, since a
 // printed decimal could hide the last one.
-use num_working::{is_finite};
+use num_working::is_finite;
 
 // The number of standard output.
 pub const STDOUT: i32 = 1;

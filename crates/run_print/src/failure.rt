@@ -1,19 +1,15 @@
 // The line of a cell that was not found right.
-ghost use Rattle.std.specs.Prelude.{◌<◌};
-
 use crate::bits::{STDOUT, say};
-use crate::table::cell_bytes;
-use crate::tally::{Tally, found};
+use crate::table::Row;
+use crate::tally::{Count, Tally};
 
 // The whole number at or below x; 0 where there is none.
 fn whole(x: f64) -> u64 {
-    if x > -1.0 {
-        if x < 18446744073709551616.0 {
-            return std::num::truncating_f64_to_u64(x);
-        }
-        return 0;
+    if x > -1.0 && x < 18446744073709551616.0 {
+        std::num::truncating_f64_to_u64(x)
+    } else {
+        0
     }
-    0
 }
 
 // The six places are the last digits of a number of seven.
@@ -38,41 +34,40 @@ fn show(x: f64) {
     }
 }
 
-// A cell with its column's name.
-fn named(text: &[u8], line: usize, column: usize) {
-    say(cell_bytes(text, 0, column));
-    say(b" ");
-    say(cell_bytes(text, line, column));
+// What a comparison of a cell found, and the number that says how it is wrong, after words of what that is.
+#[derive(Clone, Copy)]
+pub struct Finding<'a> {
+    pub right: bool,
+    pub words: &'a [u8],
+    pub x: f64,
 }
 
-// The line of a failure: the row's first two cells, which tell it from others, the cell as printed, and the number that
-// says how it is wrong, after words of what that is.
-fn wrong(text: &[u8], line: usize, column: usize, words: &[u8], x: f64) {
-    named(text, line, 0);
-    say(b", ");
-    named(text, line, 1);
-    say(b": printed ");
-    named(text, line, column);
-    say(words);
-    show(x);
-    say(b"\n");
-}
-
-// A comparison of a cell, counted, and told where it was not found right.
-pub fn judged(
-    text: &[u8],
-    line: usize,
-    column: usize,
-    tally: Tally,
-    which: usize,
-    right: bool,
-    words: &[u8],
-    x: f64,
-) -> Tally
-    requires { which < 12 }
-{
-    if !right {
-        wrong(text, line, column, words, x);
+impl<'a> Row<'a> {
+    // A cell with its column's name.
+    fn tell(&self, column: usize) {
+        say(self.name(column));
+        say(b" ");
+        say(self.cell(column));
     }
-    found(tally, which, right)
+
+    // The line of a failure: the row's first two cells, which tell it from others, the cell as printed, and how it is
+    // wrong.
+    fn wrong(&self, column: usize, found: Finding) {
+        self.tell(0);
+        say(b", ");
+        self.tell(1);
+        say(b": printed ");
+        self.tell(column);
+        say(found.words);
+        show(found.x);
+        say(b"\n");
+    }
+
+    // A comparison of a cell, counted, and told where it was not found right.
+    pub fn judged(&self, column: usize, tally: &mut Tally, which: Count, found: Finding) {
+        if !found.right {
+            self.wrong(column, found);
+        }
+        tally.found(which, found.right);
+    }
 }

@@ -7,20 +7,13 @@ pub fn place_of(text: &[u8], at: usize, mark: u8) -> usize
     ensures { (at ≤ result) × (result ≤ length text.now) }
 {
     let mut quoted = false;
-    let mut i = at;
-    while i < text.len() {
-        let b = text[i];
-        if b == b'\n' {
-            return i;
+    for i in at..text.len() {
+        match text[i] {
+            b'\n' => return i,
+            b'"' => quoted = !quoted,
+            b if b == mark && !quoted => return i,
+            _ => {}
         }
-        if b == b'"' {
-            quoted = !quoted;
-        } else if !quoted {
-            if b == mark {
-                return i;
-            }
-        }
-        i += 1;
     }
-    i
+    text.len()
 }

@@ -16,6 +16,7 @@ use equation::{
 };
 use refusal::Refusal;
 
+#[tactic(auto, using(equation::proofs::Curves::on_curve, equation::proofs::Curves::state_on_curve), unfolding(crate::specs::DensityDoor::in_phase))]
 fn in_phase(l: Limits, phase: Phase, t: f64, rho: f64) -> Result<State, Refusal>
     ensures { result ≡ in_phase of1996 l phase t rho }
 {

@@ -1,17 +1,12 @@
--- Of the first alone no other is asked for. Assumes nothing.
-use Rattle.num_working.specs.Working.{checked}
-use Rattle.eos_brackets.specs.Derivative.{of}
-use Rattle.eos_brackets.proofs.Derivatives.{all_asked}
-use Rattle.eos_non_analytic.specs.Figures.{non_analytic_figures}
-use Rattle.eos_residual.specs.Sum.{onto}
-use Rattle.eos_residual.proofs.Sums.{first_alone}
+-- The three rows one after the other, of each sum that is asked for. Assumes nothing.
+use Rattle.eos_residual.proofs.ThreeRows.{three_rows}
 use Rattle.eos_residual.proofs.sum.non_analytic_sums.Goals as goal
 
-pub returns-then-all : goal.returns-then-all
-returns-then-all c = λ k h. c.non_analytic_five.ensures k (all_asked k)
-
 pub returns : goal.returns
-returns c =
+returns g c =
     let a = c.args in
-    first_alone a.start (λ k. onto (checked (of a.start k)) (non_analytic_figures a.iso a.p.delta k))
-    c.if-all.false c.with_first.ensures c.non_analytic_slope.ensures
+    λ k h.
+    three_rows a.iso a.p a.c c.requires.p_value c.requires.c_value
+    c.non_analytic_row.ensures c.non_analytic_row-2.ensures c.non_analytic_row-3.ensures _ k h
+    a.start c.add-s40.result c.add-s41.result c.add.result
+    c.add-s40.ensures c.add-s41.ensures c.add.ensures

@@ -13,42 +13,43 @@ use Rattle.eos_terms.specs.declared.term.Told.{Told}
 use Rattle.eos_terms.proofs.Points.{own}
 use Rattle.eos_residual.specs.Sum.{onto, total, polynomial_figures, exponential_figures, gaussian_figures}
 use Rattle.eos_residual.proofs.Totals.{in_turn}
+use Rattle.eos_residual.proofs.sum.sums_at.Given.{Over}
 use Rattle.eos_residual.proofs.sum.sums_at.Goals as goal
 use Rattle.eos_residual.proofs.sum.sums_at.Goals.{After-at_density-t}
 
 -- the point that each kind of rows is given
-placed : (c : After-at_density-t) → c.at_density-t.result.point ≡ point c.args.iso c.args.delta
+placed : (g : Over) (c : After-at_density-t g) → c.at_density-t.result.point ≡ point c.args.iso c.args.delta
 unfolding at_density
-placed c = ap (λ (t : Told). t.point) c.at_density-t.ensures
+placed g c = ap (λ (t : Told). t.point) c.at_density-t.ensures
 
-its : (c : After-at_density-t) → c.at_density-t.result.point ≡ point c.args.iso c.at_density-t.result.point.delta
-its c = (own _ c.args.delta _ (placed c)).0
+its : (g : Over) (c : After-at_density-t g) → c.at_density-t.result.point ≡ point c.args.iso c.at_density-t.result.point.delta
+its g c = (own _ c.args.delta _ (placed g c)).0
 
 pub polynomial_sums-s7-requires : goal.polynomial_sums-s7-requires
-polynomial_sums-s7-requires c = its (goal.at.polynomial_sums-s7-requires c).After-at_density-t
+polynomial_sums-s7-requires g c = its g (goal.at.polynomial_sums-s7-requires g c).After-at_density-t
 
 pub exponential_sums-s34-requires : goal.exponential_sums-s34-requires
-exponential_sums-s34-requires c = its (goal.at.exponential_sums-s34-requires c).After-at_density-t
+exponential_sums-s34-requires g c = its g (goal.at.exponential_sums-s34-requires g c).After-at_density-t
 
 pub gaussian_sums-s39-requires : goal.gaussian_sums-s39-requires
-gaussian_sums-s39-requires c = its (goal.at.gaussian_sums-s39-requires c).After-at_density-t
+gaussian_sums-s39-requires g c = its g (goal.at.gaussian_sums-s39-requires g c).After-at_density-t
 
 pub non_analytic_sums-requires : goal.non_analytic_sums-requires
-non_analytic_sums-requires c =
+non_analytic_sums-requires g c =
     let a = c.args in
-    let t = (goal.at.non_analytic_sums-requires c).After-at_density-t in record {
-      p_value = its t;
+    let t = (goal.at.non_analytic_sums-requires g c).After-at_density-t in record {
+      p_value = its g t;
       c_value = c.at_critical-c.ensures
           ∙ ap (λ (x : Near). critical_by x a.iso.tau) c.near_critical-near.ensures
           ∙ critical_by_lem a.iso a.delta
-          ∙ ap (critical a.iso) (sym (own a.iso a.delta _ (placed t)).1);
+          ∙ ap (critical a.iso) (sym (own a.iso a.delta _ (placed g t)).1);
     }
 
 pub returns : goal.returns
 unfolding at_density
-returns c =
+returns g c =
     let a = c.args in
-    let d = (own a.iso a.delta _ (placed (goal.at.returns c).After-at_density-t)).1 in (
+    let d = (own a.iso a.delta _ (placed g (goal.at.returns g c).After-at_density-t)).1 in (
       λ k h.
           in_turn a.iso a.delta k _ _ _ _
           (c.polynomial_sums-s7.ensures k h ∙ ap (λ (x : Float). total (polynomial_figures a.iso x k)) d)

@@ -2,9 +2,7 @@
 #![tactic(auto)]
 
 ghost use Rattle.std.specs.Prelude.{◌≡◌};
-ghost use Rattle.desk_arguments.specs.Arguments.{same_bytes, dashed, other_of, is_help, flag_of, word_of, none, first_of, one_more, wishing, naming, flagged, taken};
-
-use check::same;
+ghost use Rattle.desk_arguments.specs.Arguments.{same_bytes, is_help, dashed, word_of, none, first_of, one_more, taken};
 
 // A word, by itself.
 #[derive(Clone, Copy)]
@@ -43,70 +41,50 @@ pub struct Asked {
     pub ended: bool,
 }
 
+// A byte string is an array, which `==` takes for no slice; as an argument it is one.
+#[tactic(auto, unfolding(crate::specs::Arguments::same_bytes))]
 fn is_word(w: &[u8], b: &[u8]) -> bool
     ensures { result ≡ same_bytes w.now b.now }
 {
-    same(w, b)
+    w == b
 }
 
-// It begins with `-`.
-fn is_dashed(w: &[u8]) -> bool
-    ensures { result ≡ dashed w.now }
-{
-    if w.len() == 0 {
-        return false;
-    }
-    w[0] == b'-'
-}
-
-// A word that is no flag of the others.
-fn other_of(w: &[u8]) -> Word
-    ensures { result ≡ other_of w.now }
-{
-    if is_word(w, b"--") {
-        return Word::End;
-    }
-    if is_dashed(w) {
-        return Word::NoFlag;
-    }
-    Word::File
-}
-
+#[tactic(auto, unfolding(crate::specs::Arguments::is_help))]
 fn is_help(w: &[u8]) -> bool
     ensures { result ≡ is_help w.now }
 {
-    if is_word(w, b"-h") {
-        return true;
-    }
-    is_word(w, b"--help")
+    is_word(w, b"-h") || is_word(w, b"--help")
 }
 
-fn flag_of(w: &[u8]) -> Word
-    ensures { result ≡ flag_of w.now }
+#[tactic(auto, unfolding(crate::specs::Arguments::dashed))]
+fn is_dashed(w: &[u8]) -> bool
+    ensures { result ≡ dashed w.now }
 {
-    if is_help(w) {
-        return Word::Help;
-    }
-    if is_word(w, b"--explain") {
-        return Word::Explain;
-    }
-    if is_word(w, b"--version") {
-        return Word::Version;
-    }
-    other_of(w)
+    w.starts_with(b"-")
 }
 
 // ended: `--` came before it.
+#[tactic(auto, unfolding(crate::specs::Arguments::word_of, crate::specs::Arguments::flag_of, crate::specs::Arguments::other_of))]
 pub fn word_of(ended: bool, w: &[u8]) -> Word
     ensures { result ≡ word_of ended w.now }
 {
     if is_word(w, b"-") {
-        return Word::Input;
+        Word::Input
+    } else if ended {
+        Word::File
+    } else if is_help(w) {
+        Word::Help
+    } else if is_word(w, b"--explain") {
+        Word::Explain
+    } else if is_word(w, b"--version") {
+        Word::Version
+    } else if is_word(w, b"--") {
+        Word::End
+    } else if is_dashed(w) {
+        Word::NoFlag
+    } else {
+        Word::File
     }
-    if ended {
-        return Word::File;
-    }
-    flag_of(w)
 }
 
 pub fn nothing_asked() -> Asked
@@ -126,9 +104,7 @@ fn first_of(a: Wish, b: Wish) -> Wish
 {
     match a {
         Wish::Score => b,
-        Wish::Help => Wish::Help,
-        Wish::Version => Wish::Version,
-        Wish::NoFlag(i) => Wish::NoFlag(i),
+        decided => decided,
     }
 }
 
@@ -137,49 +113,7 @@ fn one_more(n: Named) -> Named
 {
     match n {
         Named::Nothing => Named::One,
-        Named::One => Named::Several,
-        Named::Several => Named::Several,
-    }
-}
-
-fn with_wish(a: Asked, w: Wish) -> Asked
-    ensures { result ≡ wishing a w }
-{
-    let named = a.named;
-    let wish = a.wish;
-    let first = first_of(wish, w);
-    Asked {
-        wish: first,
-        named: named,
-        explained: a.explained,
-        ended: a.ended,
-    }
-}
-
-fn with_file(a: Asked) -> Asked
-    ensures { result ≡ naming a }
-{
-    let wish = a.wish;
-    let named = a.named;
-    let more = one_more(named);
-    Asked {
-        wish: wish,
-        named: more,
-        explained: a.explained,
-        ended: a.ended,
-    }
-}
-
-fn with_flags(a: Asked, explained: bool, ended: bool) -> Asked
-    ensures { result ≡ flagged a explained ended }
-{
-    let wish = a.wish;
-    let named = a.named;
-    Asked {
-        wish: wish,
-        named: named,
-        explained: explained,
-        ended: ended,
+        Named::One | Named::Several => Named::Several,
     }
 }
 
@@ -188,12 +122,26 @@ pub fn take_word(a: Asked, i: usize, w: Word) -> Asked
     ensures { result ≡ taken a i w }
 {
     match w {
-        Word::Explain => with_flags(a, true, a.ended),
-        Word::Help => with_wish(a, Wish::Help),
-        Word::Version => with_wish(a, Wish::Version),
-        Word::End => with_flags(a, a.explained, true),
-        Word::Input => with_file(a),
-        Word::File => with_file(a),
-        Word::NoFlag => with_wish(a, Wish::NoFlag(i)),
+        Word::Explain => Asked {
+            explained: true,
+            ..a
+        },
+        Word::Help => Asked {
+            wish: first_of(a.wish, Wish::Help),
+            ..a
+        },
+        Word::Version => Asked {
+            wish: first_of(a.wish, Wish::Version),
+            ..a
+        },
+        Word::End => Asked { ended: true, ..a },
+        Word::Input | Word::File => Asked {
+            named: one_more(a.named),
+            ..a
+        },
+        Word::NoFlag => Asked {
+            wish: first_of(a.wish, Wish::NoFlag(i)),
+            ..a
+        },
     }
 }

@@ -72,7 +72,7 @@ fn gauge_in(limits: Limits, t: f64, p: f64, v: u64) -> Option<Doubt>
     None
 }
 
-fn gauge_at(limits: Limits, k: Option<f64>, r: Reading, v: u64) -> Option<Doubt>
+fn gauge_at(limits: Limits, k: Option<f64>, r: Reading<f64>, v: u64) -> Option<Doubt>
     ensures { result ≡ gauge_at limits k r v }
 {
     let Some(t) = k else {
@@ -86,7 +86,7 @@ fn gauge_at(limits: Limits, k: Option<f64>, r: Reading, v: u64) -> Option<Doubt>
     }
 }
 
-pub fn gauge_of(limits: Limits, l: Line) -> Option<Doubt>
+pub fn gauge_of(limits: Limits, l: Line<f64>) -> Option<Doubt>
     ensures { result ≡ gauge limits l }
 {
     let number = l.number;

@@ -91,7 +91,7 @@ fn is_overfull(mg: Milligrams, volume: Option<u64>) -> bool
 }
 
 // With the state that the milligrams are of, or that they were weighed.
-fn seen_by(limits: Limits, mg: Milligrams, k: Option<f64>, volume: Option<u64>, r: Reading) -> Look
+fn seen_by(limits: Limits, mg: Milligrams, k: Option<f64>, volume: Option<u64>, r: Reading<f64>) -> Look
     ensures { result ≡ seen limits mg k volume r }
 {
     match r {
@@ -106,7 +106,7 @@ fn seen_by(limits: Limits, mg: Milligrams, k: Option<f64>, volume: Option<u64>, 
 }
 
 // What came of the line decides.
-pub fn look_at(limits: Limits, w: Result<Milligrams, Refusal>, l: Line) -> Look
+pub fn look_at(limits: Limits, w: Result<Milligrams, Refusal>, l: Line<f64>) -> Look
     ensures { result ≡ look limits w l }
 {
     let temperature = l.temperature;

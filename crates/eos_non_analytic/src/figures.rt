@@ -19,6 +19,7 @@ fn m_of(row: NonAnalytic, n: Near, edge: Edge) -> f64
 }
 
 // The five brackets by m and P₂: what they share is worked once.
+#[inline(always)]
 fn brackets_by(row: NonAnalytic, n: Near, edge: Edge, m: f64, p2: f64, delta: f64, tau: f64) -> Five
     ensures { result ≡ five (λ k. value (brackets_by row (held_near n) (held_edge edge) (num m) (num p2) delta tau k)) }
 {
@@ -55,6 +56,7 @@ fn brackets_by(row: NonAnalytic, n: Near, edge: Edge, m: f64, p2: f64, delta: f6
 }
 
 // P₂ is worked only where a second derivative is.
+#[inline(always)]
 fn brackets(row: NonAnalytic, n: Near, edge: Edge, delta: f64, tau: f64) -> Five
     ensures { result ≡ five (λ k. value (non_analytic_bracket row (held_near n) (held_edge edge) delta tau k)) }
 {

@@ -134,19 +134,34 @@ fn non_analytic_sums<const ALL: bool>(start: Five, iso: Isotherm, p: Point, c: C
     add::<ALL>(s41, non_analytic_row(2), c.near, c.third, z[1], d, t)
 }
 
+// The four kinds of rows in turn, from what is worked once for all of them.
+fn all_rows<const ALL: bool>(iso: Isotherm, p: Point, c: Critical) -> Five
+    requires p_value { p ≡ point iso p.delta }
+    requires c_value { c ≡ critical iso p.delta }
+    ensures { Meet ALL result (λ k. residual iso p.delta k) }
+{
+    let s7 = polynomial_sums::<ALL>(iso, p);
+    let s34 = exponential_sums::<ALL>(s7, iso, p);
+    let s39 = gaussian_sums::<ALL>(s34, iso, p);
+    non_analytic_sums::<ALL>(s39, iso, p, c)
+}
+
 // All 42, in plain f64. Rows 40 to 42 wait longest for their roots, and their second roots for their first: so the first
-// are begun before the exponentials, and the second before the sums.
-fn sums_at<const ALL: bool>(iso: Isotherm, delta: f64) -> Added
-    ensures { Meet ALL result.five (λ k. residual iso delta k) × (result.fallen ≡ cond ALL (fallen_terms iso delta) 0) }
+// are begun before the exponentials, and the second before the sums. `all` is a parameter and no const one, so that what
+// is worked once for all rows is called from one place, and laid out there (docs/DECISIONS.md).
+fn sums_at(all: bool, iso: Isotherm, delta: f64) -> Added
+    ensures { Meet all result.five (λ k. residual iso delta k) × (result.fallen ≡ cond all (fallen_terms iso delta) 0) }
 {
     let near = near_critical(delta);
-    let t = at_density(ALL, iso, delta);
+    let t = at_density(all, iso, delta);
     let c = at_critical(near, iso.tau);
-    let s7 = polynomial_sums::<ALL>(iso, t.point);
-    let s34 = exponential_sums::<ALL>(s7, iso, t.point);
-    let s39 = gaussian_sums::<ALL>(s34, iso, t.point);
+    let five = if all {
+        all_rows::<true>(iso, t.point, c)
+    } else {
+        all_rows::<false>(iso, t.point, c)
+    };
     Added {
-        five: non_analytic_sums::<ALL>(s39, iso, t.point, c),
+        five,
         fallen: t.fallen,
     }
 }
@@ -155,7 +170,7 @@ fn sums_at<const ALL: bool>(iso: Isotherm, delta: f64) -> Added
 pub fn slope_at(iso: Isotherm, delta: f64) -> Option<f64>
     ensures { result ≡ residual iso delta Delta }
 {
-    checked(sums_at::<false>(iso, delta).five.d)
+    checked(sums_at(false, iso, delta).five.d)
 }
 
 fn also_finite(x: f64, others: bool) -> bool
@@ -185,7 +200,7 @@ fn all_five(s: Five) -> Option<Five>
 pub fn residual_part(iso: Isotherm, delta: f64) -> Residual
     ensures { result ≡ residual_part iso delta }
 {
-    let s = sums_at::<true>(iso, delta);
+    let s = sums_at(true, iso, delta);
     Residual {
         sums: all_five(s.five),
         fallen: s.fallen,

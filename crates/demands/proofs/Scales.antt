@@ -207,7 +207,7 @@ module _ (L : Limits) where
 
   -- ---- A SHEET WITHOUT A WEIGHED LINE HAS THE REPORT THAT IT HAD
 
-  abbrev came_then : List ℕ → Line → Weighed
+  abbrev came_then : List ℕ → Line Float → Weighed
   came_then before l = if_passed (standing_then before l) (weighed_then L l)
 
   -- by which fields are blank

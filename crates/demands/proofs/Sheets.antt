@@ -1,6 +1,6 @@
 -- A sheet: its report, for every byte string, and every byte of the lent output. Assumes nothing.
 use Rattle.refusal.specs.Refused.{refused}
-use Rattle.std.specs.Prelude.{Some, None, Ok, Err, Option}
+use Rattle.std.specs.Prelude.{Float, Some, None, Ok, Err, Option}
 use Prim.Native.Nat.{ℕ, zero, suc, ◌+◌, ◌-◌, ◌*◌, ◌^◌, ◌≤◌, ◌<◌}
 use mathlib.Core.Path.{◌≡◌, refl, sym, ap, subst, ◌∙◌}
 use mathlib.Core.Bool.{true}
@@ -81,28 +81,28 @@ mass_at (mg ∷ mgs) (suc i) n h e = mass_at mgs i n (le_of_suc-le-suc h) e
 
 module _ (L : Limits) where
   -- a line that is refused by itself, by its place
-  pub record RefusedAlone (ls : List Line) : Type 0 where
+  pub record RefusedAlone (ls : List (Line Float)) : Type 0 where
     pub place : ℕ
     pub number : ℕ
     pub within : place < length ls
     pub refused : weighed L (get_or ls place blank_line) ≡ Err number
 
-  placed : {ls : List Line} → OneRefused L ls → RefusedAlone ls
+  placed : {ls : List (Line Float)} → OneRefused L ls → RefusedAlone ls
   placed (here {l} {ls} {n} e) = record { place = 0; number = n; within = omega arith; refused = e }
   placed (there r) = let p = placed r in record { place = suc p.place; number = p.number; within = omega (arith, p.within); refused = p.refused }
 
-  at_place : (ls : List Line) (i n : ℕ) → i < length ls → weighed L (get_or ls i blank_line) ≡ Err n → OneRefused L ls
+  at_place : (ls : List (Line Float)) (i n : ℕ) → i < length ls → weighed L (get_or ls i blank_line) ≡ Err n → OneRefused L ls
   at_place [] i n h e = absurd (omega arith)
   at_place (l ∷ ls) zero n h e = here e
   at_place (l ∷ ls) (suc i) n h e = there (at_place ls i n (le_of_suc-le-suc h) e)
 
-  all_weighed : (ls : List Line) (mgs : List ℕ) → marked_before L ls ≡ massed mgs → AllWeighed L ls mgs
+  all_weighed : (ls : List (Line Float)) (mgs : List ℕ) → marked_before L ls ≡ massed mgs → AllWeighed L ls mgs
   all_weighed [] [] e = none_left
   all_weighed [] (mg ∷ mgs) e = let z : 0 ≡ suc (length (massed mgs)) = ap length e in absurd (omega arith)
   all_weighed (l ∷ ls) [] e = let z : suc (length (marked_before L ls)) ≡ 0 = ap length e in absurd (omega arith)
   all_weighed (l ∷ ls) (mg ∷ mgs) e = one_more (ap (λ (ms : List Mark). (get_or ms 0 no_mark).weighed) e) (all_weighed ls mgs (ap (drop 1) e))
 
-  weighed_total : {ls : List Line} {mgs : List ℕ} → AllWeighed L ls mgs → total (marked_before L ls) ≡ Some (as_milligrams (sum mgs))
+  weighed_total : {ls : List (Line Float)} {mgs : List ℕ} → AllWeighed L ls mgs → total (marked_before L ls) ≡ Some (as_milligrams (sum mgs))
   unfolding total
   weighed_total none_left = refl
   weighed_total (one_more e a) = rw (e, weighed_total a)
@@ -309,11 +309,11 @@ module _ (L : Limits) where
   short_once t n mg r w = no_t t n w (Ending.Short mg) refl r
 
   -- the largest total: 32 lines of less than 2⁵³ mg each, which 64 bits hold
-  each_under : {ls : List Line} {mgs : List ℕ} → AllWeighed L ls mgs → sum mgs ≤ length ls * (2 ^ 53 - 1)
+  each_under : {ls : List (Line Float)} {mgs : List ℕ} → AllWeighed L ls mgs → sum mgs ≤ length ls * (2 ^ 53 - 1)
   each_under none_left = omega arith
   each_under (one_more {l} {ls} e a) =
       let u = subst Under e (weighed_under L l) in
       omega (arith, u, each_under a)
 
-  pub largest_total : {ls : List Line} {mgs : List ℕ} → AllWeighed L ls mgs → length ls ≤ 32 → sum mgs ≤ 32 * (2 ^ 53 - 1)
+  pub largest_total : {ls : List (Line Float)} {mgs : List ℕ} → AllWeighed L ls mgs → length ls ≤ 32 → sum mgs ≤ 32 * (2 ^ 53 - 1)
   largest_total a h = omega (arith, each_under a)

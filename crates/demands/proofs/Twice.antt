@@ -1,6 +1,6 @@
 -- A line on its sheet: each refusal exactly under its condition, 30 among them; and where no number stands twice, all as it was. Assumes nothing.
 use Rattle.refusal.specs.Refused.{refused}
-use Rattle.std.specs.Prelude.{Some, None, Ok, Err, Option}
+use Rattle.std.specs.Prelude.{Float, Some, None, Ok, Err, Option}
 use Prim.Native.Nat.{ℕ, zero, suc, ◌<◌}
 use mathlib.Core.Path.{◌≡◌, refl, sym, ap, subst, ◌∙◌}
 use mathlib.Core.Bool.{Bool, true, false, cond, ◌||◌, true≢false}
@@ -91,7 +91,7 @@ on_sheet (c ∷ cs) zero n e = omega arith
 on_sheet (c ∷ cs) (suc i) n e = omega (arith, on_sheet cs i n e)
 
 module _ (cs : List Cylinder) (i : ℕ) where
-  abbrev above : List Line
+  abbrev above : List (Line Float)
   above = take i (map line_of cs)
 
   above_at : (j : ℕ) → j < i → get_or above j blank_line ≡ line_of (at cs j)
@@ -106,7 +106,7 @@ module _ (cs : List Cylinder) (i : ℕ) where
           earlier = a.place;
           cylinder = n;
           before = h;
-          there = ap (λ (l : Line). l.number) (sym (above_at a.place h)) ∙ a.has;
+          there = ap (λ (l : Line Float). l.number) (sym (above_at a.place h)) ∙ a.has;
           here = here;
         }
 
@@ -115,7 +115,7 @@ module _ (cs : List Cylinder) (i : ℕ) where
         let same : a.cylinder ≡ n = cc in
         let h = on_sheet cs a.earlier a.cylinder a.there in
         is_named blank_line above n a.earlier (omega (arith, h, a.before, length-take i (map line_of cs), length-map cs line_of))
-        (ap (λ (l : Line). l.number) (above_at a.earlier a.before) ∙ a.there ∙ ap Some same)
+        (ap (λ (l : Line Float). l.number) (above_at a.earlier a.before) ∙ a.there ∙ ap Some same)
 
   -- ---- so each line passes its first checks, or doesn't, as its condition says
 
@@ -179,7 +179,7 @@ same_number e = cc
 pub no_mass : {A : Type 0} {n : ℕ} {mg : Milligrams} → Err n ≡ Ok mg → A
 no_mass e = let z : ◌≡◌ {A = ℕ} 0 1 = cc in absurd (omega arith)
 
-abbrev mark_alone : Limits → Line → Mark
+abbrev mark_alone : Limits → Line Float → Mark
 mark_alone L l = record { weighed = weighed L l }
 
 alone_at : (L : Limits) (cs : List Cylinder) (i : ℕ) → i < length cs → (get_or (marked_before L (map line_of cs)) i no_mark).weighed ≡ weighed L (line_of (at cs i))

@@ -1,7 +1,7 @@
 -- RULES 3.2, 6.4, 6.7 and 10.1: what is demanded of a line's record, of a weighed line on its sheet and of the largest total, and what is as it was before a
 -- cylinder could be weighed. Definitions only.
 use Rattle.refusal.specs.Refused.{refused}
-use Rattle.std.specs.Prelude.{ℕ, zero, suc, ◌+◌, ◌*◌, ◌≤◌, ◌<◌, ◌≡◌, Bool, true, false, cond, ◌||◌, List, [], ◌∷◌, ◌++◌, map, length, Some, None, Ok, Err, Option}
+use Rattle.std.specs.Prelude.{Float, ℕ, zero, suc, ◌+◌, ◌*◌, ◌≤◌, ◌<◌, ◌≡◌, Bool, true, false, cond, ◌||◌, List, [], ◌∷◌, ◌++◌, map, length, Some, None, Ok, Err, Option}
 use Rattle.std.specs.Float.{binary64}
 use Rattle.std.specs.Float.Ieee.{div}
 use Rattle.num_working.specs.Number.{whole}
@@ -18,8 +18,7 @@ use Rattle.sheet_mass.specs.declared.Milligrams.{Milligrams}
 use Rattle.sheet_line.specs.Line.{temperature_of, line_of, Temperature}
 use Rattle.sheet_line.specs.declared.cylinder.Kind.{Kind}
 use Rattle.sheet_line.specs.declared.cylinder.Cylinder.{Cylinder}
-use Rattle.sheet_line.specs.declared.record.Recorded.{Recorded}
-use Rattle.sheet_line.specs.declared.record.Record.{Record}
+use Rattle.sheet_line.specs.Record.{Recorded, Record}
 use Rattle.sheet_line.specs.declared.line.Reading.{Reading}
 use Rattle.sheet_line.specs.declared.line.Line.{Line}
 use Rattle.sheet_read.specs.Form.{Bank, Fair, text, in_form}
@@ -36,10 +35,10 @@ use Rattle.demands.specs.Twice.{at, Again, came}
 -- ---- a line's record keeps all that the line says: its number, temperature and volume, whatever they are, and its value with its kind, unless it is blank
 
 pub data KeepsReading (c : Cylinder) : Recorded → Type 0 where
-  keeps_none : c.value ≡ None → KeepsReading c Recorded.Blank
-  keeps_pressure : {n : ℕ} → c.kind ≡ Kind.Pressure → c.value ≡ Some n → KeepsReading c (Recorded.Pressure n)
-  keeps_density : {n : ℕ} → c.kind ≡ Kind.Density → c.value ≡ Some n → KeepsReading c (Recorded.Density n)
-  keeps_grams : {n : ℕ} → c.kind ≡ Kind.Weighed → c.value ≡ Some n → KeepsReading c (Recorded.Weighed (as_grams n))
+  keeps_none : c.value ≡ None → KeepsReading c Reading.Blank
+  keeps_pressure : {n : ℕ} → c.kind ≡ Kind.Pressure → c.value ≡ Some n → KeepsReading c (Reading.Pressure n)
+  keeps_density : {n : ℕ} → c.kind ≡ Kind.Density → c.value ≡ Some n → KeepsReading c (Reading.Density n)
+  keeps_grams : {n : ℕ} → c.kind ≡ Kind.Weighed → c.value ≡ Some n → KeepsReading c (Reading.Weighed (as_grams n))
 
 pub record Keeps (c : Cylinder) (r : Record) : Type 0 where
   pub number : r.number ≡ c.number
@@ -126,41 +125,41 @@ Without w [] = Unit {0}
 Without w (b ∷ t) = (b ≡ w → ⊥) × Without w t
 
 -- the line as it said then; a kind that there was not is none
-abbrev pub reading_then : Kind → Field → Reading
+abbrev pub reading_then : Kind → Field → Reading Float
 reading_then k None = Reading.Blank
 reading_then Kind.Pressure (Some n) = Reading.Pressure (whole n)
 reading_then Kind.Density (Some n) = Reading.Density (div binary64 (whole n) (whole 1000))
 reading_then Kind.Weighed (Some n) = Reading.Blank
 
-abbrev pub line_then : Cylinder → Line
+abbrev pub line_then : Cylinder → Line Float
 line_then c = record { number = c.number; temperature = temperature_of c.temperature; reading = reading_then c.kind c.value; volume = c.volume }
 
-abbrev pub no_reading_then : Reading → Bool
+abbrev pub no_reading_then : Reading Float → Bool
 no_reading_then Reading.Blank = true
 no_reading_then (Reading.Pressure p) = false
 no_reading_then (Reading.Density d) = false
 no_reading_then (Reading.Weighed g) = true
 
-abbrev pub lacking_then : Line → Bool
+abbrev pub lacking_then : Line Float → Bool
 lacking_then l = no_temperature l.temperature || (no_volume l.volume || no_reading_then l.reading)
 
-abbrev pub standing_then : List ℕ → Line → Check
+abbrev pub standing_then : List ℕ → Line Float → Check
 standing_then before l = if_numbered l.number (λ n. cond (lacking_then l) (refused 1) (cond (is_on before n) (refused 30) (Ok tt)))
 
 abbrev pub filled_then : ℕ → Answer → Weighed
 filled_then v a = cond (is_volume v) (by_answer a v) (refused 2)
 
 module _ (L : Limits) where
-  abbrev pub by_reading_then : Temperature → ℕ → Reading → Weighed
+  abbrev pub by_reading_then : Temperature → ℕ → Reading Float → Weighed
   by_reading_then k v Reading.Blank = refused 1
   by_reading_then k v (Reading.Pressure p) = if_kelvin k (λ t. filled_then v (pressure_door of1996 L t p))
   by_reading_then k v (Reading.Density d) = if_kelvin k (λ t. filled_then v (density_door of1996 L t d))
   by_reading_then k v (Reading.Weighed g) = refused 1
 
-  abbrev pub weighed_then : Line → Weighed
+  abbrev pub weighed_then : Line Float → Weighed
   weighed_then l = if_number l.number (λ _. if_number l.volume (λ v. by_reading_then l.temperature v l.reading))
 
-  unfoldable pub marked_then : List ℕ → List Line → List Mark
+  unfoldable pub marked_then : List ℕ → List (Line Float) → List Mark
   marked_then before [] = []
   marked_then before (l ∷ ls) = record { weighed = if_passed (standing_then before l) (weighed_then l) } ∷ marked_then (before ++ numbers (l ∷ [])) ls
 

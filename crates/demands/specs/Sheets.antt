@@ -1,6 +1,6 @@
 -- RULES 10.1: what is demanded of a sheet: its report, for every byte string, in the order of RULES 3.4. Definitions only.
 use Rattle.refusal.specs.Refused.{refused}
-use Rattle.std.specs.Prelude.{ℕ, ◌+◌, ◌≤◌, ◌<◌, ◌≡◌, List, [], ◌∷◌, ◌++◌, map, length, get_or, Some, None, Ok, Err}
+use Rattle.std.specs.Prelude.{Float, ℕ, ◌+◌, ◌≤◌, ◌<◌, ◌≡◌, List, [], ◌∷◌, ◌++◌, map, length, get_or, Some, None, Ok, Err}
 use Rattle.std.specs.Borrow.{Bor, MutBor}
 use Rattle.door_limits.specs.declared.Limits.{Limits}
 use Rattle.sheet_text.specs.Field.{Field}
@@ -16,7 +16,7 @@ use Rattle.sheet_report.specs.Report.{lines_bytes, ending_bytes, Written}
 use Rattle.sheet_score.specs.Score.{sent_back}
 use Rattle.demands.specs.Twice.{Twice}
 
-abbrev pub lines : Bank → List Line
+abbrev pub lines : Bank → List (Line Float)
 lines b = map line_of b.cylinders
 
 -- the exact sum of the lines' milligrams
@@ -45,14 +45,14 @@ pub record Needs (t : List ℕ) (b : Bank) (mg : ℕ) : Type 0 where
 
 module _ (L : Limits) where
   -- some line is refused by itself
-  pub data OneRefused : List Line → Type 0 where
-    here : {l : Line} {ls : List Line} {n : ℕ} → weighed L l ≡ Err n → OneRefused (l ∷ ls)
-    there : {l : Line} {ls : List Line} → OneRefused ls → OneRefused (l ∷ ls)
+  pub data OneRefused : List (Line Float) → Type 0 where
+    here : {l : Line Float} {ls : List (Line Float)} {n : ℕ} → weighed L l ≡ Err n → OneRefused (l ∷ ls)
+    there : {l : Line Float} {ls : List (Line Float)} → OneRefused ls → OneRefused (l ∷ ls)
 
   -- every line is answered by itself, and these are their milligrams
-  pub data AllWeighed : List Line → List ℕ → Type 0 where
+  pub data AllWeighed : List (Line Float) → List ℕ → Type 0 where
     none_left : AllWeighed [] []
-    one_more : {l : Line} {ls : List Line} {mg : ℕ} {mgs : List ℕ} → weighed L l ≡ Ok (as_milligrams mg) → AllWeighed ls mgs → AllWeighed (l ∷ ls) (mg ∷ mgs)
+    one_more : {l : Line Float} {ls : List (Line Float)} {mg : ℕ} {mgs : List ℕ} → weighed L l ≡ Ok (as_milligrams mg) → AllWeighed ls mgs → AllWeighed (l ∷ ls) (mg ∷ mgs)
 
   -- RULES 7.1 and 7.2: the report of a text
   pub data Reported (t : List ℕ) : List ℕ → Type 0 where

@@ -1,6 +1,6 @@
 -- RULES 3.2, 6.6 and 10.1: what is demanded of a line on its sheet: when a number stands there twice, what came of each line then, and what is as it was
 -- before there was a refusal 30. Definitions only.
-use Rattle.std.specs.Prelude.{ℕ, ◌<◌, ◌≡◌, true, List, map, length, get_or, Some, None, Ok, Option}
+use Rattle.std.specs.Prelude.{Float, ℕ, ◌<◌, ◌≡◌, true, List, map, length, get_or, Some, None, Ok, Option}
 use Rattle.door_limits.specs.declared.Limits.{Limits}
 use Rattle.sheet_text.specs.Field.{Field}
 use Rattle.sheet_mass.specs.Mass.{as_milligrams}
@@ -69,8 +69,8 @@ module _ (L : Limits) where
 
   -- ---- as it was before: each line's mark is that of the line alone
 
-  abbrev pub marked_before : List Line → List Mark
-  marked_before ls = map (λ (l : Line). record { weighed = weighed L l }) ls
+  abbrev pub marked_before : List (Line Float) → List Mark
+  marked_before ls = map (λ (l : Line Float). record { weighed = weighed L l }) ls
 
   abbrev pub report_before : Option Bank → List ℕ
   report_before None = sent_back 14

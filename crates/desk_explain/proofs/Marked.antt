@@ -1,5 +1,5 @@
 -- What a line's explanation takes is what the report has of the line. Assumes nothing.
-use Rattle.std.specs.Prelude.{Ok}
+use Rattle.std.specs.Prelude.{Float, Ok}
 use Rattle.refusal.specs.Refused.{refused}
 use mathlib.Core.Path.{◌≡◌, refl, sym, ap, ◌∙◌}
 use mathlib.Core.List.{List}
@@ -22,7 +22,7 @@ use Rattle.desk_look.proofs.Agrees.{weighs, same_as_report}
 use Rattle.desk_explain.specs.Explain.{mark_at}
 
 module _ (L : Limits) where
-  of_lines : (ls : List Line) (i : ℕ) (d : Line) → length ls ≤ 32 → i < length ls
+  of_lines : (ls : List (Line Float)) (i : ℕ) (d : Line Float) → length ls ≤ 32 → i < length ls
       → mark_at (marks_for (marked L ls)) i ≡ weighed_after L (numbers (take i ls)) (get_or ls i d)
   unfolding marks_for
   of_lines ls i d h k =
@@ -35,7 +35,7 @@ module _ (L : Limits) where
   module _ (r : SheetRead) (mg : ℕ) (e : admitted r.ok r.sheet.count r.sheet.need ≡ Ok mg)
       (size : length r.sheet.lines ≡ 32) where
     -- of a sheet that is worked, the line after i others: what came of it after those
-    pub marked_as : (i : ℕ) (d : Line) → i < r.sheet.count
+    pub marked_as : (i : ℕ) (d : Line Float) → i < r.sheet.count
         → mark_at (outcome L r).marks i ≡ weighed_after L (numbers (take i r.sheet.lines)) (get_or r.sheet.lines i d)
     unfolding outcome
     marked_as i d k =
@@ -48,6 +48,6 @@ module _ (L : Limits) where
         ∙ rw (take-take i n ls (omega arith), get_or-take n ls i d k) refl)
 
     -- THE EXPLANATION OF A LINE IS THAT OF ITS REPORT
-    pub explained : (i : ℕ) (d : Line) → i < r.sheet.count
+    pub explained : (i : ℕ) (d : Line Float) → i < r.sheet.count
         → weighs (look L (mark_at (outcome L r).marks i) (get_or r.sheet.lines i d)) ≡ mark_at (outcome L r).marks i
     explained i d k = rw (marked_as i d k) (same_as_report L (numbers (take i r.sheet.lines)) (get_or r.sheet.lines i d))

@@ -1,5 +1,5 @@
 -- One turn of the loop that passes the lines of a text: so many were passed and are in the form, and the rest is left. Assumes nothing.
-use Rattle.std.specs.Prelude.{Some, None}
+use Rattle.std.specs.Prelude.{Float, Some, None}
 use mathlib.Core.Path.{◌≡◌, refl, ap, ◌∙◌}
 use mathlib.Core.Bool.{Bool, true, false}
 use mathlib.Core.List.{List, [], ◌∷◌, ◌++◌, append_assoc}
@@ -119,7 +119,7 @@ module _ {s : List ℕ} {passed at : ℕ} (t : Passed s passed at) where
     pub stops : line (drop at s) ≡ None → first_wrong s ≡ Some (passed + 1, lines_of (drop at s))
     stops e = t.rest ∙ cylinder_wrong (passed + 1) _ (drop at s) _ (front s at h) (no_line (drop at s) e)
 
-    pub one_more : (l : Line) (n : ℕ) → Leaves s at (line (drop at s)) l n → Passed s (passed + 1) n
+    pub one_more : (l : Line Float) (n : ℕ) → Leaves s at (line (drop at s)) l n → Passed s (passed + 1) n
     one_more l n e =
         let o = of_cylinder (drop at s) l (drop n s) e.0 in
         record { rest = t.rest ∙ cylinder_passed (passed + 1) (drop at s) (drop n s) o.c o.read; within = e.2; few = omega (arith, t.few, e.1) }

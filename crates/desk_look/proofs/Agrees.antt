@@ -1,6 +1,6 @@
 -- What is explained of a line never differs from the report: its milligrams or its refusal are those that were weighed. Assumes nothing.
 use Rattle.refusal.specs.Refused.{refused}
-use Rattle.std.specs.Prelude.{Some, None, Ok, Err}
+use Rattle.std.specs.Prelude.{Float, Some, None, Ok, Err}
 use Prim.Native.Nat.{ℕ}
 use mathlib.Core.Path.{◌≡◌, refl, ap}
 use mathlib.Core.List.{List}
@@ -33,7 +33,7 @@ weighs (Look.Refused n) = Err n
 
 module _ (L : Limits) where
   -- a door's reading: what it comes to is refused, or it is of the state that is told with it
-  module _ (k : Temperature) (volume : Field) (r : Reading) where
+  module _ (k : Temperature) (volume : Field) (r : Reading Float) where
     abbrev Agrees : Weighed → Type 0
     Agrees w = weighs (looked L w k volume r) ≡ w
 
@@ -53,7 +53,7 @@ module _ (L : Limits) where
   of_scale k volume g (Ok mg) = refl
   of_scale k volume g (Err n) = refl
 
-  of_reading : (v : ℕ) (k : Temperature) (volume : Field) (r : Reading) → weighs (looked L (by_reading L k v r) k volume r) ≡ by_reading L k v r
+  of_reading : (v : ℕ) (k : Temperature) (volume : Field) (r : Reading Float) → weighs (looked L (by_reading L k v r) k volume r) ≡ by_reading L k v r
   unfolding by_reading
   of_reading v k volume Reading.Blank = refl
   of_reading v None volume (Reading.Pressure p) = refl
@@ -68,18 +68,18 @@ module _ (L : Limits) where
       of_volume k volume r v _ (of_answer k volume r v (density_door of1996 L t d) (λ mg. refl))
   of_reading v k volume (Reading.Weighed g) = of_scale k volume g (filled v (on_scale (from_scale g)))
 
-  of_fields : (number volume : Field) (k : Temperature) (r : Reading)
+  of_fields : (number volume : Field) (k : Temperature) (r : Reading Float)
       → (let w = if_number number (λ _. if_number volume (λ v. by_reading L k v r)) in weighs (looked L w k volume r) ≡ w)
   of_fields None volume k r = refl
   of_fields (Some n) None k r = refl
   of_fields (Some n) (Some v) k r = of_reading v k (Some v) r
 
-  of_check : (c : Check) (l : Line) → weighs (look L (if_passed c (weighed L l)) l) ≡ if_passed c (weighed L l)
+  of_check : (c : Check) (l : Line Float) → weighs (look L (if_passed c (weighed L l)) l) ≡ if_passed c (weighed L l)
   unfolding look weighed
   of_check (Err n) l = refl
   of_check (Ok tt) l = of_fields l.number l.volume l.temperature l.reading
 
   -- THE EXPLANATION OF A LINE IS THAT OF ITS REPORT
-  pub same_as_report : (before : List ℕ) (l : Line) → weighs (look L (weighed_after L before l) l) ≡ weighed_after L before l
+  pub same_as_report : (before : List ℕ) (l : Line Float) → weighs (look L (weighed_after L before l) l) ≡ weighed_after L before l
   unfolding weighed_after
   same_as_report before l = of_check (standing before l) l

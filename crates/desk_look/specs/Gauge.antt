@@ -40,7 +40,7 @@ unfoldable pub gauge_in : Limits → Float → Float → ℕ → Gauge
 gauge_in L t p v = cond (is_volume v) (gauge_by (saturated of1996 L t) p v) None
 
 -- of a pressure at a temperature
-abbrev pub gauge_at : Limits → Temperature → Reading → ℕ → Gauge
+abbrev pub gauge_at : Limits → Temperature → Reading Float → ℕ → Gauge
 gauge_at L None r v = None
 gauge_at L (Some t) Reading.Blank v = None
 gauge_at L (Some t) (Reading.Pressure p) v = gauge_in L t p v
@@ -48,10 +48,10 @@ gauge_at L (Some t) (Reading.Density d) v = None
 gauge_at L (Some t) (Reading.Weighed g) v = None
 
 -- none of the line's fields is blank
-abbrev pub gauge_of : Limits → Field → Field → Temperature → Reading → Gauge
+abbrev pub gauge_of : Limits → Field → Field → Temperature → Reading Float → Gauge
 gauge_of L None volume k r = None
 gauge_of L (Some n) None k r = None
 gauge_of L (Some n) (Some v) k r = gauge_at L k r v
 
-unfoldable pub gauge : Limits → Line → Gauge
+unfoldable pub gauge : Limits → Line Float → Gauge
 gauge L l = gauge_of L l.number l.volume l.temperature l.reading

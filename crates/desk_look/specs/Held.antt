@@ -33,18 +33,18 @@ overfull mg None = false
 overfull mg (Some v) = is_volume v && ltb (750 * v) mg.0
 
 -- the door is that of the reading's kind; a blank has none, and what was weighed is of no state
-abbrev pub seen : Limits → Milligrams → Temperature → Field → Reading → Look
+abbrev pub seen : Limits → Milligrams → Temperature → Field → Reading Float → Look
 seen L mg k volume Reading.Blank = Look.Refused (record { 0 = 1 })
 seen L mg k volume (Reading.Pressure p) = at_door mg k (λ t. pressure_door of1996 L t p)
 seen L mg k volume (Reading.Density d) = at_door mg k (λ t. density_door of1996 L t d)
 seen L mg k volume (Reading.Weighed g) = Look.Weighed (record { mg = mg; overfull = overfull mg volume })
 
-abbrev pub looked : Limits → Weighed → Temperature → Field → Reading → Look
+abbrev pub looked : Limits → Weighed → Temperature → Field → Reading Float → Look
 looked L (Ok mg) k volume r = seen L mg k volume r
 looked L (Err n) k volume r = Look.Refused n
 
 -- what came of the line is handed in: it hangs on the lines before too
-unfoldable pub look : Limits → Weighed → Line → Look
+unfoldable pub look : Limits → Weighed → Line Float → Look
 look L w l = looked L w l.temperature l.volume l.reading
 
 -- above 750 kg/m³, more than a cylinder is filled with

@@ -64,7 +64,7 @@ fn gauge_in(limits: Limits, t: f64, p: f64, v: u64) -> Option<Doubt>
 }
 
 #[tactic(auto, unfolding(crate::specs::Gauge::gauge))]
-pub fn gauge_of(limits: Limits, l: Line) -> Option<Doubt>
+pub fn gauge_of(limits: Limits, l: Line<f64>) -> Option<Doubt>
     ensures { result ≡ gauge limits l }
 {
     let _ = l.number?;

@@ -65,7 +65,7 @@ fn is_overfull(mg: Milligrams, volume: Option<u64>) -> bool
 }
 
 // With the state that the milligrams are of, by the door of the reading's kind, or that they were weighed.
-fn seen_by(limits: Limits, mg: Milligrams, l: Line) -> Look
+fn seen_by(limits: Limits, mg: Milligrams, l: Line<f64>) -> Look
     ensures { result ≡ seen limits mg l.temperature l.volume l.reading }
 {
     match (l.reading, l.temperature) {
@@ -81,7 +81,7 @@ fn seen_by(limits: Limits, mg: Milligrams, l: Line) -> Look
 
 // What came of the line decides.
 #[tactic(auto, unfolding(crate::specs::Held::look))]
-pub fn look_at(limits: Limits, w: Result<Milligrams, Refusal>, l: Line) -> Look
+pub fn look_at(limits: Limits, w: Result<Milligrams, Refusal>, l: Line<f64>) -> Look
     ensures { result ≡ look limits w l }
 {
     match w {

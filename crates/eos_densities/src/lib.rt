@@ -6,7 +6,7 @@ ghost use Rattle.std.specs.Prelude.{◌≡◌};
 ghost use Rattle.num_working.specs.Working.{plain};
 ghost use Rattle.num_roots.specs.Root as Root;
 ghost use Rattle.num_formulas.specs.Formula.{num, value};
-ghost use Rattle.eos_densities.specs.Density.{liquid_sum, vapour_sum, above_zero, density_of, liquid_density, vapour_density};
+ghost use Rattle.eos_densities.specs.Density.{liquid_sum, vapour_sum, density_of, liquid_density, vapour_density};
 
 use eos_constants::{Printed, span_wagner, worked_as};
 use eos_saturation::theta_at;
@@ -43,26 +43,13 @@ fn vapour_sum(theta: f64) -> f64
         + -29.742252 * (whole_power(theta, 4) * to(theta, Exponent { m: 2, k: 3 }))
 }
 
-// One that is not above 0 is refusal 7 too (RULES 5).
-fn above_zero(w: Option<f64>) -> Option<f64>
-    ensures { result ≡ above_zero w }
-{
-    let Some(x) = w else {
-        return None;
-    };
-    if 0.0 < x {
-        Some(x)
-    } else {
-        None
-    }
-}
-
 // The density whose logarithm over the critical density is the sum. One test stands for all: what has failed on the way
-// is a NaN.
+// is a NaN. A density that is not above 0 is refusal 7 too (RULES 5).
 fn density_of(sum: f64) -> Option<f64>
     ensures { result ≡ density_of (num sum) }
 {
-    above_zero(checked(span_wagner().density * plain(answer_alone(exponential(sum)))))
+    let density = checked(span_wagner().density * plain(answer_alone(exponential(sum))))?;
+    (0.0 < density).then_some(density)
 }
 
 pub fn liquid_density(t: f64) -> Option<f64>

@@ -14,16 +14,18 @@ unfoldable pub table27 : Table
 table27 = record {
   a2 = Ieee.neg (decimal 370454304 8);
   a3 = decimal 250000000 8;
-  i4 = record { a = decimal 199427042 8; theta = decimal 315163 5 };
-  i5 = record { a = decimal 62105248 8; theta = decimal 611190 5 };
-  i6 = record { a = decimal 41195293 8; theta = decimal 677708 5 };
-  i7 = record { a = decimal 104028922 8; theta = decimal 1132384 5 };
-  i8 = record { a = decimal 8327678 8; theta = decimal 2708792 5 };
+  rows =
+      record { a = decimal 199427042 8; theta = decimal 315163 5 }
+      ∷ record { a = decimal 62105248 8; theta = decimal 611190 5 }
+      ∷ record { a = decimal 41195293 8; theta = decimal 677708 5 }
+      ∷ record { a = decimal 104028922 8; theta = decimal 1132384 5 }
+      ∷ record { a = decimal 8327678 8; theta = decimal 2708792 5 }
+      ∷ [];
 }
 
 -- the rows of the sums, i = 4 to 8
 abbrev pub rows : List Row
-rows = table27.i4 ∷ table27.i5 ∷ table27.i6 ∷ table27.i7 ∷ table27.i8 ∷ []
+rows = table27.rows
 
 -- Eᵢ = e^(−θᵢτ), and oᵢ = 1 − Eᵢ
 abbrev pub E : Float → Row → Formula

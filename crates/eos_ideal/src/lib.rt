@@ -16,16 +16,12 @@ struct Row {
     theta: f64,
 }
 
-// Table 27 but for a₁, which is for the entropy only.
+// Table 27 but for a₁, which is for the entropy only. The rows are i = 4 to 8.
 #[derive(Clone, Copy)]
 struct Table {
     a2: f64,
     a3: f64,
-    i4: Row,
-    i5: Row,
-    i6: Row,
-    i7: Row,
-    i8: Row,
+    rows: [Row; 5],
 }
 
 // φ°_τ and φ°_ττ as far as they are summed, in plain f64.
@@ -49,26 +45,28 @@ fn table_27() -> Table
     Table {
         a2: -3.70454304,
         a3: 2.5,
-        i4: Row {
-            a: 1.99427042,
-            theta: 3.15163,
-        },
-        i5: Row {
-            a: 0.62105248,
-            theta: 6.11190,
-        },
-        i6: Row {
-            a: 0.41195293,
-            theta: 6.77708,
-        },
-        i7: Row {
-            a: 1.04028922,
-            theta: 11.32384,
-        },
-        i8: Row {
-            a: 0.08327678,
-            theta: 27.08792,
-        },
+        rows: [
+            Row {
+                a: 1.99427042,
+                theta: 3.15163,
+            },
+            Row {
+                a: 0.62105248,
+                theta: 6.11190,
+            },
+            Row {
+                a: 0.41195293,
+                theta: 6.77708,
+            },
+            Row {
+                a: 1.04028922,
+                theta: 11.32384,
+            },
+            Row {
+                a: 0.08327678,
+                theta: 27.08792,
+            },
+        ],
     }
 }
 
@@ -86,8 +84,7 @@ fn heads(t: Table, tau: f64) -> Sums
 fn with_row(s: Sums, i: Row, tau: f64) -> Sums
     ensures { result ≡ sums (num s.first ⊕ row_τ tau i) (num s.second ⊖ row_ττ tau i) }
 {
-    let a = i.a;
-    let theta = i.theta;
+    let Row { a, theta } = i;
     let e = plain(answer_alone(exponential(-(theta * tau))));
     let o = 1.0 - e;
     Sums {
@@ -99,13 +96,12 @@ fn with_row(s: Sums, i: Row, tau: f64) -> Sums
 fn all_rows(tau: f64) -> Sums
     ensures { result ≡ sums (phi_τ tau) (phi_ττ tau) }
 {
-    let t = table_27();
-    let s3 = heads(t, tau);
-    let s4 = with_row(s3, t.i4, tau);
-    let s5 = with_row(s4, t.i5, tau);
-    let s6 = with_row(s5, t.i6, tau);
-    let s7 = with_row(s6, t.i7, tau);
-    with_row(s7, t.i8, tau)
+    let table = table_27();
+    let mut sums = heads(table, tau);
+    for row in &table.rows {
+        sums = with_row(sums, *row, tau);
+    }
+    sums
 }
 
 pub fn ideal_part(tau: f64) -> Ideal

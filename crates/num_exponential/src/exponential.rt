@@ -15,16 +15,13 @@ pub struct Said {
     pub fallen: bool,
 }
 
-// Where it is refused, there is no answer to say it with.
 // s becomes 1 − (y/k)·s for k = 14, 13, .., 1.
 fn series(y: f64) -> f64
     ensures { checked result ≡ series (checked y) 14 (checked (whole 1)) }
 {
     let mut s = 1.0;
-    let mut k = 14u32;
-    while 0 < k {
+    for k in (1..15u32).rev() {
         s = 1.0 - (y / (k as f64)) * s;
-        k -= 1;
     }
     s
 }
@@ -59,10 +56,8 @@ fn squared(s: f64) -> f64
     ensures { checked result ≡ squared 10 (checked s) }
 {
     let mut s = s;
-    let mut n = 10u32;
-    while 0 < n {
+    for n in (1..11u32).rev() {
         s = s * s;
-        n -= 1;
     }
     s
 }
@@ -71,7 +66,7 @@ fn squared(s: f64) -> f64
 pub(crate) fn in_series(x: f64) -> bool
     ensures { result ≡ in_series x }
 {
-    if 1e-200 <= x { x <= 700.0 } else { false }
+    1e-200 <= x && x <= 700.0
 }
 
 // Step 4: eˣ for x from −700 to 0.
@@ -89,7 +84,7 @@ fn falling(x: f64) -> Option<f64>
 fn steps(x: f64) -> Option<f64>
     ensures { result ≡ steps x }
 {
-    if is_finite(x) {} else {
+    if !is_finite(x) {
         return None;
     }
     if x < -700.0 {
@@ -101,18 +96,14 @@ fn steps(x: f64) -> Option<f64>
     if x <= 0.0 {
         return falling(x);
     }
-    let Some(e) = falling(-x) else {
-        return None;
-    };
+    let e = falling(-x)?;
     checked(1.0 / e)
 }
 
 pub fn exponential(x: f64) -> Option<Said>
     ensures { result ≡ exponential x }
 {
-    let Some(value) = steps(x) else {
-        return None;
-    };
+    let value = steps(x)?;
     Some(Said {
         value,
         fallen: x < -36.0,
@@ -123,8 +114,5 @@ pub fn exponential(x: f64) -> Option<Said>
 pub fn answer_alone(r: Option<Said>) -> Option<f64>
     ensures { result ≡ answer_alone r }
 {
-    match r {
-        Some(s) => Some(s.value),
-        None => None,
-    }
+    r.map(|s| s.value)
 }

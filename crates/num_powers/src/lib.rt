@@ -11,10 +11,8 @@ pub fn whole_power(x: f64, n: usize) -> f64
         return 1.0;
     }
     let mut p = x;
-    let mut i = 1;
-    while i < n {
+    for i in 1..n {
         p = p * x;
-        i += 1;
     }
     p
 }

@@ -1,4 +1,4 @@
-// RULES 4.2: a number that was worked is finite, or the working has failed.
+// RULES 4.2: a number that was worked is finite, or the working has failed and there is none.
 #![tactic(auto)]
 
 ghost use Rattle.std.specs.Prelude.{◌≡◌};
@@ -8,35 +8,26 @@ ghost use Rattle.num_working.specs.Working.{checked, over, plain};
 pub fn is_finite(x: f64) -> bool
     ensures { result ≡ finite x }
 {
-    let infinity = 1.0 / 0.0;
-    if x < infinity { -infinity < x } else { false }
+    x.is_finite()
 }
 
 // The one test at the end of a formula.
 pub fn checked(x: f64) -> Option<f64>
     ensures { result ≡ checked x }
 {
-    if is_finite(x) {
-        Some(x)
-    } else {
-        None
-    }
+    is_finite(x).then_some(x)
 }
 
 // For a formula that goes on in plain f64 and is tested at its end.
 pub fn plain(w: Option<f64>) -> f64
     ensures { result ≡ plain w }
 {
-    let Some(x) = w else {
-        return 0.0 / 0.0;
-    };
-    x
+    w.unwrap_or(0.0 / 0.0)
 }
 
 // A quotient by a divisor that is not a constant.
 pub fn over(x: f64, y: f64) -> f64
     ensures { result ≡ over x y }
 {
-    let divisor = plain(checked(y));
-    x / divisor
+    x / plain(checked(y))
 }

@@ -1,15 +1,13 @@
--- One step of reading a kind, by what stands at the place; and what is read from a later place on is read past an earlier one.
-use Rattle.std.specs.Prelude.{Option, Some, None}
+-- One step of reading a kind, by what stands at the place.
+use Rattle.std.specs.Prelude.{Some, None}
 use mathlib.Core.Path.{◌≡◌}
 use mathlib.Core.List.{List}
 use Prim.Native.Nat.{ℕ, ◌+◌, ◌≤◌, ◌<◌}
-use native.Mathlib.Omega.{arith}
 use lib.ListN.{length, drop, get_or, drop_of_length-le}
 use borrow.Author.Tests.{ne_eqb}
 use Rattle.sheet_text.proofs.Parses.{front}
-use Rattle.sheet_line.specs.Cylinder.{kind, CylinderIs}
+use Rattle.sheet_line.specs.Cylinder.{kind}
 use Rattle.sheet_line.specs.declared.cylinder.Kind.TheVariants.{Pressure, Density, Weighed}
-use Rattle.sheet_line.specs.declared.cylinder.Cylinder.{Cylinder}
 
 module _ (s : List ℕ) (at : ℕ) where
   pub kind_end : length s ≤ at → kind (drop at s) ≡ None
@@ -32,7 +30,3 @@ module _ (s : List ℕ) (at : ℕ) where
     pub kind_other : (get_or s at 0 ≡ 80 → ⊥) → (get_or s at 0 ≡ 68 → ⊥) → (get_or s at 0 ≡ 87 → ⊥) → kind (drop at s) ≡ None
     unfolding kind
     kind_other n m w = rw (front s at h, ne_eqb _ _ n, ne_eqb _ _ m, ne_eqb _ _ w)
-
-pub cylinder_from : (s : List ℕ) (at from : ℕ) (p : Option (Cylinder × List ℕ)) (r : Option (Cylinder × ℕ)) → CylinderIs s from p r → at < from → CylinderIs s at p r
-cylinder_from s at from p None x h = x
-cylinder_from s at from p (Some (c, n)) x h = (x.0, omega (arith, x.1), x.2)

@@ -1,5 +1,5 @@
 -- A field's number has at most 10 digits, in the record too, so a float holds it; and the line that is read is that of the cylinder that is read.
-use Rattle.std.specs.Prelude.{Some, None, Option}
+use Rattle.std.specs.Prelude.{Float, Some, None, Option}
 use mathlib.Core.Path.{◌≡◌, refl, sym, ◌∙◌}
 use mathlib.Core.List.{List}
 use Prim.Native.Nat.{ℕ, ◌<◌}
@@ -46,7 +46,7 @@ small_record c h = record { temperature = h.temperature; reading = small_reading
 -- ---- the cylinder of a line
 
 -- l is the line of a cylinder that stands at the front of u, with r after it
-pub record Of (u : List ℕ) (l : Line) (r : List ℕ) : Type 0 where
+pub record Of (u : List ℕ) (l : Line Float) (r : List ℕ) : Type 0 where
   pub c : Cylinder
   pub read : cylinder u ≡ Some (c, r)
   pub is : l ≡ line_of c
@@ -56,7 +56,7 @@ module _ (u : List ℕ) where
   none_of None e = refl
   none_of (Some p) e = absurd (none_or_some e refl)
 
-  some_of : (l : Line) (r : List ℕ) (o : Option (Cylinder × List ℕ)) → cylinder u ≡ o → and_then o (λ c. give (line_of c)) ≡ Some (l, r) → Of u l r
+  some_of : (l : Line Float) (r : List ℕ) (o : Option (Cylinder × List ℕ)) → cylinder u ≡ o → and_then o (λ c. give (line_of c)) ≡ Some (l, r) → Of u l r
   some_of l r None e f = absurd (none_or_some refl f)
   some_of l r (Some p) e f = let g = read_once (line_of p.0) l p.1 r f in record { c = p.0; read = e ∙ rw g.1; is = sym g.0 }
 
@@ -64,6 +64,6 @@ module _ (u : List ℕ) where
   unfolding line
   no_line e = none_of (cylinder u) e
 
-  pub of_cylinder : (l : Line) (r : List ℕ) → line u ≡ Some (l, r) → Of u l r
+  pub of_cylinder : (l : Line Float) (r : List ℕ) → line u ≡ Some (l, r) → Of u l r
   unfolding line
   of_cylinder l r e = some_of l r (cylinder u) refl e

@@ -1,8 +1,7 @@
 -- RULES 6.1 and 6.3: a cylinder's line as it is written. Definitions only.
-use Rattle.std.specs.Prelude.{ℕ, ◌≡◌, cond, List, [], ◌∷◌, ◌++◌, eqb, Option, Some, None}
+use Rattle.std.specs.Prelude.{ℕ, cond, List, [], ◌∷◌, ◌++◌, eqb, Some, None}
 use Rattle.sheet_text.specs.Parse.{Parser, ◌>>=◌, ◌>>◌, give, byte}
 use Rattle.sheet_text.specs.Field.{Small, field_text, field_to, field_after, Field}
-use Rattle.sheet_text.specs.Place.{Leaves}
 use Rattle.sheet_line.specs.declared.cylinder.Kind.{Kind}
 use Rattle.sheet_line.specs.declared.cylinder.Kind.TheVariants.{Pressure, Density, Weighed}
 use Rattle.sheet_line.specs.declared.cylinder.Cylinder.{Cylinder}
@@ -51,13 +50,3 @@ cylinder = do
   number ← field_after 67 32
   temperature ← field_to 32
   reading number temperature
-
--- ---- what the code's answers say of a text s
-
-abbrev pub KindIs : List ℕ → ℕ → Option (Kind × List ℕ) → Option (Kind × ℕ) → Type 0
-KindIs s at p None = p ≡ None
-KindIs s at p (Some (k, n)) = Leaves s at p k n
-
-abbrev pub CylinderIs : List ℕ → ℕ → Option (Cylinder × List ℕ) → Option (Cylinder × ℕ) → Type 0
-CylinderIs s at p None = p ≡ None
-CylinderIs s at p (Some (c, n)) = Leaves s at p c n

@@ -1,16 +1,13 @@
 -- RULES 6.4: what a cylinder's line says. Definitions only.
-use Rattle.std.specs.Prelude.{ℕ, ◌≡◌, List, Some, None, Option}
+use Rattle.std.specs.Prelude.{Float, Some, None, Option}
 use Rattle.std.specs.Float.{binary64}
 use Rattle.std.specs.Float.Ieee.{div}
 use Rattle.num_working.specs.Number.{whole}
 use Rattle.sheet_text.specs.Parse.{Parser, ◌>>=◌, give}
-use Rattle.sheet_text.specs.Place.{Leaves}
 use Rattle.sheet_text.specs.Field.{Field}
 use Rattle.sheet_line.specs.Cylinder.{cylinder}
-use Rattle.sheet_line.specs.Record.{record_of}
+use Rattle.sheet_line.specs.Record.{record_of, Recorded, Record}
 use Rattle.sheet_line.specs.declared.cylinder.Cylinder.{Cylinder}
-use Rattle.sheet_line.specs.declared.record.Recorded.{Recorded}
-use Rattle.sheet_line.specs.declared.record.Record.{Record}
 use Rattle.sheet_line.specs.declared.line.Reading.{Reading}
 use Rattle.sheet_line.specs.declared.line.Line.{Line}
 
@@ -24,30 +21,25 @@ temperature_of None = None
 temperature_of (Some n) = Some (div binary64 (whole n) (whole 10000))
 
 -- a pressure is the number, in Pa, a density the number over 1000, in kg/m³, one division; grams stay what they are
-abbrev pub reading_of : Recorded → Reading
-reading_of Recorded.Blank = Reading.Blank
-reading_of (Recorded.Pressure n) = Reading.Pressure (whole n)
-reading_of (Recorded.Density n) = Reading.Density (div binary64 (whole n) (whole 1000))
-reading_of (Recorded.Weighed g) = Reading.Weighed g
+abbrev pub reading_of : Recorded → Reading Float
+reading_of Reading.Blank = Reading.Blank
+reading_of (Reading.Pressure n) = Reading.Pressure (whole n)
+reading_of (Reading.Density n) = Reading.Density (div binary64 (whole n) (whole 1000))
+reading_of (Reading.Weighed g) = Reading.Weighed g
 
 -- of a record, and so of a cylinder's line as it is written
-abbrev pub line_from : Record → Line
+abbrev pub line_from : Record → Line Float
 line_from r = record { number = r.number; temperature = temperature_of r.temperature; reading = reading_of r.reading; volume = r.volume }
 
-abbrev pub line_of : Cylinder → Line
+abbrev pub line_of : Cylinder → Line Float
 line_of c = line_from (record_of c)
 
 -- where a sheet has no line
-abbrev pub blank_line : Line
+abbrev pub blank_line : Line Float
 blank_line = record { number = None; temperature = None; reading = Reading.Blank; volume = None }
 
 -- the line of the cylinder at the front of a text
-unfoldable pub line : Parser Line
+unfoldable pub line : Parser (Line Float)
 line = do
   c ← cylinder
   give (line_of c)
-
--- what the code's answer says of a text s
-abbrev pub LineIs : List ℕ → ℕ → Option (Line × List ℕ) → Option (Line × ℕ) → Type 0
-LineIs s at p None = p ≡ None
-LineIs s at p (Some (l, n)) = Leaves s at p l n

@@ -1,7 +1,8 @@
 // RULES 6.1 and 6.3: a cylinder's line as it is written: `C`, the cylinder number, the temperature, `P`, `D` or `W`, the
 // value, and the volume.
 ghost use Rattle.std.specs.Prelude.{drop};
-ghost use Rattle.sheet_line.specs.Cylinder.{kind, reading, cylinder, KindIs, CylinderIs};
+ghost use Rattle.sheet_text.specs.Place.{Reads};
+ghost use Rattle.sheet_line.specs.Cylinder.{kind, reading, cylinder};
 
 use sheet_text::{read_field_after, read_field_to, skip};
 
@@ -21,59 +22,48 @@ pub struct Cylinder {
     pub volume: Option<u64>,
 }
 
+#[tactic(auto, using(crate::proofs::Cylinders::kind_end, crate::proofs::Cylinders::kind_pressure, crate::proofs::Cylinders::kind_density, crate::proofs::Cylinders::kind_weighed, crate::proofs::Cylinders::kind_other))]
 fn read_kind(s: &[u8], at: usize) -> Option<(Kind, usize)>
-    ensures { KindIs s.now at (kind (drop at s.now)) result }
+    ensures { Reads s.now at (kind (drop at s.now)) result }
 {
-    if at >= s.len() {
-        return None;
-    }
-    let b = s[at];
-    if b == b'P' {
-        return Some((Kind::Pressure, at + 1));
-    }
-    if b == b'D' {
-        return Some((Kind::Density, at + 1));
-    }
-    if b == b'W' {
-        return Some((Kind::Weighed, at + 1));
-    }
-    None
+    let k = match *s.get(at)? {
+        b'P' => Kind::Pressure,
+        b'D' => Kind::Density,
+        b'W' => Kind::Weighed,
+        _ => return None,
+    };
+    Some((k, at + 1))
 }
 
 // The rest of a line whose number and temperature are read.
-fn read_reading(s: &[u8], at: usize, number: Option<u64>, temperature: Option<u64>) -> Option<(Cylinder, usize)>
-    ensures { CylinderIs s.now at (reading number temperature (drop at s.now)) result }
+#[tactic(auto, unfolding(crate::specs::Cylinder::reading))]
+fn read_reading(
+    s: &[u8],
+    at: usize,
+    number: Option<u64>,
+    temperature: Option<u64>,
+) -> Option<(Cylinder, usize)>
+    ensures { Reads s.now at (reading number temperature (drop at s.now)) result }
 {
-    let Some((kind, space_at)) = read_kind(s, at) else {
-        return None;
-    };
-    let Some(value_at) = skip(s, space_at, b' ') else {
-        return None;
-    };
-    let Some((value, volume_at)) = read_field_to(s, value_at, b' ') else {
-        return None;
-    };
-    let Some((volume, next)) = read_field_to(s, volume_at, b'\n') else {
-        return None;
-    };
+    let (kind, space_at) = read_kind(s, at)?;
+    let value_at = skip(s, space_at, b' ')?;
+    let (value, volume_at) = read_field_to(s, value_at, b' ')?;
+    let (volume, next) = read_field_to(s, volume_at, b'\n')?;
     let c = Cylinder {
-        number: number,
-        temperature: temperature,
-        kind: kind,
-        value: value,
-        volume: volume,
+        number,
+        temperature,
+        kind,
+        value,
+        volume,
     };
     Some((c, next))
 }
 
+#[tactic(auto, unfolding(crate::specs::Cylinder::cylinder), using(sheet_text::proofs::Places::reads_from))]
 pub fn read_cylinder(s: &[u8], at: usize) -> Option<(Cylinder, usize)>
-    ensures { CylinderIs s.now at (cylinder (drop at s.now)) result }
+    ensures { Reads s.now at (cylinder (drop at s.now)) result }
 {
-    let Some((number, temperature_at)) = read_field_after(s, at, b'C', b' ') else {
-        return None;
-    };
-    let Some((temperature, kind_at)) = read_field_to(s, temperature_at, b' ') else {
-        return None;
-    };
+    let (number, temperature_at) = read_field_after(s, at, b'C', b' ')?;
+    let (temperature, kind_at) = read_field_to(s, temperature_at, b' ')?;
     read_reading(s, kind_at, number, temperature)
 }

@@ -12,13 +12,14 @@ pub struct Grams(pub u64);
 #[derive(Clone, Copy)]
 pub struct Milligrams(pub u64);
 
-// A weighed mass in milligrams, or that it is out of its range.
+// RULES 2.4, in g.
 fn is_mass(g: u64) -> bool
     ensures { result ≡ is_mass g }
 {
     g >= 1 && g <= 9_999_999_999
 }
 
+#[tactic(auto, unfolding(crate::specs::Mass::milligrams_of))]
 fn milligrams_of(g: Grams) -> Milligrams
     requires { g.0 ≤ 9_999_999_999 }
     ensures { result ≡ milligrams_of g }
@@ -26,6 +27,8 @@ fn milligrams_of(g: Grams) -> Milligrams
     Milligrams(1000 * g.0)
 }
 
+// None where it is out of its range.
+#[tactic(auto, unfolding(crate::specs::Mass::from_scale), using(crate::proofs::Masses::mass_most))]
 pub fn from_scale(g: Grams) -> Option<Milligrams>
     ensures { result ≡ from_scale g }
 {

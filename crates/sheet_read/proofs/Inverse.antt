@@ -59,13 +59,13 @@ end_whole [] o h = (refl, tt)
 end_whole (b ∷ rest) o h = h
 
 after_line : (u : List ℕ) (c : Cylinder) (r : List ℕ) → u ≡ cylinder_text c ++ r → AllSmall c
-    → (o : Option (List Cylinder)) → Whole r o → Whole u (map (λ cs. c ∷ cs) o)
+    → (o : Option (List Cylinder)) → Whole r o → Whole u (option_map (λ cs. c ∷ cs) o)
 unfolding cylinders_text
 after_line u c r e a None g = tt
 after_line u c r e a (Some cs) g = (e ∙ ap (λ (l : List ℕ). cylinder_text c ++ l) g.0, (a, g.1))
 
 line_whole : (u : List ℕ) (o : Option (Cylinder × List ℕ)) (f : List ℕ → Option (List Cylinder))
-    → Says cylinder_text u o → All AllSmall o → ((r : List ℕ) → Whole r (f r)) → Whole u (and_then o (λ c rest. map (λ cs. c ∷ cs) (f rest)))
+    → Says cylinder_text u o → All AllSmall o → ((r : List ℕ) → Whole r (f r)) → Whole u (and_then o (λ c rest. option_map (λ cs. c ∷ cs) (f rest)))
 line_whole u None f h a k = tt
 line_whole u (Some p) f h a k = after_line u p.0 p.1 h a (f p.1) (k p.1)
 

@@ -1,9 +1,7 @@
 -- One turn of the loop that reads the cylinders' lines: what was read stands in front of what is left.
-use Rattle.std.specs.Prelude.{Option, Some, None}
+use Rattle.std.specs.Prelude.{Float, Option, Some, None, option_map}
 use mathlib.Core.Path.{◌≡◌, refl, sym, ap, ◌∙◌}
-use mathlib.Core.Bool.{true}
 use mathlib.Core.List.{List, [], ◌∷◌, ◌++◌, map, append_assoc, append-nil}
-use mathlib.Core.Option
 use Prim.Native.Nat.{ℕ, zero, suc, ◌+◌, ◌-◌, ◌≤◌, ◌<◌}
 use native.Mathlib.Omega.{arith}
 use lib.ListN.{length, drop, set, length-append, length-map, drop_of_length-le}
@@ -22,13 +20,13 @@ use Rattle.sheet_read.proofs.Paddings.{padded_set, padded_full}
 -- ---- what was read, and then what is left
 
 abbrev pub after : List Cylinder → Option (List Cylinder) → Option (List Cylinder)
-after cs = Option.map (λ ds. cs ++ ds)
+after cs = option_map (λ ds. cs ++ ds)
 
 after_none : (o : Option (List Cylinder)) → after [] o ≡ o
 after_none None = refl
 after_none (Some ds) = refl
 
-after_more : (cs : List Cylinder) (c : Cylinder) (o : Option (List Cylinder)) → after cs (Option.map (λ ds. c ∷ ds) o) ≡ after (cs ++ (c ∷ [])) o
+after_more : (cs : List Cylinder) (c : Cylinder) (o : Option (List Cylinder)) → after cs (option_map (λ ds. c ∷ ds) o) ≡ after (cs ++ (c ∷ [])) o
 after_more cs c None = refl
 after_more cs c (Some ds) = rw append_assoc
 
@@ -45,18 +43,18 @@ module _ (k : ℕ) (u : List ℕ) (b : ℕ) (rest : List ℕ) (e : u ≡ b ∷ r
   unfolding cylinders
   cylinders_bad n = not_at_end u b rest _ e ∙ rw n
 
-  pub cylinders_more : (c : Cylinder) (v : List ℕ) → cylinder u ≡ Some (c, v) → cylinders (suc k) u ≡ Option.map (λ cs. c ∷ cs) (cylinders k v)
+  pub cylinders_more : (c : Cylinder) (v : List ℕ) → cylinder u ≡ Some (c, v) → cylinders (suc k) u ≡ option_map (λ cs. c ∷ cs) (cylinders k v)
   unfolding cylinders
   cylinders_more c v n = not_at_end u b rest _ e ∙ rw n
 
 -- ---- the lines that the array holds after cs
 
-abbrev pub kept : List Cylinder → List Line
+abbrev pub kept : List Cylinder → List (Line Float)
 kept cs = padded blank_line 32 (map line_of cs)
 
 map_more : (cs : List Cylinder) (c : Cylinder) → map line_of (cs ++ (c ∷ [])) ≡ map line_of cs ++ (line_of c ∷ [])
 map_more [] c = refl
-map_more (d ∷ cs) c = ap (λ (l : List Line). line_of d ∷ l) (map_more cs c)
+map_more (d ∷ cs) c = ap (λ (l : List (Line Float)). line_of d ∷ l) (map_more cs c)
 
 kept_set : (cs : List Cylinder) (c : Cylinder) → length cs < 32 → set (kept cs) (length cs) (line_of c) ≡ kept (cs ++ (c ∷ []))
 kept_set cs c h =
@@ -70,7 +68,7 @@ kept_full cs c h = padded_full blank_line 32 (map line_of cs) (line_of c) (omega
 -- ---- the loop
 
 -- the invariant: cs are the cylinders that were read, the array holds their lines, and what is left of the text has the rest
-pub record Turn (s : List ℕ) (from : ℕ) (lines : List Line) (count at : ℕ) : Type 0 where
+pub record Turn (s : List ℕ) (from : ℕ) (lines : List (Line Float)) (count at : ℕ) : Type 0 where
   pub cs : List Cylinder
   pub counted : count ≡ length cs
   pub held : lines ≡ kept cs
@@ -83,14 +81,14 @@ first s from h =
     let z : length s - 0 ≡ length s = omega arith in
     record { cs = []; counted = refl; held = refl; rest = rw (z, after_none); passed = omega arith; within = h }
 
-module _ (s : List ℕ) (from : ℕ) (lines : List Line) (count at : ℕ) (t : Turn s from lines count at) where
+module _ (s : List ℕ) (from : ℕ) (lines : List (Line Float)) (count at : ℕ) (t : Turn s from lines count at) where
   pub done : (need : Field) → length s ≤ at
-      → record { ok = true; sheet = record { need = need; lines = lines; count = count } } ≡ sheet_read (with_need need (cylinders (length s) (drop from s)))
-  unfolding sheet_read sheet_of
+      → Some (record { need = need; lines = lines; count = count }) ≡ sheet_read (with_need need (cylinders (length s) (drop from s)))
+  unfolding sheet_of
   done need h = rw (t.rest, drop_of_length-le s h, cylinders_end, append-nil, t.held, t.counted)
 
   -- the array after one line more, with room for it and without
-  pub held_more : (c : Cylinder) (l : Line) → l ≡ line_of c → count < 32 → set lines count l ≡ kept (t.cs ++ (c ∷ []))
+  pub held_more : (c : Cylinder) (l : Line Float) → l ≡ line_of c → count < 32 → set lines count l ≡ kept (t.cs ++ (c ∷ []))
   held_more c l e h = rw (e, t.held, t.counted) (kept_set t.cs c (omega (arith, t.counted)))
 
   pub held_full : (c : Cylinder) → 32 ≤ count → lines ≡ kept (t.cs ++ (c ∷ []))
@@ -110,7 +108,7 @@ module _ (s : List ℕ) (from : ℕ) (lines : List Line) (count at : ℕ) (t : T
         ∙ after_more t.cs c (cylinders (length s - (count + 1)) v)
 
     pub more : (c : Cylinder) (next : ℕ) → cylinder (drop at s) ≡ Some (c, drop next s) → at < next → next ≤ length s
-        → (lines' : List Line) → lines' ≡ kept (t.cs ++ (c ∷ [])) → Turn s from lines' (count + 1) next
+        → (lines' : List (Line Float)) → lines' ≡ kept (t.cs ++ (c ∷ [])) → Turn s from lines' (count + 1) next
     more c next e l m lines' k =
         record {
           cs = t.cs ++ (c ∷ []);

@@ -39,11 +39,11 @@ unless_end (b ∷ rest) o = o
 -- one cylinder's line after the other, up to the end of the text; the first argument only bounds the recursion
 unfoldable pub cylinders : ℕ → List ℕ → Option (List Cylinder)
 cylinders zero s = unless_end s None
-cylinders (suc k) s = unless_end s (and_then (cylinder s) (λ c rest. map (λ cs. c ∷ cs) (cylinders k rest)))
+cylinders (suc k) s = unless_end s (and_then (cylinder s) (λ c rest. option_map (λ cs. c ∷ cs) (cylinders k rest)))
 
 -- with the need that stands before them
 abbrev pub with_need : Field → Option (List Cylinder) → Option Bank
-with_need need = map (λ cs. record { need = need; cylinders = cs })
+with_need need = option_map (λ cs. record { need = need; cylinders = cs })
 
 -- the need, and then the cylinders
 unfoldable pub bank : ℕ → List ℕ → Option Bank

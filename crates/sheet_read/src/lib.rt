@@ -8,25 +8,18 @@ ghost use Rattle.sheet_read.specs.Form.{cylinders, with_need, in_form};
 ghost use Rattle.sheet_read.specs.Sheet.{sheet_read};
 
 use sheet_line::line::{Line, Reading, read_line};
-use sheet_text::{read_field_after};
+use sheet_text::read_field_after;
 
 // The first 32 lines, and how many there are.
 #[derive(Clone, Copy)]
 pub struct Sheet {
     pub need: Option<u64>,
-    pub lines: [Line; 32],
+    pub lines: [Line<f64>; 32],
     pub count: usize,
 }
 
-// ok: the text is in the form. Where it is not, the sheet is blank.
-#[derive(Clone, Copy)]
-pub struct SheetRead {
-    pub ok: bool,
-    pub sheet: Sheet,
-}
-
 // Where a sheet has no line.
-fn blank_line() -> Line
+fn blank_line() -> Line<f64>
     ensures { result ≡ blank_line }
 {
     Line {
@@ -37,58 +30,33 @@ fn blank_line() -> Line
     }
 }
 
-fn not_in_form() -> SheetRead
-    ensures { result ≡ sheet_read none }
-{
-    let l = blank_line();
-    SheetRead {
-        ok: false,
-        sheet: Sheet {
-            need: None,
-            lines: [l; 32],
-            count: 0,
-        },
-    }
-}
-
 // Lines beyond 32 are read for their form, and counted.
-fn read_lines(s: &[u8], from: usize, need: Option<u64>) -> SheetRead
+fn read_lines(s: &[u8], from: usize, need: Option<u64>) -> Option<Sheet>
     requires { from ≤ length s.now }
     ensures { result ≡ sheet_read (with_need need (cylinders (length s.now) (drop from s.now))) }
 {
-    let l = blank_line();
-    let mut lines = [l; 32];
+    let mut lines = [blank_line(); 32];
     let mut count: usize = 0;
     let mut at = from;
     while at < s.len() {
-        let Some((line, next)) = read_line(s, at) else {
-            return not_in_form();
-        };
+        let (line, next) = read_line(s, at)?;
         if count < 32 {
             lines[count] = line;
         }
         count += 1;
         at = next;
     }
-    SheetRead {
-        ok: true,
-        sheet: Sheet {
-            need: need,
-            lines: lines,
-            count: count,
-        },
-    }
+    Some(Sheet { need, lines, count })
 }
 
+// None where the text is not in the form.
 #[tactic(auto, unfolding(crate::specs::Form::in_form, crate::specs::Form::bank))]
-pub fn read_sheet(s: &[u8]) -> SheetRead
+pub fn read_sheet(s: &[u8]) -> Option<Sheet>
     ensures { result ≡ sheet_read (in_form s.now) }
 {
     if s.len() > 65536 {
-        return not_in_form();
+        return None;
     }
-    let Some((need, at)) = read_field_after(s, 0, b'N', b'\n') else {
-        return not_in_form();
-    };
+    let (need, at) = read_field_after(s, 0, b'N', b'\n')?;
     read_lines(s, at, need)
 }

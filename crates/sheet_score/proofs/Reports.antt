@@ -1,5 +1,5 @@
 -- What the arrays of 32 hold is the sheet's lines and their marks, so the outcome's report is the sheet's. Assumes nothing.
-use Rattle.std.specs.Prelude.{Ok, Err, Option, Some, None}
+use Rattle.std.specs.Prelude.{Float, Ok, Err, Option, Some, None}
 use mathlib.Core.Path.{◌≡◌, refl}
 use mathlib.Core.Bool.{true}
 use mathlib.Core.List.{List, [], map}
@@ -28,7 +28,7 @@ sent_back_lem number ms = refl
 
 module _ (L : Limits) where
   module _ (b : Bank) where
-    abbrev lines : List Line
+    abbrev lines : List (Line Float)
     lines = map line_of b.cylinders
 
     lines_back : length b.cylinders ≤ 32 → take (length b.cylinders) (padded blank_line 32 lines) ≡ lines

@@ -1,5 +1,5 @@
 -- A number is among those of lines exactly where one of the lines has it. Assumes nothing.
-use Rattle.std.specs.Prelude.{Some, None}
+use Rattle.std.specs.Prelude.{Float, Some, None}
 use mathlib.Core.Path.{◌≡◌, refl, sym, ap, ◌∙◌}
 use mathlib.Core.Bool.{Bool, true, false, ◌||◌, true≢false}
 use mathlib.Core.List.{List, [], ◌∷◌}
@@ -13,17 +13,17 @@ use Rattle.sheet_text.specs.Field.{Field}
 use Rattle.sheet_line.specs.declared.line.Line.{Line}
 use Rattle.sheet_standing.specs.Standing.{is_on, onto, numbers}
 
-module _ (d : Line) where
+module _ (d : Line Float) where
   -- the line at a place, the first being 0, has the number
-  pub record Named (ls : List Line) (n : ℕ) : Type 0 where
+  pub record Named (ls : List (Line Float)) (n : ℕ) : Type 0 where
     pub place : ℕ
     pub within : place < length ls
     pub has : (get_or ls place d).number ≡ Some n
 
-  later : {l : Line} {ls : List Line} {n : ℕ} → Named ls n → Named (l ∷ ls) n
+  later : {l : Line Float} {ls : List (Line Float)} {n : ℕ} → Named ls n → Named (l ∷ ls) n
   later a = record { place = suc a.place; within = omega (arith, a.within); has = a.has }
 
-  pub named : (ls : List Line) (n : ℕ) → is_on (numbers ls) n ≡ true → Named ls n
+  pub named : (ls : List (Line Float)) (n : ℕ) → is_on (numbers ls) n ≡ true → Named ls n
   unfolding is_on numbers
   named [] n e = absurd (true≢false (sym e))
   named (l ∷ ls) n e = by_field l.number refl (named ls n) e
@@ -37,7 +37,7 @@ module _ (d : Line) where
       by_field None p rest e = later (rest e)
       by_field (Some m) p rest e = by_test m (eqb m n) p refl rest e
 
-  pub is_named : (ls : List Line) (n i : ℕ) → i < length ls → (get_or ls i d).number ≡ Some n → is_on (numbers ls) n ≡ true
+  pub is_named : (ls : List (Line Float)) (n i : ℕ) → i < length ls → (get_or ls i d).number ≡ Some n → is_on (numbers ls) n ≡ true
   unfolding is_on numbers
   is_named [] n i h e = absurd (omega arith)
   is_named (l ∷ ls) n zero h e = rw (e, eq-eqb n n refl)

@@ -1,5 +1,5 @@
 -- Whether a number is among others, one after the other; and the numbers of lines that are joined. Assumes nothing.
-use Rattle.std.specs.Prelude.{Some, None}
+use Rattle.std.specs.Prelude.{Float, Some, None}
 use mathlib.Core.Path.{◌≡◌, refl, sym, ap, ◌∙◌}
 use mathlib.Core.Bool.{true, false}
 use mathlib.Core.List.{List, [], ◌∷◌, ◌++◌}
@@ -30,7 +30,7 @@ module _ (ms : List ℕ) (n i : ℕ) (e : is_on ms n ≡ is_on (drop i ms) n) wh
 
 -- ---- the numbers of lines
 
-pub numbers_joined : (ls ms : List Line) → numbers (ls ++ ms) ≡ numbers ls ++ numbers ms
+pub numbers_joined : (ls ms : List (Line Float)) → numbers (ls ++ ms) ≡ numbers ls ++ numbers ms
 unfolding numbers
 numbers_joined [] ms = refl
 numbers_joined (l ∷ ls) ms = ap (onto l.number) (numbers_joined ls ms) ∙ sym (go l.number)
@@ -40,7 +40,7 @@ numbers_joined (l ∷ ls) ms = ap (onto l.number) (numbers_joined ls ms) ∙ sym
     go (Some n) = refl
 
 -- no more than there are lines
-pub numbers_most : (ls : List Line) → length (numbers ls) ≤ length ls
+pub numbers_most : (ls : List (Line Float)) → length (numbers ls) ≤ length ls
 unfolding numbers
 numbers_most [] = omega arith
 numbers_most (l ∷ ls) = go l.number (numbers_most ls)

@@ -18,7 +18,7 @@ fn is_blank(k: Option<f64>) -> bool
 }
 
 // Of the fields but the cylinder number. A reading that asks a door takes the temperature with it.
-fn is_lacking(l: Line) -> bool
+fn is_lacking(l: Line<f64>) -> bool
     ensures { result ≡ lacking l }
 {
     let temperature = l.temperature;
@@ -49,7 +49,7 @@ fn is_on(numbers: &[u64], n: u64) -> bool
 }
 
 // The numbers are those of the lines before it. A blank is none.
-pub fn standing_of(numbers: &[u64], l: Line) -> Result<(), Refusal>
+pub fn standing_of(numbers: &[u64], l: Line<f64>) -> Result<(), Refusal>
     ensures { result ≡ standing numbers.now l }
 {
     let number = l.number;
@@ -65,7 +65,7 @@ pub fn standing_of(numbers: &[u64], l: Line) -> Result<(), Refusal>
     Ok(())
 }
 
-fn has_number(l: Line, n: u64) -> bool
+fn has_number(l: Line<f64>, n: u64) -> bool
     ensures { result ≡ is_on (numbers (l ∷ [])) n }
 {
     let number = l.number;

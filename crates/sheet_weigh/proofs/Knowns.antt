@@ -1,5 +1,5 @@
 -- The cylinder numbers that were read so far, in an array of 32. Assumes nothing.
-use Rattle.std.specs.Prelude.{Some, None}
+use Rattle.std.specs.Prelude.{Float, Some, None}
 use mathlib.Core.Path.{◌≡◌, refl, sym, ◌∙◌}
 use mathlib.Core.List.{List, [], ◌∷◌, ◌++◌, append-nil}
 use Prim.Native.Nat.{ℕ, ◌+◌, ◌≤◌, ◌<◌}
@@ -15,15 +15,15 @@ use Rattle.sheet_standing.specs.Standing.{numbers}
 use Rattle.sheet_standing.proofs.Standings.{numbers_joined, numbers_most}
 
 -- those of the first i lines, and how many there are
-pub record Known (ls : List Line) (i : ℕ) (ns : List ℕ) (known : ℕ) : Type 0 where
+pub record Known (ls : List (Line Float)) (i : ℕ) (ns : List ℕ) (known : ℕ) : Type 0 where
   pub all : ns ≡ padded 0 32 (numbers (take i ls))
   pub count : known ≡ length (numbers (take i ls))
 
-pub none_known : (ls : List Line) → Known ls 0 (padded 0 32 []) 0
+pub none_known : (ls : List (Line Float)) → Known ls 0 (padded 0 32 []) 0
 unfolding numbers
 none_known ls = record { all = refl; count = refl }
 
-module _ {ls : List Line} {i : ℕ} {ns : List ℕ} {known : ℕ} (k : Known ls i ns known) where
+module _ {ls : List (Line Float)} {i : ℕ} {ns : List ℕ} {known : ℕ} (k : Known ls i ns known) where
   pub known_most : known ≤ i
   known_most = omega (arith, k.count, numbers_most (take i ls), length-take i ls)
 
@@ -35,7 +35,7 @@ module _ {ls : List Line} {i : ℕ} {ns : List ℕ} {known : ℕ} (k : Known ls 
 
   -- ---- one line more
 
-  module _ (d : Line) (h : i < length ls) where
+  module _ (d : Line Float) (h : i < length ls) where
     more : numbers (take (i + 1) ls) ≡ numbers (take i ls) ++ numbers (get_or ls i d ∷ [])
     more = rw (add-one, take-suc ls i d h) (numbers_joined (take i ls) (get_or ls i d ∷ []))
 

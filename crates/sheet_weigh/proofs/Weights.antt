@@ -61,17 +61,17 @@ passed_under (Err n) w u = tt
 passed_under (Ok tt) w u = u
 
 module _ (L : Limits) where
-  reading_under : (k : Temperature) (v : ℕ) (r : Reading) → Under (by_reading L k v r)
+  reading_under : (k : Temperature) (v : ℕ) (r : Reading Float) → Under (by_reading L k v r)
   unfolding by_reading
   reading_under k v Reading.Blank = tt
   reading_under k v (Reading.Pressure p) = kelvin_under k _ (λ t. filled_under v _ (answered_under (pressure_door of1996 L t p) v))
   reading_under k v (Reading.Density d) = kelvin_under k _ (λ t. filled_under v _ (answered_under (density_door of1996 L t d) v))
   reading_under k v (Reading.Weighed g) = filled_under v _ (scaled_under (from_scale g) (scaled_most g))
 
-  pub weighed_under : (l : Line) → Under (weighed L l)
+  pub weighed_under : (l : Line Float) → Under (weighed L l)
   unfolding weighed
   weighed_under l = number_under l.number _ (λ _. number_under l.volume _ (λ v. reading_under l.temperature v l.reading))
 
-  pub after_under : (before : List ℕ) (l : Line) → Under (weighed_after L before l)
+  pub after_under : (before : List ℕ) (l : Line Float) → Under (weighed_after L before l)
   unfolding weighed_after
   after_under before l = passed_under (standing before l) (weighed L l) (weighed_under l)

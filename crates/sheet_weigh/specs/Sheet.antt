@@ -1,6 +1,6 @@
 -- RULES 6.6, 7.1 and 7.2: what comes of a sheet, line by line. Definitions only.
 use Rattle.refusal.specs.Refused.{refused}
-use Rattle.std.specs.Prelude.{ℕ, ◌^◌, ◌<◌, ◌≡◌, List, [], ◌∷◌, ◌++◌, length, take, get_or, Ok, Err}
+use Rattle.std.specs.Prelude.{Float, ℕ, ◌^◌, ◌<◌, ◌≡◌, List, [], ◌∷◌, ◌++◌, length, take, get_or, Ok, Err}
 use Rattle.door_limits.specs.declared.Limits.{Limits}
 use Rattle.sheet_mass.specs.declared.Milligrams.{Milligrams}
 use Rattle.sheet_line.specs.declared.line.Line.{Line}
@@ -24,15 +24,15 @@ finished (Err number) ms = record { marks = marks_for []; ending = Ending.SentBa
 finished (Ok mg) ms = record { marks = marks_for ms; ending = ending mg (total ms) }
 
 module _ (L : Limits) where
-  abbrev pub mark : List ℕ → Line → Mark
+  abbrev pub mark : List ℕ → Line Float → Mark
   mark before l = record { weighed = weighed_after L before l }
 
   -- what came of each line, after lines with these cylinder numbers
-  unfoldable pub marked_after : List ℕ → List Line → List Mark
+  unfoldable pub marked_after : List ℕ → List (Line Float) → List Mark
   marked_after before [] = []
   marked_after before (l ∷ ls) = mark before l ∷ marked_after (before ++ numbers (l ∷ [])) ls
 
-  unfoldable pub marked : List Line → List Mark
+  unfoldable pub marked : List (Line Float) → List Mark
   marked ls = marked_after [] ls
 
   unfoldable pub outcome : SheetRead → Outcome

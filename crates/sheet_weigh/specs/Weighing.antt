@@ -69,17 +69,17 @@ by_answer (Err n) v = Err n
 
 module _ (L : Limits) where
   -- the door is that of the reading's kind; a mass that was weighed has none, and requires no temperature
-  unfoldable pub by_reading : Temperature → ℕ → Reading → Weighed
+  unfoldable pub by_reading : Temperature → ℕ → Reading Float → Weighed
   by_reading k v Reading.Blank = refused 1
   by_reading k v (Reading.Pressure p) = if_kelvin k (λ t. filled v (by_answer (pressure_door of1996 L t p) v))
   by_reading k v (Reading.Density d) = if_kelvin k (λ t. filled v (by_answer (density_door of1996 L t d) v))
   by_reading k v (Reading.Weighed g) = filled v (on_scale (from_scale g))
 
-  unfoldable pub weighed : Line → Weighed
+  unfoldable pub weighed : Line Float → Weighed
   weighed l = if_number l.number (λ _. if_number l.volume (λ v. by_reading l.temperature v l.reading))
 
   -- ---- the line on its sheet
 
   -- RULES 6.6: 1 and 30 first; the numbers are the cylinder numbers of the lines before it
-  unfoldable pub weighed_after : List ℕ → Line → Weighed
+  unfoldable pub weighed_after : List ℕ → Line Float → Weighed
   weighed_after before l = if_passed (standing before l) (weighed l)

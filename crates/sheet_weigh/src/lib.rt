@@ -86,7 +86,7 @@ fn by_scale(g: Grams, v: u64) -> Result<Milligrams, Refusal>
 }
 
 // A reading that asks a door takes the temperature with it.
-fn by_reading(limits: Limits, k: Option<f64>, v: u64, r: Reading) -> Result<Milligrams, Refusal>
+fn by_reading(limits: Limits, k: Option<f64>, v: u64, r: Reading<f64>) -> Result<Milligrams, Refusal>
     ensures { result ≡ by_reading limits k v r }
 {
     match r {
@@ -97,7 +97,7 @@ fn by_reading(limits: Limits, k: Option<f64>, v: u64, r: Reading) -> Result<Mill
     }
 }
 
-pub fn weigh(limits: Limits, l: Line) -> Result<Milligrams, Refusal>
+pub fn weigh(limits: Limits, l: Line<f64>) -> Result<Milligrams, Refusal>
     ensures { result ≡ weighed limits l }
 {
     let number = l.number;
@@ -114,7 +114,7 @@ pub fn weigh(limits: Limits, l: Line) -> Result<Milligrams, Refusal>
 }
 
 // After lines with these cylinder numbers: 1, then 30, and else what the line alone comes to.
-fn weigh_after(limits: Limits, numbers: &[u64], l: Line) -> Result<Milligrams, Refusal>
+fn weigh_after(limits: Limits, numbers: &[u64], l: Line<f64>) -> Result<Milligrams, Refusal>
     ensures { result ≡ weighed_after limits numbers.now l }
 {
     let c = standing_of(numbers, l);

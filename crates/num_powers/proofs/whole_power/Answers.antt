@@ -13,16 +13,16 @@ returns-then-n-eq0 c = rw c.if-n-eq0.true refl
 
 pub loop-i-init : goal.loop-i-init
 unfolding power
-loop-i-init c = (omega arith, omega arith, refl)
+loop-i-init c = refl
 
 pub loop-i-preserved : goal.loop-i-preserved
 loop-i-preserved c =
     let l = c.loop-i in
     let x = c.args.x in
-    (omega arith, omega arith, ap (λ (r : Float). mul binary64 r x) l.invariant.2 ∙ power_next x l.i l.invariant.0)
+    ap (λ (r : Float). mul binary64 r x) l.invariant ∙ power_next x l.i (omega arith)
 
 pub returns : goal.returns
 returns c =
     let l = c.loop-i in
     let e : l.i ≡ c.args.n = omega arith in
-    rw e at l.invariant.2
+    rw e at l.invariant

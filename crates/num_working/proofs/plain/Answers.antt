@@ -1,10 +1,14 @@
 -- 0/0 is the NaN that a failure is. Assumes nothing.
-use mathlib.Core.Path.{sym, ap}
-use borrow.Author.Rules.{rules}
-use lib.Ieee.{of_bits, div}
-use Rattle.num_working.specs.Working.{plain}
+use Rattle.std.specs.Prelude.{Some, None, unwrap_or}
+use mathlib.Core.Path.{◌≡◌, refl, ◌∙◌}
+use lib.Ieee.{nan, of_bits, div}
+use Rattle.num_working.specs.Working.{Worked, plain}
 use Rattle.num_working.proofs.plain.Goals as goal
 
-pub returns-in_default : goal.returns-in_default
+by_default : (w : Worked) → unwrap_or w nan ≡ plain w
+by_default None = refl
+by_default (Some x) = refl
+
+pub returns : goal.returns
 unfolding of_bits div
-returns-in_default c = sym (ap plain c.in_default.is)
+returns c = c.unwrap_or.ensures ∙ by_default c.args.w

@@ -1,6 +1,6 @@
 -- The lines that were read are in the array as far as it goes, and what is left of the text has the rest. Assumes nothing.
 use mathlib.Core.Path.{◌∙◌}
-use native.Mathlib.Omega.{arith}
+use borrow.Author.Rules.{rules}
 use Rattle.sheet_line.proofs.Lines.{of_cylinder}
 use Rattle.sheet_read.specs.Padded.{padded}
 use Rattle.sheet_read.proofs.Turns.{first, done, held_more, held_full, bad, more}
@@ -9,21 +9,14 @@ use Rattle.sheet_read.proofs.read_lines.Goals.{then-count-lt32, else-count-lt32}
 
 pub loop-at-init : goal.loop-at-init
 unfolding padded
-loop-at-init c = rw c.blank_line-l.ensures (first _ _ c.requires)
+loop-at-init c = rw c.blank_line-lines.ensures (first _ _ c.requires)
 
-pub returns-in_default : goal.returns-in_default
-returns-in_default c =
-    let e = c.in_default.ensures in
-    c.not_in_form.ensures ∙ rw (bad _ _ _ _ _ c.loop-at.invariant c.loop-at-test.true e)
-
-pub loop-at-smaller : goal.loop-at-smaller
-loop-at-smaller c =
-    let e = c.in-Some.ensures in
-    omega (arith, e.1, e.2)
+pub returns-in_err-line : goal.returns-in_err-line
+returns-in_err-line c = rw (bad _ _ _ _ _ c.loop-at.invariant c.loop-at-test.true c.in_err-line.ensures) (search rules)
 
 pub loop-at-preserved : goal.loop-at-preserved
 loop-at-preserved c =
-    let e = c.in-Some.ensures in
+    let e = c.in_ok-line.ensures in
     let l = of_cylinder _ _ _ e.0 in
     more _ _ _ _ _ c.loop-at.invariant c.loop-at-test.true _ _ l.read e.1 e.2 _
     (elim c.if-count-lt32.branch [

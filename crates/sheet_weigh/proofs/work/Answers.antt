@@ -1,4 +1,5 @@
 -- The marks are the lines', 32 at most and each light enough to be added. Assumes nothing.
+use Rattle.std.specs.Prelude.{Float}
 use mathlib.Core.List.{List}
 use Prim.Native.Nat.{ℕ, ◌≤◌}
 use Rattle.sheet_line.specs.declared.line.Line.{Line}
@@ -7,7 +8,7 @@ use lib.ListN.{length, take, length-take}
 use Rattle.sheet_weigh.proofs.Markings.{marks_of_lem, fit_to_add}
 use Rattle.sheet_weigh.proofs.work.Goals as goal
 
-few : (n : ℕ) (ls : List Line) → n ≤ 32 → length (take n ls) ≤ 32
+few : (n : ℕ) (ls : List (Line Float)) → n ≤ 32 → length (take n ls) ≤ 32
 few n ls h = omega (arith, length-take n ls)
 
 pub total-requires : goal.total-requires

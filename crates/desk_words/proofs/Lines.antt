@@ -1,93 +1,68 @@
 -- A line of a text, by where it begins and where it ends; and of lines that were joined, each is had back. Assumes nothing.
-use mathlib.Core.Path.{◌≡◌, refl, sym, ap, ◌∙◌}
-use mathlib.Core.Bool.{Bool, true, false, ◌&&◌, not}
-use mathlib.Core.List.{List, [], ◌∷◌, ◌++◌, append_assoc, append-nil}
+use mathlib.Core.Path.{◌≡◌, refl, ap, ◌∙◌}
+use mathlib.Core.Bool.{Bool, true, false, ◌&&◌, not, cond}
+use mathlib.Core.List.{List, [], ◌∷◌, ◌++◌}
 use Prim.Native.Nat.{ℕ, zero, suc, ◌+◌, ◌-◌, ◌≤◌, ◌<◌}
 use native.Mathlib.Omega.{arith}
 use borrow.Author.Tests.{ne_eqb, eq-eqb}
 use lib.Dec.{T, eqb}
 use lib.ListN.{length, get_or, take, drop, length-drop, drop_of_length-le}
-use lib.Seq.{get_or-drop, take-suc}
+use lib.Seq.{take_all}
 use Rattle.sheet_text.proofs.Parses.{front}
-use Rattle.desk_words.specs.Words.{behind_lines, up_to_line, UpTo}
+use Rattle.std.specs.Prelude.{Option}
+use Rattle.std.specs.Option.{unwrap_or}
+use Rattle.std.specs.List.{before_first, position, position_or_len}
+use Rattle.std.proofs.lemmas.Grind.{common_steps}
+use Rattle.std.proofs.lemmas.List.Sums.{prefix_len-le-length}
+use Rattle.desk_words.specs.Words.{behind_lines, up_to_line}
 
 -- ---- where line n begins: at place i there are `left` line ends left to pass
 
-pub record Left (s : List ℕ) (n left i : ℕ) : Type 0 where
-  pub rest : behind_lines left (drop i s) ≡ behind_lines n s
-  pub within : i ≤ length s
+abbrev pub Left : List ℕ → ℕ → ℕ → ℕ → Type 0
+Left s n left i = behind_lines left (drop i s) ≡ behind_lines n s
 
-abbrev Begins : List ℕ → ℕ → ℕ → Type 0
-Begins s n r = (drop r s ≡ behind_lines n s) × (r ≤ length s)
-
-pub none_passed : (s : List ℕ) (n : ℕ) → Left s n n 0
-none_passed s n = record { rest = refl; within = omega arith }
-
-pub found : {s : List ℕ} {n left i : ℕ} → Left s n left i → i < length s → left ≡ 0 → Begins s n i
+pub found : (s : List ℕ) (n left i : ℕ) → Left s n left i → i < length s → left ≡ 0 → take (length s - i) (drop i s) ≡ behind_lines n s
 unfolding behind_lines
-found {s} {n} {left} {i} l h e = (front s i h ∙ (rw (e, front s i h) at l.rest), l.within)
+found s n left i l h e =
+    let a : take (length s - i) (drop i s) ≡ drop i s = take_all _ _ (omega (arith, length-drop i s)) in
+    a ∙ front s i h ∙ (rw (e, front s i h) at l)
 
-pub not_there : {s : List ℕ} {n left i : ℕ} → Left s n left i → length s ≤ i → Begins s n i
+pub nothing_left : (s : List ℕ) (n left i : ℕ) → Left s n left i → length s ≤ i → ◌≡◌ {A = List ℕ} [] (behind_lines n s)
 unfolding behind_lines
-not_there {s} l h = let e = drop_of_length-le s h in (e ∙ (rw e at l.rest), l.within)
+nothing_left s n left i l h = rw (drop_of_length-le s h) at l
 
 -- one byte more, a line's end or another
-pub line_passed : {s : List ℕ} {n left i : ℕ} → Left s n left i → i < length s → 0 < left → get_or s i 0 ≡ 10 → Left s n (left - 1) (i + 1)
+pub line_passed : (s : List ℕ) (n left i : ℕ) → Left s n left i → i < length s → 0 < left → get_or s i 0 ≡ 10 → Left s n (left - 1) (i + 1)
 unfolding behind_lines
-line_passed {left = zero} l h g e = absurd (omega (arith, g))
-line_passed {s} {left = suc k} {i} l h g e =
+line_passed s n zero i l h g e = absurd (omega (arith, g))
+line_passed s n (suc k) i l h g e =
     let z : suc k - 1 ≡ k = omega arith in
-    record { rest = rw z (rw (front s i h, eq-eqb _ _ e) at l.rest); within = omega (arith, h) }
+    rw z (rw (front s i h, eq-eqb _ _ e) at l)
 
-pub byte_passed : {s : List ℕ} {n left i : ℕ} → Left s n left i → i < length s → 0 < left → (get_or s i 0 ≡ 10 → ⊥) → Left s n left (i + 1)
+pub byte_passed : (s : List ℕ) (n left i : ℕ) → Left s n left i → i < length s → 0 < left → (get_or s i 0 ≡ 10 → ⊥) → Left s n left (i + 1)
 unfolding behind_lines
-byte_passed {left = zero} l h g e = absurd (omega (arith, g))
-byte_passed {s} {left = suc k} {i} l h g e = record { rest = rw (front s i h, ne_eqb _ _ e) at l.rest; within = omega (arith, h) }
+byte_passed s n zero i l h g e = absurd (omega (arith, g))
+byte_passed s n (suc k) i l h g e = rw (front s i h, ne_eqb _ _ e) at l
 
--- ---- where the line ends that begins at a place: at place i so much of it was passed, and the rest is left
+-- ---- where a line ends
 
-pub record Line (s : List ℕ) (from i : ℕ) : Type 0 where
-  pub line : up_to_line (drop from s) ≡ take (i - from) (drop from s) ++ up_to_line (drop i s)
-  pub after : from ≤ i
-  pub within : i ≤ length s
+line_by : (b : ℕ) (s : List ℕ) (t : Bool) → eqb b 10 ≡ t → before_first (λ b. eqb b 10) s ≡ up_to_line s
+    → before_first (λ b. eqb b 10) (b ∷ s) ≡ cond t [] (b ∷ up_to_line s)
+line_by b s true e h = rw e refl
+line_by b s false e h =
+    let z : 1 + position_or_len (λ b. eqb b 10) s ≡ suc (position_or_len (λ b. eqb b 10) s) = omega arith in
+    rw (e, z) (ap (λ (r : List ℕ). b ∷ r) h)
 
-pub at_first : (s : List ℕ) (from : ℕ) → from ≤ length s → Line s from from
-at_first s from h = let z : from - from ≡ 0 = omega arith in record { line = rw z refl; after = omega arith; within = h }
+line_is : (s : List ℕ) → before_first (λ b. eqb b 10) s ≡ up_to_line s
+unfolding up_to_line
+line_is [] = refl
+line_is (b ∷ s) = line_by b s (eqb b 10) refl (line_is s)
 
-module _ {s : List ℕ} {from i : ℕ} (l : Line s from i) where
-  ends : up_to_line (drop i s) ≡ [] → UpTo s from i
-  ends e =
-      record {
-        line = sym (append-nil _) ∙ ap (λ (r : List ℕ). take (i - from) (drop from s) ++ r) (sym e) ∙ sym l.line;
-        after = l.after;
-        within = l.within;
-      }
+placed : (p : ℕ → Bool) (s : List ℕ) → unwrap_or (position p s) (length s) ≡ position_or_len p s
+placed p s = grind (arith, common_steps, prefix_len-le-length)
 
-  pub at_end : length s ≤ i → UpTo s from i
-  unfolding up_to_line
-  at_end h = ends (rw (drop_of_length-le s h))
-
-  module _ (h : i < length s) where
-    pub at_line_end : get_or s i 0 ≡ 10 → UpTo s from i
-    unfolding up_to_line
-    at_line_end e = ends (rw (front s i h, eq-eqb _ _ e))
-
-    there : get_or (drop from s) (i - from) 0 ≡ get_or s i 0
-    there = let e : from + (i - from) ≡ i = omega (arith, l.after) in get_or-drop from s (i - from) 0 ∙ ap (λ (k : ℕ). get_or s k 0) e
-
-    goes_on : (get_or s i 0 ≡ 10 → ⊥) → up_to_line (drop i s) ≡ get_or s i 0 ∷ up_to_line (drop (i + 1) s)
-    unfolding up_to_line
-    goes_on e = rw (front s i h, ne_eqb _ _ e)
-
-    pub one_more : (get_or s i 0 ≡ 10 → ⊥) → Line s from (i + 1)
-    one_more n =
-        let g : i - from < length (drop from s) = rw (length-drop from s) (omega (arith, l.after, h)) in
-        let e : i + 1 - from ≡ suc (i - from) = omega (arith, l.after) in
-        record {
-          line = l.line ∙ rw (goes_on n, e, take-suc (drop from s) (i - from) 0 g, there, append_assoc);
-          after = omega (arith, l.after);
-          within = omega (arith, h);
-        }
+pub first_line : (s : List ℕ) (o : Option ℕ) (n : ℕ) → o ≡ position (λ b. eqb b 10) s → n ≡ unwrap_or o (length s) → take n s ≡ up_to_line s
+first_line s o n e f = rw (f, e, placed) (line_is s)
 
 -- ---- lines that are joined into a text: each with a line's end behind it, and with none in it
 

@@ -1,5 +1,5 @@
 -- RULES 14.1: the words of each refusal, what it says and then what to do; and the version. Definitions only.
-use Rattle.std.specs.Prelude.{ℕ, zero, suc, ◌-◌, ◌≤◌, ◌≡◌, cond, List, [], ◌∷◌, eqb, length, get_or, take, drop}
+use Rattle.std.specs.Prelude.{ℕ, zero, suc, cond, List, [], ◌∷◌, eqb, get_or}
 use Rattle.sheet_write.specs.Writing.{ascii}
 
 -- 10,000 times the first number, 100 times the second, and the third
@@ -70,9 +70,3 @@ behind_lines (suc n) (b ∷ s) = cond (eqb b 10) (behind_lines n s) (behind_line
 unfoldable pub up_to_line : List ℕ → List ℕ
 up_to_line [] = []
 up_to_line (b ∷ s) = cond (eqb b 10) [] (b ∷ up_to_line s)
-
--- the line that begins at a place of s ends at r
-pub record UpTo (s : List ℕ) (from r : ℕ) : Type 0 where
-  pub line : take (r - from) (drop from s) ≡ up_to_line (drop from s)
-  pub after : from ≤ r
-  pub within : r ≤ length s

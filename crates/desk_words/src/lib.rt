@@ -1,9 +1,10 @@
 // RULES 14.1: the words of each refusal, what it says and then what to do, in one place; and the version.
 #![tactic(auto)]
 
-ghost use Rattle.std.specs.Prelude.{◌≡◌, ◌≤◌, length, drop};
+ghost use Rattle.std.specs.Prelude.{◌≡◌, ◌==◌};
+ghost use Rattle.std.specs.List.{position};
 ghost use Rattle.sheet_write.specs.Writing.{Fitted};
-ghost use Rattle.desk_words.specs.Words.{version, words, behind_lines, up_to_line, UpTo};
+ghost use Rattle.desk_words.specs.Words.{version, words, behind_lines, up_to_line};
 
 use sheet_write::put_whole;
 
@@ -14,46 +15,36 @@ pub fn version() -> u32
     10700
 }
 
-// Where line n of a text begins, the first being line 0; the text's end where there is none.
-fn line_start(s: &[u8], n: u32) -> usize
-    ensures { (drop result s.now ≡ behind_lines n s.now) × (result ≤ length s.now) }
+// What a text has behind n line ends: line n begins it, the first being line 0; nothing where there are not so many.
+fn behind_lines(s: &[u8], n: u32) -> &[u8]
+    ensures { result.now ≡ behind_lines n s.now }
 {
     let mut left = n;
-    let mut i = 0;
-    while i < s.len() {
+    for (i, &b) in s.iter().enumerate() {
         if left == 0 {
-            return i;
+            return &s[i..];
         }
-        if s[i] == b'\n' {
+        if b == b'\n' {
             left -= 1;
         }
-        i += 1;
     }
-    i
+    b""
 }
 
-// Where the line that begins at a place ends.
-fn line_end(s: &[u8], from: usize) -> usize
-    requires { from ≤ length s.now }
-    ensures { UpTo s.now from result }
+// The place of the first line end.
+fn line_end(s: &[u8]) -> Option<usize>
+    ensures { result ≡ position (λ b. b == 10) s.now }
 {
-    let mut i = from;
-    while i < s.len() {
-        if s[i] == b'\n' {
-            return i;
-        }
-        i += 1;
-    }
-    i
+    s.iter().position(|&b| b == b'\n')
 }
 
 // Line n of a text, where it fits; else 0, and nothing is written.
 fn put_line(s: &[u8], n: u32, out: &mut [u8]) -> usize
     ensures { Fitted out.old out.new (up_to_line (behind_lines n s.now)) result }
 {
-    let from = line_start(s, n);
-    let to = line_end(s, from);
-    put_whole(out, &s[from..to])
+    let rest = behind_lines(s, n);
+    let len = line_end(rest).unwrap_or(rest.len());
+    put_whole(out, &rest[..len])
 }
 
 // Line n has the words of refusal n; a number that is no refusal has none.

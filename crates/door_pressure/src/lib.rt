@@ -25,6 +25,7 @@ fn scaled(factor: f64, density: Option<f64>) -> Option<f64>
     checked(factor * density?)
 }
 
+#[tactic(auto, unfolding(crate::specs::PressureDoor::vapour))]
 fn as_vapour(t: f64, p: f64) -> Result<State, Refusal>
     ensures { result ≡ vapour of1996 t p }
 {
@@ -33,6 +34,7 @@ fn as_vapour(t: f64, p: f64) -> Result<State, Refusal>
     search_at(t, Phase::Vapour, ends.from, to, p)
 }
 
+#[tactic(auto, unfolding(crate::specs::PressureDoor::liquid))]
 fn as_liquid(t: f64, p: f64) -> Result<State, Refusal>
     ensures { result ≡ liquid of1996 t p }
 {
@@ -57,6 +59,7 @@ fn beneath(t: f64, p: f64) -> Result<State, Refusal>
 }
 
 // Past the checks.
+#[tactic(auto, unfolding(crate::specs::PressureDoor::entered))]
 fn enter(t: f64, p: f64) -> Result<State, Refusal>
     ensures { result ≡ entered of1996 t p }
 {

@@ -1,11 +1,11 @@
 // RULES 4.5 and 5.1: the search for the density at which the pressure worked on a curve passes the one asked for.
 // Nothing is taken of the curve's shape, so each probe is where the definition's is (num_halving, specs/Halving.antt).
-ghost use Rattle.std.specs.Prelude.{◌≡◌, ◌<◌, T, Some};
+ghost use Rattle.std.specs.Prelude.{◌≡◌, ◌<◌, T};
 ghost use Rattle.std.specs.Float.{binary64};
 ghost use Rattle.std.specs.Float.Ieee.{fits, of_bits};
 ghost use Rattle.num_halving.specs.Halving.{NotAbove, Above, halve};
 ghost use Rattle.num_working.specs.Number.{nonneg};
-ghost use Rattle.equation.specs.Equation.{of1996, pressure_on, state_on};
+ghost use Rattle.equation.specs.Equation.{of1996, pressure_on};
 ghost use Rattle.door_pressure.specs.Search.{figure, searched};
 
 use door_answers::answer_with;
@@ -36,23 +36,6 @@ fn narrow(curve: Curve, p: f64, from: u64, to: u64) -> Result<u64, Missed>
     Ok(lo)
 }
 
-// Between ends whose pressures are low and high.
-fn between(curve: Curve, p: f64, from: u64, to: u64, low: f64, high: f64) -> Result<u64, Missed>
-    requires from_lt_to { from < to }
-    requires to_bound { to < 0x7ff0_0000_0000_0000 }
-    requires from_value { pressure_on curve (of_bits binary64 from) ≡ Some low }
-    requires to_value { pressure_on curve (of_bits binary64 to) ≡ Some high }
-    ensures { result ≡ halve (figure (pressure_on curve)) p from to }
-{
-    if p < low {
-        return Err(Missed::Nowhere);
-    }
-    if p < high {
-        return narrow(curve, p, from, to);
-    }
-    Err(Missed::Nowhere)
-}
-
 fn crossing(curve: Curve, p: f64, from: u64, to: u64) -> Result<u64, Missed>
     requires { to < 0x7ff0_0000_0000_0000 }
     ensures { result ≡ halve (figure (pressure_on curve)) p from to }
@@ -62,28 +45,27 @@ fn crossing(curve: Curve, p: f64, from: u64, to: u64) -> Result<u64, Missed>
     }
     let low = pressure_on(curve, f64::from_bits(from)).ok_or(Missed::Broke)?;
     let high = pressure_on(curve, f64::from_bits(to)).ok_or(Missed::Broke)?;
-    between(curve, p, from, to, low, high)
+    if p < low {
+        return Err(Missed::Nowhere);
+    }
+    if p < high {
+        return narrow(curve, p, from, to);
+    }
+    Err(Missed::Nowhere)
 }
 
 // Over densities that have no minus sign.
-fn search_on(curve: Curve, phase: Phase, from: f64, to: f64, p: f64) -> Result<State, Refusal>
-    requires t { T (nonneg from) }
-    requires t_2 { T (nonneg to) }
-    requires t_3 { T (fits binary64 to) }
-    ensures { result ≡ searched (pressure_on curve) (state_on curve phase) from to p }
+#[tactic(auto, using(equation::proofs::Curves::on_curve, equation::proofs::Curves::state_on_curve), unfolding(crate::specs::Search::searched))]
+pub(crate) fn search_at(t: f64, phase: Phase, from: f64, to: f64, p: f64) -> Result<State, Refusal>
+    requires from_nonneg { T (nonneg from) }
+    requires to_nonneg { T (nonneg to) }
+    requires to_fits { T (fits binary64 to) }
+    ensures { result ≡ searched (of1996.pressure t) (of1996.state t phase) from to p }
 {
+    let curve = curve_at(t);
     match crossing(curve, p, f64::to_bits(from), f64::to_bits(to)) {
         Ok(b) => answer_with(state_on(curve, phase, f64::from_bits(b))),
         Err(Missed::Nowhere) => Err(Refusal(9)),
         Err(Missed::Broke) => Err(Refusal(7)),
     }
-}
-
-pub(crate) fn search_at(t: f64, phase: Phase, from: f64, to: f64, p: f64) -> Result<State, Refusal>
-    requires t { T (nonneg from) }
-    requires t_2 { T (nonneg to) }
-    requires t_3 { T (fits binary64 to) }
-    ensures { result ≡ searched (of1996.pressure t) (of1996.state t phase) from to p }
-{
-    search_on(curve_at(t), phase, from, to, p)
 }

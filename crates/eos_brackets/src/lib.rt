@@ -45,6 +45,7 @@ pub fn exponential_brackets(d: f64, t: f64, c: f64, z: f64) -> Five
 }
 
 // The first of these alone.
+#[tactic(auto, unfolding(num_formulas::specs::Formula::value))]
 pub fn first_bracket(d: f64, c: f64, z: f64) -> f64
     ensures { result ≡ value (first (num d) (num c) (num z)) }
 {

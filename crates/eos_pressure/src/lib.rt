@@ -9,7 +9,7 @@ ghost use Rattle.eos_pressure.specs.Pressure.{pressure_formula, pressure_on};
 use eos_constants::{delta_at, span_wagner};
 use eos_isotherm::Isotherm;
 use eos_residual::sum::slope_at;
-use num_working::{checked};
+use num_working::checked;
 
 // p = ((ρ·R)·T)·(1 + δφ_δ), in plain f64, with a for δφ_δ: of a pressure alone and of a state.
 pub fn pressure_of(t: f64, rho: f64, a: f64) -> f64

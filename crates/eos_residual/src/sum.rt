@@ -263,11 +263,7 @@ fn all_finite(s: Five) -> bool
 fn all_five(s: Five) -> Option<Five>
     ensures { result ≡ all_five (λ k. checked (of s k)) }
 {
-    if all_finite(s) {
-        Some(s)
-    } else {
-        None
-    }
+    if all_finite(s) { Some(s) } else { None }
 }
 
 // All that a state needs. What the exponentials say is passed on.

@@ -13,7 +13,7 @@ use eos_constants::{delta_at, span_wagner};
 use eos_ideal::ideal_part;
 use eos_isotherm::Isotherm;
 use eos_pressure::pressure_of;
-use eos_residual::sum::{residual_part};
+use eos_residual::sum::residual_part;
 use num_roots::root::{Exponent, root};
 use num_working::{checked, is_finite, over, plain};
 
@@ -105,14 +105,29 @@ fn tested(x: State) -> Option<State>
     None
 }
 
-fn state_of(phase: Phase, fallen: u32, t: f64, rho: f64, sums: Five, i1: f64, i2: f64) -> Option<State>
+fn state_of(
+    phase: Phase,
+    fallen: u32,
+    t: f64,
+    rho: f64,
+    sums: Five,
+    i1: f64,
+    i2: f64,
+) -> Option<State>
     ensures { result ≡ state_of phase fallen t rho sums i1 i2 }
 {
     tested(table_3(phase, fallen, t, rho, sums, i1, i2))
 }
 
 // With the ideal part at the isotherm's τ.
-fn state_ideal(phase: Phase, fallen: u32, t: f64, iso: Isotherm, rho: f64, sums: Five) -> Option<State>
+fn state_ideal(
+    phase: Phase,
+    fallen: u32,
+    t: f64,
+    iso: Isotherm,
+    rho: f64,
+    sums: Five,
+) -> Option<State>
     ensures { result ≡ state_ideal phase fallen t iso rho sums }
 {
     let i = ideal_part(iso.tau);

@@ -6,7 +6,7 @@ ghost use Rattle.equation.specs.Equation.{of1996, curve, pressure_on, state_on};
 
 use eos_constants::span_wagner;
 use eos_isotherm::{Isotherm, at_temperature};
-use eos_state::{Phase};
+use eos_state::{Phase, State};
 
 // The temperature, and what hangs on it alone, worked once and handed on by value. The temperature stands beside the
 // isotherm: read out of it apart from the rest, it would have the whole copied at each probe of a search.

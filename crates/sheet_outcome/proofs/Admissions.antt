@@ -1,17 +1,17 @@
 -- A sheet that is admitted has 32 lines at most. Assumes nothing.
 use Rattle.std.specs.Prelude.{Ok, Err}
 use Rattle.refusal.specs.Refused.{refused}
+use Rattle.refusal.specs.declared.Refusal.{Refusal}
 use mathlib.Core.Path.{◌≡◌, refl}
 use mathlib.Core.Bool.{Bool, true, false, not, cond}
 use Prim.Native.Nat.{ℕ, ◌≤◌}
-use native.Mathlib.Omega.{arith}
 use lib.Dec.{ltb, eqb}
 use borrow.Author.Tests.{ltb-false}
 use Rattle.sheet_text.specs.Field.{Field}
-use Rattle.sheet_outcome.specs.Outcome.{needed, admitted}
+use Rattle.sheet_outcome.specs.Outcome.{needed, admitted, Admitted}
 
-no_need : {A : Type 0} {number mg : ℕ} → Err number ≡ Ok mg → A
-no_need e = let z : ◌≡◌ {A = ℕ} 0 1 = cc in absurd (omega arith)
+no_need : {A : Type 0} {r : Refusal} {mg : ℕ} → ◌≡◌ {A = Admitted} (Err r) (Ok mg) → A
+no_need e = cc
 
 pub few : (ok : Bool) (n : ℕ) (f : Field) (mg : ℕ) → admitted ok n f ≡ Ok mg → n ≤ 32
 unfolding admitted

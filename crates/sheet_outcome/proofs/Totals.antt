@@ -1,5 +1,6 @@
 -- The total, line by line from the front: what was added, and then what is left. Assumes nothing.
 use Rattle.std.specs.Prelude.{Some, None, Ok, Err}
+use Rattle.refusal.specs.declared.Refusal.{Refusal}
 use mathlib.Core.Path.{◌≡◌, refl, sym, ap, ◌∙◌}
 use mathlib.Core.List.{List}
 use Prim.Native.Nat.{ℕ, suc, ◌+◌, ◌≤◌, ◌<◌}
@@ -10,7 +11,7 @@ use lib.ListN.{length, drop, get_or, drop_of_length-le}
 use lib.Seq.{drop-cons}
 use Rattle.sheet_mass.specs.Mass.{as_milligrams}
 use Rattle.sheet_mass.specs.declared.Milligrams.{Milligrams}
-use Rattle.sheet_outcome.specs.Outcome.{plus, total, Summed, Weighed}
+use Rattle.sheet_outcome.specs.Outcome.{plus, total, Summed}
 use Rattle.sheet_outcome.specs.declared.Mark.{Mark}
 
 abbrev summed : ℕ → Summed
@@ -36,7 +37,7 @@ module _ (ms : List Mark) (s i : ℕ) (e : total ms ≡ onto s (total (drop i ms
   at_end h = sym (e ∙ rw (drop_of_length-le ms h) (ap summed (omega arith)))
 
   module _ (d : Mark) (h : i < length ms) where
-    pub one_refused : (n : ℕ) → (get_or ms i d).weighed ≡ Err n → None ≡ total ms
+    pub one_refused : (n : Refusal) → (get_or ms i d).weighed ≡ Err n → None ≡ total ms
     unfolding total
     one_refused n r = sym (e ∙ rw (drop-cons ms i d h, r))
 

@@ -60,5 +60,5 @@ total (m ∷ ms) = plus m.weighed (total ms)
 
 -- 13 where some line was refused; else covered where the sum is the need or more, and short where it is less
 unfoldable pub ending : ℕ → Summed → Ending
-ending need None = Ending.SentBack 13
+ending need None = Ending.SentBack (record { 0 = 13 })
 ending need (Some mg) = cond (leb need mg.0) (Ending.Covered mg) (Ending.Short mg)

@@ -5,10 +5,10 @@
 ghost use Rattle.std.specs.Prelude.{◌≡◌};
 ghost use Rattle.sheet_outcome.specs.Outcome.{is_need, needed, admitted, ending};
 
+use refusal::Refusal;
 use sheet_mass::Milligrams;
 
 // A cylinder line's milligrams, or the number of its refusal.
-// An array holds structs: what came of a line, in one.
 #[derive(Clone, Copy)]
 pub struct Mark {
     pub weighed: Result<Milligrams, Refusal>,
@@ -36,8 +36,7 @@ pub struct Outcome {
     pub ending: Ending,
 }
 
-// A sheet whose lines are to be worked, with its need in mg, or one that is sent back before.
-// The milligrams of all lines, or that some line was refused.
+// RULES 2.4, in mg.
 fn is_need(mg: u64) -> bool
     ensures { result ≡ is_need mg }
 {
@@ -47,13 +46,10 @@ fn is_need(mg: u64) -> bool
 fn need_of(need: Option<u64>) -> Result<u64, Refusal>
     ensures { result ≡ needed need }
 {
-    let Some(mg) = need else {
-        return Err(Refusal(12));
-    };
-    if is_need(mg) {
-        return Ok(mg);
+    match need {
+        Some(mg) if is_need(mg) => Ok(mg),
+        _ => Err(Refusal(12)),
     }
-    Err(Refusal(12))
 }
 
 // ok: the text is in the form.
@@ -73,14 +69,14 @@ pub fn admit(ok: bool, count: usize, need: Option<u64>) -> Result<u64, Refusal>
     need_of(need)
 }
 
+// 13 where a line was refused.
+#[tactic(auto, unfolding(crate::specs::Outcome::ending))]
 pub fn conclude(need: u64, t: Option<Milligrams>) -> Ending
     ensures { result ≡ ending need t }
 {
-    let Some(mg) = t else {
-        return Ending::SentBack(13);
-    };
-    if mg.0 >= need {
-        return Ending::Covered(mg);
+    match t {
+        None => Ending::SentBack(Refusal(13)),
+        Some(mg) if mg.0 >= need => Ending::Covered(mg),
+        Some(mg) => Ending::Short(mg),
     }
-    Ending::Short(mg)
 }

@@ -27,6 +27,6 @@ returns c =
     c.state_ideal.ensures
     ∙ rw (
       delta_is (goal.at.returns c).After-checked ∙ c.in-Some.is,
-      sym (ap (λ (r : Residual). r.sums) c.residual_part-r.ensures) ∙ c.in-Some.is,
+      sym (ap (λ (r : Residual). r.sums) c.residual_part-r.ensures) ∙ c.in-Some-summed.is,
       ap (λ (r : Residual). r.fallen) c.residual_part-r.ensures,
     )

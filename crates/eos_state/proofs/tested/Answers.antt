@@ -19,7 +19,7 @@ three : (x y z : Float) (f : Float → Float → Float → Stated)
     → or_else (checked x) None (λ x. or_else (checked y) None (λ y. or_else (checked z) None (λ z. f x y z)))
     ≡ cond (finite x && (finite y && finite z)) (f x y z) None
 three x y z f =
-    tested_choice x None _ ∙ rw (tested_choice y None _, tested_choice z None _) (merged (finite x) (finite y) (finite z) (f x y z) None)
+    tested_choice {A = Stated} x None _ ∙ rw (tested_choice {A = Stated} y None _, tested_choice {A = Stated} z None _) (merged (finite x) (finite y) (finite z) (f x y z) None)
 
 abbrev all_tested : State → Stated
 all_tested x = stated x.phase x.fallen x.t x.rho (checked x.p) (checked x.u) (checked x.h) (checked x.cv) (checked x.cp) (checked x.w)

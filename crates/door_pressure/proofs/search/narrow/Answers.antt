@@ -1,5 +1,7 @@
 -- Each turn halves what is left, and the halving from there is the one asked for. Assumes nothing.
-use mathlib.Core.Path.{sym, ◌∙◌}
+use Rattle.std.specs.Prelude.{Some, None}
+use mathlib.Core.Path.{◌≡◌, sym}
+use lib.Ieee.{binary64, of_bits}
 use native.Mathlib.Omega.{arith}
 use Rattle.num_halving.specs.Halving.{middle, failed}
 use Rattle.num_working.proofs.Numbers.{no_nan}
@@ -17,18 +19,19 @@ loop-lo-init c =
 pub float_from_bits-mid : goal.float_from_bits-mid
 float_from_bits-mid c = no_nan _ (omega arith)
 
-pub returns-in_default : goal.returns-in_default
+pub returns-in_err-x : goal.returns-in_err-x
 unfolding middle
-returns-in_default c =
+returns-in_err-x c =
     let a = c.args in
-    let e = sym c.pressure_on.ensures ∙ c.in_default.is in
-    sym (to_broke (figure (pressure_on a.curve)) a.p _ c.loop-lo.lo c.loop-lo.hi c.loop-lo.invariant.1 (λ e. omega arith) (failed e))
+    let e : pressure_on a.curve (of_bits binary64 (middle c.loop-lo.lo c.loop-lo.hi)) ≡ None = grind arith in
+    let h = to_broke (figure (pressure_on a.curve)) a.p _ c.loop-lo.lo c.loop-lo.hi c.loop-lo.invariant.1 (λ e. omega arith) (failed e) in
+    rw h (grind arith)
 
 pub loop-lo-preserved-then-p-x : goal.loop-lo-preserved-then-p-x
 unfolding middle
 loop-lo-preserved-then-p-x c =
     let a = c.args in
-    let e = sym c.pressure_on.ensures ∙ c.in-Some.is in
+    let e : pressure_on a.curve (of_bits binary64 (middle c.loop-lo.lo c.loop-lo.hi)) ≡ Some c.in_ok-x.x = grind arith in
     let s = is_above a.curve a.p _ _ e c.if-p-x.true in
     (omega arith, to_lower (figure (pressure_on a.curve)) a.p _ c.loop-lo.lo c.loop-lo.hi c.loop-lo.invariant.1 (λ e. omega arith) s)
 
@@ -36,7 +39,7 @@ pub loop-lo-preserved : goal.loop-lo-preserved
 unfolding middle
 loop-lo-preserved c =
     let a = c.args in
-    let e = sym c.pressure_on.ensures ∙ c.in-Some.is in
+    let e : pressure_on a.curve (of_bits binary64 (middle c.loop-lo.lo c.loop-lo.hi)) ≡ Some c.in_ok-x.x = grind arith in
     let s = is_not_above a.curve a.p _ _ e c.if-p-x.false in
     (omega arith, to_upper (figure (pressure_on a.curve)) a.p _ c.loop-lo.lo c.loop-lo.hi c.loop-lo.invariant.1 (λ e. omega arith) s)
 

@@ -81,21 +81,22 @@ fn say_margin(p: Paper, mg: u64, need: u64, warned: Warned) -> Paper {
     say_count(p, b" Lines above 750 kg/m3: ", warned.heavy).say(b"\n")
 }
 
-// A text that is explained: the sheet that it holds, and what came of it.
+// A text that is explained: the sheet that it holds, where it is in the form, and what came of it.
 struct Explained<'a> {
     limits: Limits,
     text: &'a [u8],
-    sheet: Sheet,
+    sheet: Option<Sheet>,
     outcome: Outcome,
 }
 
 fn explained(limits: Limits, text: &[u8]) -> Explained<'_> {
-    let r = read_sheet(text);
+    let sheet = read_sheet(text);
+    let outcome = weigh_sheet(limits, sheet);
     Explained {
         limits,
         text,
-        sheet: r.sheet,
-        outcome: weigh_sheet(limits, r),
+        sheet,
+        outcome,
     }
 }
 
@@ -105,6 +106,7 @@ impl<'a> Explained<'a> {
         requires { 1 ≤ i }
         ensures { GoesOn self.now.text.now at result }
     {
+        let sheet = self.sheet?;
         let (cylinder, _) = read_cylinder(self.text, at)?;
         let (line, next) = read_line(self.text, at)?;
         let told = Told {
@@ -112,7 +114,7 @@ impl<'a> Explained<'a> {
             cylinder,
             look: look_at(self.limits, mark_at(&self.outcome.marks, i - 1), line),
             doubt: gauge_of(self.limits, line),
-            first: first_of(self.sheet, cylinder.number),
+            first: first_of(sheet, cylinder.number),
         };
         Some((told, next))
     }
@@ -164,7 +166,7 @@ impl<'a> Explained<'a> {
     }
 
     fn say_ending(&self, p: Paper) -> Paper {
-        match (self.outcome.ending, self.sheet.need) {
+        match (self.outcome.ending, self.sheet.and_then(|s| s.need)) {
             (Ending::Covered(mg) | Ending::Short(mg), Some(need)) => {
                 say_margin(p, mg.0, need, self.warned())
             }

@@ -82,6 +82,7 @@ fn say_margin(p: Paper, mg: u64, need: u64, warned: Warned) -> Paper {
 }
 
 // A text that is explained: the sheet that it holds, where it is in the form, and what came of it.
+#[derive(Clone, Copy)]
 struct Explained<'a> {
     limits: Limits,
     text: &'a [u8],
@@ -89,18 +90,18 @@ struct Explained<'a> {
     outcome: Outcome,
 }
 
-fn explained(limits: Limits, text: &[u8]) -> Explained<'_> {
-    let sheet = read_sheet(text);
-    let outcome = weigh_sheet(limits, sheet);
-    Explained {
-        limits,
-        text,
-        sheet,
-        outcome,
-    }
-}
-
 impl<'a> Explained<'a> {
+    fn of(limits: Limits, text: &'a [u8]) -> Explained<'a> {
+        let sheet = read_sheet(text);
+        let outcome = weigh_sheet(limits, sheet);
+        Explained {
+            limits,
+            text,
+            sheet,
+            outcome,
+        }
+    }
+
     // The line at a place of the text, the i-th of the sheet, and where the next begins.
     fn line_at(&self, at: usize, i: usize) -> Option<(Told, usize)>
         requires { 1 ≤ i }
@@ -183,12 +184,12 @@ impl<'a> Explained<'a> {
 
 // Under a report.
 pub fn explain(p: Paper, limits: Limits, s: &[u8]) -> Paper {
-    let sheet = explained(limits, s);
+    let sheet = Explained::of(limits, s);
     let p = sheet.each(p, |p, l| l.say_warnings(l.say_line(p), b""));
     sheet.say_ending(p)
 }
 
 // Each after the name.
 pub fn warn(p: Paper, limits: Limits, s: &[u8], name: &[u8]) -> Paper {
-    explained(limits, s).each(p, |p, l| l.say_warnings(p, name))
+    Explained::of(limits, s).each(p, |p, l| l.say_warnings(p, name))
 }

@@ -122,7 +122,7 @@ pub fn say_where(p: Paper, s: &[u8]) -> Paper {
         return p.say(b"The text has more than 65,536 bytes.\n");
     }
     match first_wrong(s) {
-        Wrong::Line(line, from) => say_stop(p, s, line, from),
-        Wrong::Nowhere => p,
+        Some(Wrong { line, from }) => say_stop(p, s, line, from),
+        None => p,
     }
 }

@@ -1,7 +1,7 @@
 // RULES 4.8: the sums of the residual part over all 42 rows in the table's order: all five, or the first, which a
 // pressure needs. Each row's term is worked once for all that are asked for, in plain f64, and each sum is tested once,
 // at its end. What hangs on the temperature comes with the isotherm.
-ghost use Rattle.std.specs.Prelude.{◌≡◌, true, cond, ◌&&◌};
+ghost use Rattle.std.specs.Prelude.{◌≡◌, ◌+◌, ◌≤◌, cond, ◌&&◌};
 ghost use Rattle.std.specs.Float.Ieee.Scale.{finite};
 ghost use Rattle.num_working.specs.Working.{checked};
 ghost use Rattle.num_formulas.specs.Formula.{value};
@@ -10,7 +10,7 @@ ghost use Rattle.eos_non_analytic.specs.Parts.{critical};
 ghost use Rattle.eos_non_analytic.specs.Figures.{non_analytic_figures};
 ghost use Rattle.eos_terms.specs.Term.{in_quarters, point};
 ghost use Rattle.eos_terms.specs.Fallen.{fallen_terms};
-ghost use Rattle.eos_residual.specs.Sum.{onto, total, Meet, polynomial_figures, exponential_figures, gaussian_figures, residual, all_five, residual_part};
+ghost use Rattle.eos_residual.specs.Sum.{onto, total, Meet, Nine, polynomial_figures, exponential_figures, gaussian_figures, residual, all_five, residual_part};
 
 use eos_brackets::{
     Five, exponential_brackets, first_bracket, gaussian_brackets, grow, polynomial_brackets, times,
@@ -65,11 +65,12 @@ fn polynomial_sums<const ALL: bool>(iso: Isotherm, p: Point) -> Five
     s
 }
 
-// Rows 8 to 34 onto the sums so far. Nine rows at a time: a loop of so few turns the compiler lays out whole, and then
-// each entry of a column stands where it is used, and none on the stack (docs/DECISIONS.md).
-fn exponential_sums<const ALL: bool>(start: Five, iso: Isotherm, p: Point) -> Five
-    requires { p ≡ point iso p.delta }
-    ensures { Meet ALL result (λ k. onto (checked (of start k)) (exponential_figures iso p.delta k)) }
+// Nine of rows 8 to 34, from the one at place FIRST on, onto the sums so far. A loop of so few turns the compiler lays out
+// whole, and then each entry of a column stands where it is used, and none on the stack (docs/DECISIONS.md).
+fn nine_rows<const ALL: bool, const FIRST: usize>(start: Five, iso: Isotherm, p: Point) -> Five
+    requires p_value { p ≡ point iso p.delta }
+    requires within { FIRST + 9 ≤ 27 }
+    ensures { Nine ALL FIRST start result (exponential_figures iso p.delta) }
 {
     let ns = coefficients();
     let ds = delta_powers();
@@ -79,19 +80,26 @@ fn exponential_sums<const ALL: bool>(start: Five, iso: Isotherm, p: Point) -> Fi
     let es = p.decays;
     let ys = iso.powers;
     let mut s = start;
-    for nine in 0..3 {
-        for place in 0..9 {
-            let i = 9 * nine + place;
-            let d = ds[7 + i];
-            let c = cs[i];
-            let z = c as usize;
-            let term = ns[7 + i] * xs[d as usize] * ys[7 + i] * es[z - 1];
-            let t = in_quarters(qs[7 + i]);
-            let brackets = exponential_brackets(d as f64, t, c as f64, xs[z]);
-            s = grow(ALL, s, term, brackets);
-        }
+    for i in FIRST..FIRST + 9 {
+        let d = ds[7 + i];
+        let c = cs[i];
+        let z = c as usize;
+        let term = ns[7 + i] * xs[d as usize] * ys[7 + i] * es[z - 1];
+        let t = in_quarters(qs[7 + i]);
+        let brackets = exponential_brackets(d as f64, t, c as f64, xs[z]);
+        s = grow(ALL, s, term, brackets);
     }
     s
+}
+
+// Rows 8 to 34.
+fn exponential_sums<const ALL: bool>(start: Five, iso: Isotherm, p: Point) -> Five
+    requires { p ≡ point iso p.delta }
+    ensures { Meet ALL result (λ k. onto (checked (of start k)) (exponential_figures iso p.delta k)) }
+{
+    let s16 = nine_rows::<ALL, 0>(start, iso, p);
+    let s25 = nine_rows::<ALL, 9>(s16, iso, p);
+    nine_rows::<ALL, 18>(s25, iso, p)
 }
 
 // Rows 35 to 39.

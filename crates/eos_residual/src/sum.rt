@@ -1,8 +1,7 @@
 // RULES 4.8: the sums of the residual part over all 42 rows in the table's order: all five, or the first, which a
 // pressure needs. Each row's term is worked once for all that are asked for, in plain f64, and each sum is tested once,
 // at its end. What hangs on the temperature comes with the isotherm.
-ghost use Rattle.std.specs.Prelude.{◌≡◌, ◌+◌, ◌≤◌, cond, ◌&&◌};
-ghost use Rattle.std.specs.Float.Ieee.Scale.{finite};
+ghost use Rattle.std.specs.Prelude.{◌≡◌, ◌+◌, ◌≤◌, cond};
 ghost use Rattle.num_working.specs.Working.{checked};
 ghost use Rattle.num_formulas.specs.Formula.{value};
 ghost use Rattle.eos_brackets.specs.Derivative.{Delta, of};
@@ -21,7 +20,7 @@ use eos_non_analytic::parts::{Critical, at_critical, near_critical};
 use eos_rows::columns::{coefficients, decay_powers, delta_powers, tau_quarters};
 use eos_rows::{gaussian_row, non_analytic_row};
 use eos_terms::term::{Point, at_density};
-use num_working::{checked, is_finite};
+use num_working::checked;
 
 // The sums that are asked for, in plain f64; and where all five are, how many terms fell away.
 #[derive(Clone, Copy)]
@@ -45,9 +44,9 @@ fn in_quarters(q: u8) -> f64
 }
 
 // Rows 1 to 7, from the first.
-fn polynomial_sums<const ALL: bool>(iso: Isotherm, p: Point) -> Five
+fn polynomial_sums(all: bool, iso: Isotherm, p: Point) -> Five
     requires { p ≡ point iso p.delta }
-    ensures { Meet ALL result (λ k. total (polynomial_figures iso p.delta k)) }
+    ensures { Meet all result (λ k. total (polynomial_figures iso p.delta k)) }
 {
     let ns = coefficients();
     let ds = delta_powers();
@@ -60,7 +59,7 @@ fn polynomial_sums<const ALL: bool>(iso: Isotherm, p: Point) -> Five
     for i in 1..7 {
         let d = ds[i];
         let brackets = polynomial_brackets(d as f64, in_quarters(qs[i]));
-        s = grow(ALL, s, ns[i] * xs[d as usize] * ys[i], brackets);
+        s = grow(all, s, ns[i] * xs[d as usize] * ys[i], brackets);
     }
     s
 }
@@ -93,7 +92,7 @@ fn nine_rows<const ALL: bool, const FIRST: usize>(start: Five, iso: Isotherm, p:
 }
 
 // Rows 8 to 34.
-fn exponential_sums<const ALL: bool>(start: Five, iso: Isotherm, p: Point) -> Five
+fn exponential_rows<const ALL: bool>(start: Five, iso: Isotherm, p: Point) -> Five
     requires { p ≡ point iso p.delta }
     ensures { Meet ALL result (λ k. onto (checked (of start k)) (exponential_figures iso p.delta k)) }
 {
@@ -102,10 +101,21 @@ fn exponential_sums<const ALL: bool>(start: Five, iso: Isotherm, p: Point) -> Fi
     nine_rows::<ALL, 18>(s25, iso, p)
 }
 
-// Rows 35 to 39.
-fn gaussian_sums<const ALL: bool>(start: Five, iso: Isotherm, p: Point) -> Five
+fn exponential_sums(all: bool, start: Five, iso: Isotherm, p: Point) -> Five
     requires { p ≡ point iso p.delta }
-    ensures { Meet ALL result (λ k. onto (checked (of start k)) (gaussian_figures iso p.delta k)) }
+    ensures { Meet all result (λ k. onto (checked (of start k)) (exponential_figures iso p.delta k)) }
+{
+    if all {
+        exponential_rows::<true>(start, iso, p)
+    } else {
+        exponential_rows::<false>(start, iso, p)
+    }
+}
+
+// Rows 35 to 39.
+fn gaussian_sums(all: bool, start: Five, iso: Isotherm, p: Point) -> Five
+    requires { p ≡ point iso p.delta }
+    ensures { Meet all result (λ k. onto (checked (of start k)) (gaussian_figures iso p.delta k)) }
 {
     let xs = p.powers;
     let bs = p.bells;
@@ -123,13 +133,13 @@ fn gaussian_sums<const ALL: bool>(start: Five, iso: Isotherm, p: Point) -> Five
             p.delta,
             iso.tau,
         );
-        s = grow(ALL, s, r.n * xs[r.d as usize] * ys[34 + i] * bs[i], brackets);
+        s = grow(all, s, r.n * xs[r.d as usize] * ys[34 + i] * bs[i], brackets);
     }
     s
 }
 
 // Rows 40 to 42.
-fn non_analytic_sums<const ALL: bool>(start: Five, iso: Isotherm, p: Point, c: Critical) -> Five
+fn non_analytic_rows<const ALL: bool>(start: Five, iso: Isotherm, p: Point, c: Critical) -> Five
     requires p_value { p ≡ point iso p.delta }
     requires c_value { c ≡ critical iso p.delta }
     ensures { Meet ALL result (λ k. onto (checked (of start k)) (non_analytic_figures iso p.delta k)) }
@@ -142,34 +152,32 @@ fn non_analytic_sums<const ALL: bool>(start: Five, iso: Isotherm, p: Point, c: C
     add::<ALL>(s41, non_analytic_row(2), c.near, c.third, z[1], d, t)
 }
 
-// The four kinds of rows in turn, from what is worked once for all of them.
-fn all_rows<const ALL: bool>(iso: Isotherm, p: Point, c: Critical) -> Five
+fn non_analytic_sums(all: bool, start: Five, iso: Isotherm, p: Point, c: Critical) -> Five
     requires p_value { p ≡ point iso p.delta }
     requires c_value { c ≡ critical iso p.delta }
-    ensures { Meet ALL result (λ k. residual iso p.delta k) }
+    ensures { Meet all result (λ k. onto (checked (of start k)) (non_analytic_figures iso p.delta k)) }
 {
-    let s7 = polynomial_sums::<ALL>(iso, p);
-    let s34 = exponential_sums::<ALL>(s7, iso, p);
-    let s39 = gaussian_sums::<ALL>(s34, iso, p);
-    non_analytic_sums::<ALL>(s39, iso, p, c)
+    if all {
+        non_analytic_rows::<true>(start, iso, p, c)
+    } else {
+        non_analytic_rows::<false>(start, iso, p, c)
+    }
 }
 
 // All 42, in plain f64. Rows 40 to 42 wait longest for their roots, and their second roots for their first: so the first
-// are begun before the exponentials, and the second before the sums. `all` is a parameter and no const one, so that what
-// is worked once for all rows is called from one place, and laid out there (docs/DECISIONS.md).
+// are begun before the exponentials, and the second before the sums. `all` is a parameter and no const one: with two
+// functions of this each would call what is worked once for all rows, and it would be laid out in neither.
 fn sums_at(all: bool, iso: Isotherm, delta: f64) -> Added
     ensures { Meet all result.five (λ k. residual iso delta k) × (result.fallen ≡ cond all (fallen_terms iso delta) 0) }
 {
     let near = near_critical(delta);
     let t = at_density(all, iso, delta);
     let c = at_critical(near, iso.tau);
-    let five = if all {
-        all_rows::<true>(iso, t.point, c)
-    } else {
-        all_rows::<false>(iso, t.point, c)
-    };
+    let s7 = polynomial_sums(all, iso, t.point);
+    let s34 = exponential_sums(all, s7, iso, t.point);
+    let s39 = gaussian_sums(all, s34, iso, t.point);
     Added {
-        five,
+        five: non_analytic_sums(all, s39, iso, t.point, c),
         fallen: t.fallen,
     }
 }
@@ -181,27 +189,17 @@ pub fn slope_at(iso: Isotherm, delta: f64) -> Option<f64>
     checked(sums_at(false, iso, delta).five.d)
 }
 
-fn also_finite(x: f64, others: bool) -> bool
-    ensures { result ≡ (finite x && others) }
-{
-    if is_finite(x) { others } else { false }
-}
-
-fn all_finite(s: Five) -> bool
-    ensures { result ≡ (finite s.d && (finite s.dd && (finite s.t && (finite s.tt && finite s.dt)))) }
-{
-    let r = is_finite(s.dt);
-    let r = also_finite(s.tt, r);
-    let r = also_finite(s.t, r);
-    let r = also_finite(s.dd, r);
-    also_finite(s.d, r)
-}
-
 // Each of the five, tested.
 fn all_five(s: Five) -> Option<Five>
     ensures { result ≡ all_five (λ k. checked (of s k)) }
 {
-    if all_finite(s) { Some(s) } else { None }
+    Some(Five {
+        d: checked(s.d)?,
+        dd: checked(s.dd)?,
+        t: checked(s.t)?,
+        tt: checked(s.tt)?,
+        dt: checked(s.dt)?,
+    })
 }
 
 // All that a state needs. What the exponentials say is passed on.

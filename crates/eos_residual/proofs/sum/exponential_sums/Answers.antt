@@ -1,18 +1,8 @@
--- Three times nine rows are all 27. Assumes nothing.
-use mathlib.Core.Path.{◌≡◌, refl, sym, ap, ◌∙◌}
-use native.Mathlib.Omega.{arith}
-use lib.ListN.{drop, drop_of_length-le}
-use Rattle.num_working.specs.Working.{checked, Worked}
-use Rattle.eos_brackets.specs.Derivative.{of}
-use mathlib.Core.List.{List}
-use Rattle.eos_residual.specs.Sum.{onto, exponential_figures}
-use Rattle.eos_residual.proofs.Sums.{due_none}
-use Rattle.eos_residual.proofs.Figures.{exponential_length}
+-- Each that is asked for is among those of the function that is called. Assumes nothing.
 use Rattle.eos_residual.proofs.sum.exponential_sums.Goals as goal
 
-pub returns : goal.returns
-returns g c =
-    let a = c.args in
-    λ k h.
-    due_none (exponential_figures a.iso a.p.delta k) _ 27 (of c.nine_rows.result k) (rw (exponential_length a.iso a.p.delta k) (omega arith))
-    (c.nine_rows.ensures k h ∙ c.nine_rows-s25.ensures k h ∙ c.nine_rows-s16.ensures k h)
+pub returns-then-all : goal.returns-then-all
+returns-then-all c = λ k h. c.exponential_rows.ensures k (rw c.if-all.true at h)
+
+pub returns-else-all : goal.returns-else-all
+returns-else-all c = λ k h. c.exponential_rows-else-all.ensures k (rw c.if-all.false at h)

@@ -10,7 +10,7 @@ use Rattle.eos_residual.proofs.sum.gaussian_sums.Goals as goal
 
 pub loop-i-preserved : goal.loop-i-preserved
 unfolding whole
-loop-i-preserved g c =
+loop-i-preserved c =
     let a = c.args in
     dues_more _ _ _ _ _ _ _ _ c.grow-s.ensures
     (gaussian_placed a.iso a.p.delta refl (its_powers a.iso a.p c.requires) _ (its_bells a.iso a.p c.requires)
@@ -18,9 +18,9 @@ loop-i-preserved g c =
     c.loop-i.invariant
 
 pub returns : goal.returns
-returns g c =
+returns c =
     let a = c.args in
     dues_none _ _ _ c.loop-i.i _ c.loop-i.invariant (gaussian_length a.iso a.p.delta) (omega arith)
 
 pub bounds-xs-r : goal.bounds-xs-r
-bounds-xs-r g c = rw c.gaussian_row-r.ensures (gaussian_small c.loop-i.i)
+bounds-xs-r c = rw c.gaussian_row-r.ensures (gaussian_small c.loop-i.i)

@@ -1,12 +1,8 @@
--- The three rows one after the other, of each sum that is asked for. Assumes nothing.
-use Rattle.eos_residual.proofs.ThreeRows.{three_rows}
+-- Each that is asked for is among those of the function that is called. Assumes nothing.
 use Rattle.eos_residual.proofs.sum.non_analytic_sums.Goals as goal
 
-pub returns : goal.returns
-returns g c =
-    let a = c.args in
-    λ k h.
-    three_rows a.iso a.p a.c c.requires.p_value c.requires.c_value
-    c.non_analytic_row.ensures c.non_analytic_row-2.ensures c.non_analytic_row-3.ensures _ k h
-    a.start c.add-s40.result c.add-s41.result c.add.result
-    c.add-s40.ensures c.add-s41.ensures c.add.ensures
+pub returns-then-all : goal.returns-then-all
+returns-then-all c = λ k h. c.non_analytic_rows.ensures k (rw c.if-all.true at h)
+
+pub returns-else-all : goal.returns-else-all
+returns-else-all c = λ k h. c.non_analytic_rows-else-all.ensures k (rw c.if-all.false at h)

@@ -10,27 +10,27 @@ use Rattle.eos_residual.proofs.sum.polynomial_sums.Goals as goal
 
 pub loop-i-init : goal.loop-i-init
 unfolding whole
-loop-i-init g c = λ iso delta y x.
+loop-i-init c = λ iso delta y x.
     dues_first _ (polynomial_figures iso delta) c.times-s.result _ _ c.times-s.ensures
     (polynomial_placed iso delta y x 0 c.coefficients-ns.ensures c.delta_powers-ds.ensures c.tau_quarters-qs.ensures
     (omega arith) c.in_quarters.ensures c.polynomial_brackets-first.ensures)
 
 pub loop-i-preserved : goal.loop-i-preserved
 unfolding whole
-loop-i-preserved g c = λ iso delta y x.
+loop-i-preserved c = λ iso delta y x.
     dues_more _ _ _ _ _ _ _ _ c.grow-s.ensures
     (polynomial_placed iso delta y x _ c.coefficients-ns.ensures c.delta_powers-ds.ensures c.tau_quarters-qs.ensures
     (omega arith) c.in_quarters-in-loop-i.ensures c.polynomial_brackets-brackets.ensures)
     (c.loop-i.invariant iso delta y x)
 
 pub returns : goal.returns
-returns g c =
+returns c =
     let a = c.args in
     dues_none _ _ _ c.loop-i.i _ (c.loop-i.invariant a.iso a.p.delta refl (its_powers a.iso a.p c.requires))
     (polynomial_length a.iso a.p.delta) (omega arith)
 
 pub bounds-xs-d : goal.bounds-xs-d
-bounds-xs-d g c = delta_by c.delta_powers-ds.ensures 0
+bounds-xs-d c = delta_by c.delta_powers-ds.ensures 0
 
 pub bounds-xs-d-in-loop-i : goal.bounds-xs-d-in-loop-i
-bounds-xs-d-in-loop-i g c = delta_by c.delta_powers-ds.ensures c.loop-i.i
+bounds-xs-d-in-loop-i c = delta_by c.delta_powers-ds.ensures c.loop-i.i

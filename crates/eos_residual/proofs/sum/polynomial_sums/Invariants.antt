@@ -4,9 +4,9 @@ use lib.Ieee.{Float}
 use Rattle.num_powers.specs.Power.{powers}
 use Rattle.eos_isotherm.specs.declared.Isotherm.{Isotherm}
 use Rattle.eos_residual.specs.Sum.{total, polynomial_figures}
-use Rattle.eos_residual.proofs.Sums.{Dues, flag}
+use Rattle.eos_residual.proofs.Sums.{Dues}
 use Rattle.eos_residual.proofs.sum.polynomial_sums.Given as goal
 
 abbrev pub invariant-loop-i : goal.invariant-loop-i
-invariant-loop-i g l = (iso : Isotherm) (delta : Float) → iso.powers ≡ l.ys → powers 10 delta ≡ l.xs
-    → Dues (flag g.row.ALL) (polynomial_figures iso delta) (λ k. total (polynomial_figures iso delta k)) l.i l.s
+invariant-loop-i l = (iso : Isotherm) (delta : Float) → iso.powers ≡ l.ys → powers 10 delta ≡ l.xs
+    → Dues l.all (polynomial_figures iso delta) (λ k. total (polynomial_figures iso delta k)) l.i l.s

@@ -1,59 +1,59 @@
--- All 42 rows, from what is worked once for them. Assumes nothing.
+-- The four kinds of rows in turn. Assumes nothing.
 use mathlib.Core.Path.{◌≡◌, sym, ap, ◌∙◌}
 use lib.Ieee.{Float}
+use Rattle.num_working.specs.Working.{checked}
+use Rattle.eos_brackets.specs.Derivative.{of}
 use Rattle.eos_non_analytic.specs.Parts.{critical, critical_by}
+use Rattle.eos_non_analytic.specs.Figures.{non_analytic_figures}
 use Rattle.eos_non_analytic.specs.declared.parts.Near.{Near}
 use Rattle.eos_non_analytic.proofs.Rows.{critical_by_lem}
 use Rattle.eos_terms.specs.Term.{point}
 use Rattle.eos_terms.specs.Fallen.{at_density}
 use Rattle.eos_terms.specs.declared.term.Told.{Told}
 use Rattle.eos_terms.proofs.Points.{own}
-use Rattle.eos_residual.specs.Sum.{residual}
+use Rattle.eos_residual.specs.Sum.{onto, total, polynomial_figures, exponential_figures, gaussian_figures}
+use Rattle.eos_residual.proofs.Totals.{in_turn}
 use Rattle.eos_residual.proofs.sum.sums_at.Goals as goal
-use Rattle.eos_residual.proofs.sum.sums_at.Goals.{After-at_critical-c}
+use Rattle.eos_residual.proofs.sum.sums_at.Goals.{After-at_density-t}
 
--- the point that the rows are given
-placed : (c : After-at_critical-c) → c.at_density-t.result.point ≡ point c.args.iso c.args.delta
+-- the point that each kind of rows is given
+placed : (c : After-at_density-t) → c.at_density-t.result.point ≡ point c.args.iso c.args.delta
 unfolding at_density
 placed c = ap (λ (t : Told). t.point) c.at_density-t.ensures
 
-its : (c : After-at_critical-c) → c.at_density-t.result.point ≡ point c.args.iso c.at_density-t.result.point.delta
+its : (c : After-at_density-t) → c.at_density-t.result.point ≡ point c.args.iso c.at_density-t.result.point.delta
 its c = (own _ c.args.delta _ (placed c)).0
 
-at : (c : After-at_critical-c) → c.at_density-t.result.point.delta ≡ c.args.delta
-at c = (own c.args.iso c.args.delta _ (placed c)).1
+pub polynomial_sums-s7-requires : goal.polynomial_sums-s7-requires
+polynomial_sums-s7-requires c = its (goal.at.polynomial_sums-s7-requires c).After-at_density-t
 
--- and what rows 40 to 42 are given
-near_it : (c : After-at_critical-c) → c.at_critical-c.result ≡ critical c.args.iso c.at_density-t.result.point.delta
-near_it c =
+pub exponential_sums-s34-requires : goal.exponential_sums-s34-requires
+exponential_sums-s34-requires c = its (goal.at.exponential_sums-s34-requires c).After-at_density-t
+
+pub gaussian_sums-s39-requires : goal.gaussian_sums-s39-requires
+gaussian_sums-s39-requires c = its (goal.at.gaussian_sums-s39-requires c).After-at_density-t
+
+pub non_analytic_sums-requires : goal.non_analytic_sums-requires
+non_analytic_sums-requires c =
     let a = c.args in
-    c.at_critical-c.ensures
-    ∙ ap (λ (x : Near). critical_by x a.iso.tau) c.near_critical-near.ensures
-    ∙ critical_by_lem a.iso a.delta
-    ∙ ap (critical a.iso) (sym (at c))
+    let t = (goal.at.non_analytic_sums-requires c).After-at_density-t in record {
+      p_value = its t;
+      c_value = c.at_critical-c.ensures
+          ∙ ap (λ (x : Near). critical_by x a.iso.tau) c.near_critical-near.ensures
+          ∙ critical_by_lem a.iso a.delta
+          ∙ ap (critical a.iso) (sym (own a.iso a.delta _ (placed t)).1);
+    }
 
-pub all_rows-five-requires : goal.all_rows-five-requires
-all_rows-five-requires c =
-    let d = (goal.at.all_rows-five-requires c).After-at_critical-c in
-    record { p_value = its d; c_value = near_it d }
-
-pub all_rows-five-requires-else-all : goal.all_rows-five-requires-else-all
-all_rows-five-requires-else-all c =
-    let d = (goal.at.all_rows-five-requires-else-all c).After-at_critical-c in
-    record { p_value = its d; c_value = near_it d }
-
-pub returns-then-all : goal.returns-then-all
+pub returns : goal.returns
 unfolding at_density
-returns-then-all c =
-    let d = at (goal.at.returns-then-all c).After-at_critical-c in (
-      λ k h. c.all_rows-five.ensures k (rw c.if-all.true at h) ∙ ap (λ (x : Float). residual c.args.iso x k) d,
-      ap (λ (t : Told). t.fallen) c.at_density-t.ensures,
-    )
-
-pub returns-else-all : goal.returns-else-all
-unfolding at_density
-returns-else-all c =
-    let d = at (goal.at.returns-else-all c).After-at_critical-c in (
-      λ k h. c.all_rows-five-else-all.ensures k (rw c.if-all.false at h) ∙ ap (λ (x : Float). residual c.args.iso x k) d,
+returns c =
+    let a = c.args in
+    let d = (own a.iso a.delta _ (placed (goal.at.returns c).After-at_density-t)).1 in (
+      λ k h.
+          in_turn a.iso a.delta k _ _ _ _
+          (c.polynomial_sums-s7.ensures k h ∙ ap (λ (x : Float). total (polynomial_figures a.iso x k)) d)
+          (c.exponential_sums-s34.ensures k h ∙ ap (λ (x : Float). onto (checked (of c.polynomial_sums-s7.result k)) (exponential_figures a.iso x k)) d)
+          (c.gaussian_sums-s39.ensures k h ∙ ap (λ (x : Float). onto (checked (of c.exponential_sums-s34.result k)) (gaussian_figures a.iso x k)) d)
+          (c.non_analytic_sums.ensures k h ∙ ap (λ (x : Float). onto (checked (of c.gaussian_sums-s39.result k)) (non_analytic_figures a.iso x k)) d),
       ap (λ (t : Told). t.fallen) c.at_density-t.ensures,
     )

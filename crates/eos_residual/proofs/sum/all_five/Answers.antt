@@ -6,12 +6,14 @@ use Rattle.eos_residual.proofs.sum.all_five.Goals as goal
 pub returns-in_err-checked : goal.returns-in_err-checked
 unfolding all_five
 returns-in_err-checked c =
-    rw (sym c.checked.ensures ∙ c.in_err-checked.was) refl
+    c.from_residual.ensures
+    ∙ rw (sym c.checked.ensures ∙ c.in_err-checked.was) refl
 
 pub returns-in_err-checked-2 : goal.returns-in_err-checked-2
 unfolding all_five
 returns-in_err-checked-2 c =
-    rw (
+    c.from_residual-in_err-checked-2.ensures
+    ∙ rw (
       sym c.checked.ensures ∙ c.in_ok-checked.was,
       sym c.checked-2.ensures ∙ c.in_err-checked-2.was,
     ) refl
@@ -19,7 +21,8 @@ returns-in_err-checked-2 c =
 pub returns-in_err-checked-3 : goal.returns-in_err-checked-3
 unfolding all_five
 returns-in_err-checked-3 c =
-    rw (
+    c.from_residual-in_err-checked-3.ensures
+    ∙ rw (
       sym c.checked.ensures ∙ c.in_ok-checked.was,
       sym c.checked-2.ensures ∙ c.in_ok-checked-2.was,
       sym c.checked-3.ensures ∙ c.in_err-checked-3.was,
@@ -28,7 +31,8 @@ returns-in_err-checked-3 c =
 pub returns-in_err-checked-4 : goal.returns-in_err-checked-4
 unfolding all_five
 returns-in_err-checked-4 c =
-    rw (
+    c.from_residual-in_err-checked-4.ensures
+    ∙ rw (
       sym c.checked.ensures ∙ c.in_ok-checked.was,
       sym c.checked-2.ensures ∙ c.in_ok-checked-2.was,
       sym c.checked-3.ensures ∙ c.in_ok-checked-3.was,
@@ -38,7 +42,8 @@ returns-in_err-checked-4 c =
 pub returns-in_err-checked-5 : goal.returns-in_err-checked-5
 unfolding all_five
 returns-in_err-checked-5 c =
-    rw (
+    c.from_residual-in_err-checked-5.ensures
+    ∙ rw (
       sym c.checked.ensures ∙ c.in_ok-checked.was,
       sym c.checked-2.ensures ∙ c.in_ok-checked-2.was,
       sym c.checked-3.ensures ∙ c.in_ok-checked-3.was,

@@ -133,7 +133,12 @@ fn gaussian_sums(all: bool, start: Five, iso: Isotherm, p: Point) -> Five
             p.delta,
             iso.tau,
         );
-        s = grow(all, s, r.n * xs[r.d as usize] * ys[34 + i] * bs[i], brackets);
+        s = grow(
+            all,
+            s,
+            r.n * xs[r.d as usize] * ys[34 + i] * bs[i],
+            brackets,
+        );
     }
     s
 }

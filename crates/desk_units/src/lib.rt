@@ -3,10 +3,10 @@
 
 ghost use Rattle.std.specs.Prelude.{◌≡◌, false, ◌≤◌, length};
 ghost use Rattle.sheet_write.specs.Writing.{Wrote, Fitted};
-ghost use Rattle.desk_units.specs.Units.{rounded_up, nearest, shortest, celsius, bar, thousandth, kilograms_down, kilograms_up, density, pressure};
+ghost use Rattle.desk_units.specs.Units.{nearest, shortest, celsius, bar, thousandth, kilograms_down, kilograms_up, density, pressure};
 ghost use Rattle.desk_units.specs.Shown.{front, last_digits, sign_text, shown_text};
 
-use num_whole::{whole_below};
+use num_whole::whole_below;
 use sheet_write::{number_len, put, put_number};
 
 // digits, with so many of them behind the point; `-` in front where it is below 0.
@@ -17,45 +17,46 @@ pub struct Shown {
     pub places: u8,
 }
 
-// A number that could be had, or none.
+fn fixed(digits: u64, places: u8) -> Shown
+    ensures { result ≡ record { below = false; digits = digits; places = places } }
+{
+    Shown {
+        below: false,
+        digits,
+        places,
+    }
+}
+
 // ---- from a number of the sheet
 
 // With no 0 at its end, but one place stays.
+#[tactic(auto, unfolding(crate::specs::Units::shortest))]
 fn shortest(n: u64, places: u8) -> Shown
     ensures { result ≡ shortest places n }
 {
-    let mut digits = n;
-    let mut left = places;
-    while left > 1 {
-        if digits % 10 != 0 {
-            break;
-        }
-        digits /= 10;
-        left -= 1;
-    }
-    Shown {
-        below: false,
-        digits: digits,
-        places: left,
+    if places > 1 && n % 10 == 0 {
+        shortest(n / 10, places - 1)
+    } else {
+        fixed(n, places)
     }
 }
 
 // From 0.1 mK: 0 C are 2,731,500.
+#[tactic(auto, unfolding(crate::specs::Units::celsius))]
 pub fn celsius(n: u64) -> Shown
     ensures { result ≡ celsius n }
 {
     if n < 2_731_500 {
-        let s = shortest(2_731_500 - n, 4);
         return Shown {
             below: true,
-            digits: s.digits,
-            places: s.places,
+            ..shortest(2_731_500 - n, 4)
         };
     }
     shortest(n - 2_731_500, 4)
 }
 
 // From Pa.
+#[tactic(auto, unfolding(crate::specs::Units::bar))]
 pub fn bar(n: u64) -> Shown
     ensures { result ≡ bar n }
 {
@@ -63,6 +64,7 @@ pub fn bar(n: u64) -> Shown
 }
 
 // From g/m³ in kg/m³, or from mL in L.
+#[tactic(auto, unfolding(crate::specs::Units::thousandth))]
 pub fn thousandth(n: u64) -> Shown
     ensures { result ≡ thousandth n }
 {
@@ -71,24 +73,8 @@ pub fn thousandth(n: u64) -> Shown
 
 // ---- from what was answered
 
-fn fixed(digits: u64, places: u8) -> Shown
-    ensures { result ≡ record { below = false; digits = digits; places = places } }
-{
-    Shown {
-        below: false,
-        digits: digits,
-        places: places,
-    }
-}
-
-fn rounded_up(n: u64, by: u64) -> u64
-    requires { 2 ≤ by }
-    ensures { result ≡ rounded_up by n }
-{
-    if n % by == 0 { n / by } else { n / by + 1 }
-}
-
 // A half goes up.
+#[tactic(auto, unfolding(crate::specs::Units::nearest))]
 fn nearest(n: u64, by: u64) -> u64
     requires { 2 ≤ by }
     ensures { result ≡ nearest by n }
@@ -97,6 +83,7 @@ fn nearest(n: u64, by: u64) -> u64
 }
 
 // From mg, what is held or to spare: never more than it is.
+#[tactic(auto, unfolding(crate::specs::Units::kilograms_down))]
 pub fn kilograms_down(mg: u64) -> Shown
     ensures { result ≡ kilograms_down mg }
 {
@@ -104,35 +91,33 @@ pub fn kilograms_down(mg: u64) -> Shown
 }
 
 // From mg, what is needed or missing: never less than it is.
+#[tactic(auto, unfolding(crate::specs::Units::kilograms_up, crate::specs::Units::rounded_up))]
 pub fn kilograms_up(mg: u64) -> Shown
     ensures { result ≡ kilograms_up mg }
 {
-    fixed(rounded_up(mg, 1000), 3)
+    fixed(mg.div_ceil(1000), 3)
 }
 
 // Of a state, in kg/m³.
+#[tactic(auto, using(crate::proofs::Roundings::thousand), unfolding(crate::specs::Units::density))]
 pub fn density(rho: f64) -> Option<Shown>
     ensures { result ≡ density rho }
 {
-    let Some(n) = whole_below(rho * 1000.0) else {
-        return None;
-    };
-    Some(fixed(nearest(n, 100), 1))
+    Some(fixed(nearest(whole_below(rho * 1000.0)?, 100), 1))
 }
 
 // Of saturation, from Pa in bar.
+#[tactic(auto, unfolding(crate::specs::Units::pressure))]
 pub fn pressure(p: f64) -> Option<Shown>
     ensures { result ≡ pressure p }
 {
-    let Some(n) = whole_below(p) else {
-        return None;
-    };
-    Some(fixed(nearest(n, 1000), 2))
+    Some(fixed(nearest(whole_below(p)?, 1000), 2))
 }
 
 // ---- as text
 
 // What is left of n without its last k digits.
+#[tactic(auto, using(crate::proofs::Digits::front_next), unfolding(crate::specs::Shown::front))]
 fn front(n: u64, k: u8) -> u64
     ensures { result ≡ front k n }
 {
@@ -140,6 +125,7 @@ fn front(n: u64, k: u8) -> u64
 }
 
 // The last k digits of n.
+#[tactic(auto, using(crate::proofs::Digits::last_length, sheet_write::proofs::Writings::nothing), unfolding(crate::specs::Shown::last_digits))]
 fn put_last(out: &mut [u8], n: u64, k: u8) -> usize
     requires { k ≤ length out.old }
     ensures { Wrote out.old out.new result (last_digits k n) }
@@ -152,6 +138,7 @@ fn put_last(out: &mut [u8], n: u64, k: u8) -> usize
     at + 1
 }
 
+#[tactic(auto, unfolding(crate::specs::Shown::sign_text))]
 fn put_sign(out: &mut [u8], below: bool) -> usize
     requires { length (sign_text below) ≤ length out.old }
     ensures { Wrote out.old out.new result (sign_text below) }
@@ -160,14 +147,15 @@ fn put_sign(out: &mut [u8], below: bool) -> usize
 }
 
 // At most 277 bytes.
+#[tactic(auto, using(crate::proofs::Digits::shown_length), unfolding(crate::specs::Shown::sign_text))]
 fn shown_len(s: Shown) -> usize
     ensures { result ≡ length (shown_text s) }
 {
-    let sign: usize = if s.below { 1 } else { 0 };
-    sign + number_len(front(s.digits, s.places)) + 1 + s.places as usize
+    usize::from(s.below) + number_len(front(s.digits, s.places)) + 1 + usize::from(s.places)
 }
 
 // Where it fits; else 0, and nothing is written.
+#[tactic(auto, using(crate::proofs::Digits::shown_length, crate::proofs::Digits::last_length))]
 pub fn put_shown(out: &mut [u8], s: Shown) -> usize
     ensures { Fitted out.old out.new (shown_text s) result }
 {

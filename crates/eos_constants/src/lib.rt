@@ -43,6 +43,7 @@ pub fn delta_at(rho: f64) -> f64
 }
 
 // τ = T_c/T, in plain f64.
+#[tactic(auto, unfolding(num_formulas::specs::Formula::value))]
 pub fn tau_at(t: f64) -> f64
     ensures { result ≡ value (tau t) }
 {

@@ -71,6 +71,7 @@ fn table_27() -> Table
 }
 
 // What stands before the rows.
+#[tactic(auto, unfolding(num_formulas::specs::Formula::value))]
 fn heads(t: Table, tau: f64) -> Sums
     ensures { result ≡ sums (head_τ t tau) (head_ττ t tau) }
 {

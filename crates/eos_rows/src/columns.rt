@@ -47,6 +47,7 @@ pub fn coefficients() -> [f64; 34]
 }
 
 // d, the power of δ.
+#[tactic(auto, unfolding(crate::specs::Column::delta_powers, crate::specs::Row::polynomials, crate::specs::Row::exponentials))]
 pub fn delta_powers() -> [u8; 34]
     ensures { result ≡ delta_powers }
 {
@@ -89,6 +90,7 @@ pub fn delta_powers() -> [u8; 34]
 }
 
 // t, the power of τ, in quarters.
+#[tactic(auto, unfolding(crate::specs::Column::tau_quarters, crate::specs::Row::polynomials, crate::specs::Row::exponentials))]
 pub fn tau_quarters() -> [u8; 34]
     ensures { result ≡ tau_quarters }
 {
@@ -131,6 +133,7 @@ pub fn tau_quarters() -> [u8; 34]
 }
 
 // c, the power of δ in the exponential, of rows 8 to 34: the others have none.
+#[tactic(auto, unfolding(crate::specs::Column::decay_powers, crate::specs::Row::exponentials))]
 pub fn decay_powers() -> [u8; 27]
     ensures { result ≡ decay_powers }
 {

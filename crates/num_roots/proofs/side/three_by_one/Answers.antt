@@ -1,7 +1,0 @@
--- Each is `plain` of the root. Assumes nothing.
-use mathlib.Core.Path.{refl}
-use Rattle.num_roots.proofs.side.three_by_one.Goals as goal
-
-pub returns : goal.returns
-returns c =
-    rw (c.plain-3.ensures, c.root-3.ensures, c.plain-2.ensures, c.root-2.ensures, c.plain.ensures, c.root.ensures) refl

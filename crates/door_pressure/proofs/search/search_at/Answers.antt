@@ -1,5 +1,5 @@
 -- The crossing is the definition's, and the state is worked there. Assumes nothing.
-use mathlib.Core.Path.{sym, ap, ◌∙◌}
+use mathlib.Core.Path.{sym, ◌∙◌}
 use native.Mathlib.Omega.{arith}
 use lib.Ieee.{binary64, to_bits}
 use Rattle.num_working.proofs.Numbers.{no_nan, nonneg_no_nan}

@@ -1,35 +1,49 @@
 -- RULES 14.3: the first line that has a number, and that it is the one that is named. Assumes nothing.
 use Rattle.refusal.specs.Refused.{refused}
-use Rattle.std.specs.Prelude.{Float, Some, None, Ok, Err}
+use Rattle.std.specs.Prelude.{Float, Option, Some, None, Ok, Err}
 use mathlib.Core.Path.{◌≡◌, refl, sym, ap, ◌∙◌}
 use mathlib.Core.Bool.{Bool, true, false, cond, ◌||◌, false≢true, or-false}
 use mathlib.Core.List.{List, [], ◌∷◌}
 use Prim.Native.Nat.{ℕ, zero, suc, ◌+◌, ◌-◌, ◌≤◌, ◌<◌}
 use native.Mathlib.Omega.{arith}
-use lib.ListN.{length, take, drop, get_or, drop_of_length-le}
-use lib.Seq.{drop-cons}
+use lib.ListN.{length, take, get_or}
 use borrow.Author.Tests.{eqb-true}
+use Rattle.std.specs.List.{position, position_from}
+use Rattle.std.proofs.lemmas.Iterator.Adapters.{position_from-zero}
+use Rattle.door_checks.specs.Check.{Check}
 use Rattle.sheet_text.specs.Field.{Field}
 use Rattle.sheet_line.specs.declared.line.Line.{Line}
 use Rattle.sheet_standing.specs.Standing.{if_numbered, lacking, is_on, onto, numbers, standing, first_with}
 
--- ---- one turn of the loop that looks for it
+-- ---- as it is looked for, the first of all being 0
 
-module _ (ls : List (Line Float)) (n i : ℕ) (from : 1 ≤ i) (e : first_with 1 ls n ≡ first_with i (drop (i - 1) ls) n) where
-  pub found : (d : Line Float) → i ≤ length ls → is_on (numbers (get_or ls (i - 1) d ∷ [])) n ≡ true → i ≡ first_with 1 ls n
-  unfolding first_with
-  found d h on = sym (e ∙ rw (drop-cons ls (i - 1) d (omega arith), on) refl)
+-- its place from 1; 0 where there is none
+abbrev from_one : Option ℕ → ℕ
+from_one None = 0
+from_one (Some i) = i + 1
 
-  pub passed : (d : Line Float) → i ≤ length ls → is_on (numbers (get_or ls (i - 1) d ∷ [])) n ≡ false
-      → first_with 1 ls n ≡ first_with (i + 1) (drop (i + 1 - 1) ls) n
-  unfolding first_with
-  passed d h off =
-      let next : suc (i - 1) ≡ i + 1 - 1 = omega arith in
-      e ∙ rw (drop-cons ls (i - 1) d (omega arith), off) (ap (λ (k : ℕ). first_with (i + 1) (drop k ls) n) next)
+by_first : (b : Bool) (i k : ℕ) (o : Option ℕ) → k ≡ from_one o → cond b (i + 1) k ≡ from_one (cond b (Some i) o)
+by_first true i k o e = refl
+by_first false i k o e = e
 
-  pub at_end : length ls < i → 0 ≡ first_with 1 ls n
+module _ (n : ℕ) where
+  abbrev has : Line Float → Bool
+  has l = is_on (numbers (l ∷ [])) n
+
+  from_place : (i : ℕ) (ls : List (Line Float)) → first_with (i + 1) ls n ≡ from_one (position_from has i ls)
   unfolding first_with
-  at_end h = sym (e ∙ rw (drop_of_length-le ls {i = i - 1} (omega arith)) refl)
+  from_place i [] = refl
+  from_place i (l ∷ ls) = by_first (has l) i _ _ (from_place (i + 1) ls)
+
+  at_place : (ls : List (Line Float)) → first_with 1 ls n ≡ from_one (position has ls)
+  at_place ls = from_place 0 ls ∙ ap from_one (sym (position_from-zero has ls))
+
+  module _ (ls : List (Line Float)) where
+    pub first_none : position has ls ≡ None → 0 ≡ first_with 1 ls n
+    first_none e = sym (at_place ls ∙ ap from_one e)
+
+    pub first_some : (i : ℕ) → position has ls ≡ Some i → i + 1 ≡ first_with 1 ls n
+    first_some i e = sym (at_place ls ∙ ap from_one e)
 
 -- ---- the line that it names
 
@@ -116,13 +130,17 @@ pub first_of_again : (ls : List (Line Float)) (i : ℕ) (l : Line Float) → sta
 unfolding standing
 first_of_again ls i l = by_number l.number
   where
-    no : {A : Type 0} {m : ℕ} → Err m ≡ refused 30 → (m ≡ 30 → ⊥) → A
-    no e h = absurd (h cc)
+    number : Check → ℕ
+    number (Ok u) = 0
+    number (Err r) = r.0
 
-    told : (a b : Bool) → cond a (refused 1) (cond b (refused 30) (Ok tt)) ≡ refused 30 → b ≡ true
+    no : {A : Type 0} {m : ℕ} → ◌≡◌ {A = Check} (refused m) (refused 30) → (m ≡ 30 → ⊥) → A
+    no e h = absurd (h (ap number e))
+
+    told : (a b : Bool) → ◌≡◌ {A = Check} (cond a (refused 1) (cond b (refused 30) (Ok tt))) (refused 30) → b ≡ true
     told true b e = no e (λ h. omega (arith, h))
     told false true e = refl
-    told false false e = let z : ◌≡◌ {A = ℕ} 0 1 = cc in absurd (omega arith)
+    told false false e = cc
 
     by_number : (f : Field) → if_numbered f (λ n. cond (lacking l) (refused 1) (cond (is_on (numbers (take i ls)) n) (refused 30) (Ok tt))) ≡ refused 30
         → (n : ℕ) × (f ≡ Some n) × First ls i n (first_with 1 ls n)

@@ -1,32 +1,23 @@
 -- Whether a number is among others, one after the other; and the numbers of lines that are joined. Assumes nothing.
 use Rattle.std.specs.Prelude.{Float, Some, None}
 use mathlib.Core.Path.{◌≡◌, refl, sym, ap, ◌∙◌}
-use mathlib.Core.Bool.{true, false}
+use mathlib.Core.Bool.{Bool, ◌||◌}
 use mathlib.Core.List.{List, [], ◌∷◌, ◌++◌}
-use Prim.Native.Nat.{ℕ, suc, ◌+◌, ◌≤◌, ◌<◌}
-use native.Mathlib.Numerals.{add-one}
+use Prim.Native.Nat.{ℕ, suc, ◌≤◌}
 use native.Mathlib.Omega.{arith}
-use lib.ListN.{length, drop, get_or, drop_of_length-le}
-use lib.Seq.{drop-cons}
-use borrow.Author.Tests.{eq-eqb, ne_eqb}
+use lib.ListN.{length}
+use Rattle.std.specs.List.{list_any}
+use lib.Dec.{eqb}
 use Rattle.sheet_text.specs.Field.{Field}
 use Rattle.sheet_line.specs.declared.line.Line.{Line}
 use Rattle.sheet_standing.specs.Standing.{is_on, onto, numbers}
 
--- ---- one turn of the loop that looks for it
+-- ---- as a slice finds it
 
-module _ (ms : List ℕ) (n i : ℕ) (e : is_on ms n ≡ is_on (drop i ms) n) where
-  pub found : i < length ms → get_or ms i 0 ≡ n → true ≡ is_on ms n
-  unfolding is_on
-  found h m = sym (e ∙ rw (drop-cons ms i 0 h, eq-eqb _ _ m) refl)
-
-  pub passed : i < length ms → (get_or ms i 0 ≡ n → ⊥) → is_on ms n ≡ is_on (drop (i + 1) ms) n
-  unfolding is_on
-  passed h m = e ∙ rw (drop-cons ms i 0 h, ne_eqb _ _ m, add-one) refl
-
-  pub at_end : length ms ≤ i → false ≡ is_on ms n
-  unfolding is_on
-  at_end h = sym (e ∙ rw (drop_of_length-le ms h) refl)
+pub any_on : (ms : List ℕ) (n : ℕ) → list_any (λ m. eqb m n) ms ≡ is_on ms n
+unfolding is_on
+any_on [] n = refl
+any_on (m ∷ ms) n = ap (λ (b : Bool). eqb m n || b) (any_on ms n)
 
 -- ---- the numbers of lines
 

@@ -2,90 +2,64 @@
 // 30, where a line before it has its cylinder number. And the first line that has a number (RULES 14.3).
 #![tactic(auto)]
 
-ghost use Rattle.std.specs.Prelude.{◌≡◌, [], ◌∷◌};
-ghost use Rattle.sheet_standing.specs.Standing.{no_temperature, lacking, is_on, numbers, standing, first_with};
+ghost use Rattle.std.specs.Prelude.{◌≡◌, Float, [], ◌∷◌, position};
+ghost use Rattle.sheet_line.specs.declared.line.Line.{Line};
+ghost use Rattle.sheet_standing.specs.Standing.{lacking, is_on, numbers, standing, first_with};
 
+use refusal::Refusal;
 use sheet_line::line::{Line, Reading};
 use sheet_read::Sheet;
 
-fn is_blank(k: Option<f64>) -> bool
-    ensures { result ≡ no_temperature k }
-{
-    match k {
-        None => true,
-        Some(_) => false,
-    }
-}
-
 // Of the fields but the cylinder number. A reading that asks a door takes the temperature with it.
+#[tactic(auto, unfolding(crate::specs::Standing::lacking))]
 fn is_lacking(l: Line<f64>) -> bool
     ensures { result ≡ lacking l }
 {
-    let temperature = l.temperature;
-    let reading = l.reading;
-    let volume = l.volume;
-    let Some(_) = volume else {
-        return true;
-    };
-    match reading {
-        Reading::Blank => true,
-        Reading::Pressure(_) => is_blank(temperature),
-        Reading::Density(_) => is_blank(temperature),
-        Reading::Weighed(_) => false,
-    }
-}
-
-fn is_on(numbers: &[u64], n: u64) -> bool
-    ensures { result ≡ is_on numbers.now n }
-{
-    let mut i: usize = 0;
-    while i < numbers.len() {
-        if numbers[i] == n {
-            return true;
+    l.volume.is_none()
+        || match l.reading {
+            Reading::Blank => true,
+            Reading::Pressure(_) | Reading::Density(_) => l.temperature.is_none(),
+            Reading::Weighed(_) => false,
         }
-        i += 1;
-    }
-    false
 }
 
 // The numbers are those of the lines before it. A blank is none.
+#[tactic(auto, unfolding(crate::specs::Standing::standing))]
 pub fn standing_of(numbers: &[u64], l: Line<f64>) -> Result<(), Refusal>
     ensures { result ≡ standing numbers.now l }
 {
-    let number = l.number;
-    let Some(n) = number else {
+    let Some(n) = l.number else {
         return Err(Refusal(1));
     };
     if is_lacking(l) {
         return Err(Refusal(1));
     }
-    if is_on(numbers, n) {
+    if numbers.contains(&n) {
         return Err(Refusal(30));
     }
     Ok(())
 }
 
+#[tactic(auto, unfolding(crate::specs::Standing::is_on, crate::specs::Standing::numbers))]
 fn has_number(l: Line<f64>, n: u64) -> bool
     ensures { result ≡ is_on (numbers (l ∷ [])) n }
 {
-    let number = l.number;
-    let Some(m) = number else {
-        return false;
-    };
-    m == n
+    l.number == Some(n)
+}
+
+fn place_of(lines: &[Line<f64>], n: u64) -> Option<usize>
+    ensures { result ≡ position (λ (l : Line Float). is_on (numbers (l ∷ [])) n) lines.now }
+{
+    lines.iter().position(|l| has_number(*l, n))
 }
 
 // The first line that has the number, by its place, that of the first of all being 1; 0 where none has it.
+#[tactic(auto, using(crate::proofs::Firsts::first_none, crate::proofs::Firsts::first_some))]
 pub fn first_with(s: Sheet, n: u64) -> usize
     ensures { result ≡ first_with 1 s.lines n }
 {
-    let mut i: usize = 1;
-    while i <= 32 {
-        let l = s.lines[i - 1];
-        if has_number(l, n) {
-            return i;
-        }
-        i += 1;
+    match place_of(&s.lines, n) {
+        Some(i) => i + 1,
+        None => 0,
     }
-    0
 }

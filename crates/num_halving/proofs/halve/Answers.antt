@@ -1,6 +1,6 @@
 -- The ends are looked at as the definition has it; a target outside their two figures has no crossing, else the halving begins. Assumes nothing.
 use Rattle.std.specs.Prelude.{Some, None}
-use mathlib.Core.Path.{◌≡◌, sym, ◌∙◌}
+use mathlib.Core.Path.{◌≡◌, sym}
 use native.Mathlib.Omega.{arith}
 use Rattle.num_halving.specs.Halving.{met, first_above, second_not_above, at_first, at_second, failed}
 use Rattle.num_halving.proofs.Halvings.{nowhere_back, breaks_back}

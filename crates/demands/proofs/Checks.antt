@@ -27,7 +27,7 @@ second false b h = absurd (true≢false (sym h))
 -- ---- 3, 4 and 5
 module _ (temperature value : Range) (t x : Float) where
   pub data Finds (c : Check) : Type 0 where
-    stops : (n : ℕ) → c ≡ Err n → OutOfRange temperature value t x n → Finds c
+    stops : (n : ℕ) → c ≡ refused n → OutOfRange temperature value t x n → Finds c
     passes : c ≡ Ok tt → InRange temperature value t x → Finds c
 
   pub finds : Finds (ranged temperature value t x)
@@ -38,7 +38,7 @@ module _ (temperature value : Range) (t x : Float) where
       (λ f. by_test Finds (outside value x) _ _ (λ g. stops 5 refl (no_value (not-false _ e) f g))
       (λ g. passes refl (record { numbers = not-false _ e; temperature = f; value = g }))))
 
-  pub stops_back : {n : ℕ} → OutOfRange temperature value t x n → ranged temperature value t x ≡ Err n
+  pub stops_back : {n : ℕ} → OutOfRange temperature value t x n → ranged temperature value t x ≡ refused n
   unfolding ranged
   stops_back (no_number e) = rw e refl
   stops_back (no_temperature e f) = rw (e, f) refl

@@ -34,7 +34,7 @@ from_1 : {n : ℕ} → Numbered 3 n → Numbered 1 n
 from_1 (to_9 n h k) = to_9 n (omega arith) k
 from_1 is_19 = is_19
 
-door_number : {n : ℕ} → Settled (Err n) → Numbered 1 n
+door_number : {n : ℕ} → Settled (refused n) → Numbered 1 n
 door_number (given x e) = let z : ◌≡◌ {A = ℕ} 0 1 = cc in absurd (omega arith)
 door_number {n} (not_given m e k) = let z : m ≡ n = cc in subst (Numbered 1) z (from_1 k)
 

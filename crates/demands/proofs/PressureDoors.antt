@@ -43,7 +43,7 @@ ends E L lawful t p (demands.liquid b e) =
 module _ (E : Equation) (L : Limits) (lawful : Lawful E) (t p : Float) where
   -- ---- an answer of the door, explained
   pub data Explains (a : Answer) : Type 0 where
-    refuses : (n : ℕ) → a ≡ Err n → RefusesP E L t p n → Explains a
+    refuses : (n : ℕ) → a ≡ refused n → RefusesP E L t p n → Explains a
     answers : (x : State) → a ≡ Ok x → Answered E L t p x → Explains a
 
   -- no search runs past the bits of −0
@@ -146,7 +146,7 @@ module _ (E : Equation) (L : Limits) (lawful : Lawful E) (t p : Float) where
   searches past (demands.vapour (lower cold e off q) w) = enters past ∙ rw (cold, e, off, q, w) refl
   searches past (demands.liquid (higher cold e off q) w) = enters past ∙ rw (cold, e, off, q, w) refl
 
-  pub refuses_back : {n : ℕ} → RefusesP E L t p n → pressure_door E L t p ≡ Err n
+  pub refuses_back : {n : ℕ} → RefusesP E L t p n → pressure_door E L t p ≡ refused n
   unfolding pressure_door thawed solid unboxed boxed entered beneath vapour liquid searched
   refuses_back (out_of_range b) = ap (λ (c : Check). passed c (thawed E L t p)) (stops_back L.asked.temperature L.asked.pressure t p b)
   refuses_back (melting_fails r e) = rw (passes_back L.asked.temperature L.asked.pressure t p r, e) refl
@@ -167,7 +167,7 @@ module _ (E : Equation) (L : Limits) (lawful : Lawful E) where
   pub pressure_refusals : PressureRefusals E L
   pressure_refusals t p n = (go (explained E L lawful t p), refuses_back E L lawful t p)
     where
-      go : Explains E L lawful t p (pressure_door E L t p) → pressure_door E L t p ≡ Err n → RefusesP E L t p n
+      go : Explains E L lawful t p (pressure_door E L t p) → pressure_door E L t p ≡ refused n → RefusesP E L t p n
       go (refuses m f w) e = let q : m ≡ n = cc in subst (RefusesP E L t p) q w
       go (answers x f a) e = let z : ◌≡◌ {A = ℕ} 0 1 = cc in absurd (omega arith)
 

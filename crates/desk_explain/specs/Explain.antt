@@ -1,6 +1,6 @@
 -- RULES 14.3: what a line's explanation takes of the report and of the sheet. Definitions only.
 use Rattle.refusal.specs.Refused.{refused}
-use Rattle.std.specs.Prelude.{ℕ, get_or, Some, None}
+use Rattle.std.specs.Prelude.{ℕ, ◌<◌, ◌≤◌, List, length, get_or, Option, Some, None}
 use Rattle.sheet_text.specs.Field.{Field}
 use Rattle.sheet_read.specs.declared.Sheet.{Sheet}
 use Rattle.sheet_outcome.specs.Outcome.{Weighed}
@@ -15,3 +15,8 @@ mark_at m i = (get_or m.marks i (record { weighed = refused 0 })).weighed
 abbrev pub first_of : Sheet → Field → ℕ
 first_of s None = 0
 first_of s (Some n) = first_with 1 s.lines n
+
+-- what was read at a place of a text is followed by a later one
+abbrev pub GoesOn : {A : Type 0} → List ℕ → ℕ → Option (A × ℕ) → Type 0
+GoesOn s at None = Unit {0}
+GoesOn s at (Some (a, n)) = (at < n) × (n ≤ length s)

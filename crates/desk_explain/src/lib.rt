@@ -3,39 +3,33 @@
 #![tactic(auto)]
 
 ghost use Rattle.std.specs.Prelude.{◌≡◌, ◌≤◌, ◌<◌, length};
-ghost use Rattle.desk_explain.specs.Explain.{mark_at, first_of};
+ghost use Rattle.desk_explain.specs.Explain.{mark_at, first_of, GoesOn};
 
-use desk_lines::{say_line, say_warnings};
-use desk_look::gauge::{gauge_of};
+use desk_lines::Told;
+use desk_look::gauge::gauge_of;
 use desk_look::held::{Margin, is_heavy, look_at, margin_of};
-use desk_paper::paper::{Paper, say, say_number, say_refusal, say_shown};
+use desk_paper::paper::Paper;
 use desk_units::{kilograms_down, kilograms_up};
 use desk_where::say_where;
 use door_limits::Limits;
-use sheet_line::cylinder::{read_cylinder};
-use sheet_line::line::{read_line};
-use sheet_outcome::{Ending, Marks};
+use refusal::Refusal;
+use sheet_line::cylinder::read_cylinder;
+use sheet_line::line::read_line;
+use sheet_mass::Milligrams;
+use sheet_outcome::{Ending, Marks, Outcome};
 use sheet_read::{Sheet, read_sheet};
 use sheet_standing::first_with;
-use sheet_text::{read_field_after};
+use sheet_text::read_field_after;
 use sheet_weigh::weigh_sheet;
 
-// How many gauges can't tell, and how many lines hold more than a cylinder is filled with.
-#[derive(Clone, Copy)]
-struct Warned {
-    gauges: usize,
-    heavy: usize,
-}
-
 // What came of the line after i others.
-fn mark_at(m: Marks, i: usize) -> Result<Milligrams, Refusal>
-    ensures { result ≡ mark_at m i }
+fn mark_at(m: &Marks, i: usize) -> Result<Milligrams, Refusal>
+    ensures { result ≡ mark_at m.now i }
 {
-    if i < 32 {
-        let mark = m.marks[i];
-        return mark.weighed;
+    match m.marks.get(i) {
+        Some(mark) => mark.weighed,
+        None => Err(Refusal(0)),
     }
-    Err(Refusal(0))
 }
 
 // The first line that has the cylinder number; a blank is none.
@@ -48,127 +42,19 @@ fn first_of(sheet: Sheet, number: Option<u64>) -> usize
     }
 }
 
-// A cylinder line at a place, the i-th of the sheet, of which w came, and its warnings; each warning after the name.
-fn say_cylinder(
-    p: Paper,
-    limits: Limits,
-    s: &[u8],
-    at: usize,
-    i: usize,
-    sheet: Sheet,
-    w: Result<Milligrams, Refusal>,
-    name: &[u8],
-    explained: bool,
-) -> Paper {
-    let Some((c, _)) = read_cylinder(s, at) else {
-        return p;
-    };
-    let Some((l, _)) = read_line(s, at) else {
-        return p;
-    };
-    let number = c.number;
-    let k = look_at(limits, w, l);
-    let g = gauge_of(limits, l);
-    let first = first_of(sheet, number);
-    let a = if explained {
-        say_line(p, i, c, k, first)
-    } else {
-        p
-    };
-    say_warnings(a, name, i, c, k, g)
+// How many gauges can't tell, and how many lines hold more than a cylinder is filled with.
+#[derive(Clone, Copy)]
+struct Warned {
+    gauges: usize,
+    heavy: usize,
 }
 
-// The place after the line at a place; the text's end where there is none.
-fn line_after(s: &[u8], at: usize) -> usize
-    requires { at < length s.now }
-    ensures { (at < result) × (result ≤ length s.now) }
-{
-    let Some((_, next)) = read_line(s, at) else {
-        return s.len();
-    };
-    next
-}
-
-// One after the other, each with the mark that the report has of it.
-fn say_cylinders(
-    p: Paper,
-    limits: Limits,
-    s: &[u8],
-    sheet: Sheet,
-    marks: Marks,
-    name: &[u8],
-    explained: bool,
-) -> Paper {
-    let Some((_, from)) = read_field_after(s, 0, b'N', b'\n') else {
-        return p;
-    };
-    let mut out = p;
-    let mut at = from;
-    let mut i: usize = 1;
-    while at < s.len() {
-        let w = mark_at(marks, i - 1);
-        out = say_cylinder(out, limits, s, at, i, sheet, w, name, explained);
-        at = line_after(s, at);
-        i += 1;
-    }
-    out
-}
-
-fn say_need(p: Paper, need: Option<u64>) -> Paper {
-    match need {
-        None => say(p, b"-"),
-        Some(mg) => say_shown(p, kilograms_up(mg)),
-    }
-}
-
-// 1 where the gauge of the line at a place can't tell, else 0.
-fn doubt_at(limits: Limits, s: &[u8], at: usize) -> usize
-    ensures { result ≤ 1 }
-{
-    let Some((l, _)) = read_line(s, at) else {
-        return 0;
-    };
-    match gauge_of(limits, l) {
-        None => 0,
-        Some(_) => 1,
-    }
-}
-
-// 1 where the line at a place, of which this came, holds more than a cylinder is filled with, else 0.
-fn heavy_at(limits: Limits, s: &[u8], at: usize, w: Result<Milligrams, Refusal>) -> usize
-    ensures { result ≤ 1 }
-{
-    let Some((l, _)) = read_line(s, at) else {
-        return 0;
-    };
-    if is_heavy(look_at(limits, w, l)) {
-        1
-    } else {
-        0
-    }
-}
-
-fn count_warned(limits: Limits, s: &[u8], marks: Marks) -> Warned {
-    let Some((_, from)) = read_field_after(s, 0, b'N', b'\n') else {
-        return Warned {
-            gauges: 0,
-            heavy: 0,
-        };
-    };
-    let mut gauges: usize = 0;
-    let mut heavy: usize = 0;
-    let mut at = from;
-    let mut i: usize = 0;
-    while at < s.len() {
-        let w = mark_at(marks, i);
-        gauges += doubt_at(limits, s, at);
-        heavy += heavy_at(limits, s, at, w);
-        at = line_after(s, at);
-        i += 1;
-    }
-    Warned {
-        gauges: gauges,
-        heavy: heavy,
+impl Warned {
+    fn with(self, l: Told) -> Warned {
+        Warned {
+            gauges: self.gauges.saturating_add(usize::from(l.doubt.is_some())),
+            heavy: self.heavy.saturating_add(usize::from(is_heavy(l.look))),
+        }
     }
 }
 
@@ -177,81 +63,133 @@ fn say_count(p: Paper, words: &[u8], n: usize) -> Paper {
     if n == 0 {
         return p;
     }
-    say(say_number(say(p, words), n as u64), b".")
+    p.say(words).say_number(n as u64).say(b".")
 }
 
-fn say_margin(p: Paper, mg: u64, need: Option<u64>, warned: Warned) -> Paper {
-    let Some(needed) = need else {
-        return p;
+fn say_margin(p: Paper, mg: u64, need: u64, warned: Warned) -> Paper {
+    let p = p
+        .say(b"Held ")
+        .say_shown(kilograms_down(mg))
+        .say(b" kg, needed ")
+        .say_shown(kilograms_up(need))
+        .say(b" kg: ");
+    let p = match margin_of(mg, need) {
+        Margin::Spare(n) => p.say_shown(kilograms_down(n)).say(b" kg to spare."),
+        Margin::Missing(n) => p.say_shown(kilograms_up(n)).say(b" kg missing."),
     };
-    let a = say_shown(say(p, b"Held "), kilograms_down(mg));
-    let b = say_need(say(a, b" kg, needed "), need);
-    let c = say(b, b" kg: ");
-    let d = match margin_of(mg, needed) {
-        Margin::Spare(n) => say(say_shown(c, kilograms_down(n)), b" kg to spare."),
-        Margin::Missing(n) => say(say_shown(c, kilograms_up(n)), b" kg missing."),
-    };
-    let e = say_count(d, b" Gauges that can't tell: ", warned.gauges);
-    let f = say_count(e, b" Lines above 750 kg/m3: ", warned.heavy);
-    say(f, b"\n")
+    let p = say_count(p, b" Gauges that can't tell: ", warned.gauges);
+    say_count(p, b" Lines above 750 kg/m3: ", warned.heavy).say(b"\n")
 }
 
-fn say_sent_back(p: Paper, s: &[u8], n: u8) -> Paper {
-    let a = say_refusal(say(p, b"Sent back by "), n);
-    if n == 14 { say_where(a, s) } else { a }
+// A text that is explained: the sheet that it holds, where it is in the form, and what came of it.
+#[derive(Clone, Copy)]
+struct Explained<'a> {
+    limits: Limits,
+    text: &'a [u8],
+    sheet: Option<Sheet>,
+    outcome: Outcome,
 }
 
-fn say_no_verdict(p: Paper, need: Option<u64>) -> Paper {
-    let a = say_need(say(p, b"Needed "), need);
-    say_refusal(say(a, b" kg. Sent back by "), 13)
-}
-
-// Whether the report has lines: not where the sheet was sent back by 14, 10, 11 or 12.
-fn has_lines(e: Ending) -> bool {
-    match e {
-        Ending::SentBack(n) => n == 13,
-        _ => true,
+impl<'a> Explained<'a> {
+    fn of(limits: Limits, text: &'a [u8]) -> Explained<'a> {
+        let sheet = read_sheet(text);
+        let outcome = weigh_sheet(limits, sheet);
+        Explained {
+            limits,
+            text,
+            sheet,
+            outcome,
+        }
     }
-}
 
-fn say_ending(p: Paper, limits: Limits, s: &[u8], marks: Marks, need: Option<u64>, e: Ending) -> Paper {
-    match e {
-        Ending::Covered(mg) => say_margin(p, mg.0, need, count_warned(limits, s, marks)),
-        Ending::Short(mg) => say_margin(p, mg.0, need, count_warned(limits, s, marks)),
-        Ending::SentBack(n) => {
-            if n == 13 {
-                say_no_verdict(p, need)
-            } else {
-                say_sent_back(p, s, n)
+    // The line at a place of the text, the i-th of the sheet, and where the next begins.
+    fn line_at(&self, at: usize, i: usize) -> Option<(Told, usize)>
+        requires { 1 ≤ i }
+        ensures { GoesOn self.now.text.now at result }
+    {
+        let sheet = self.sheet?;
+        let (cylinder, _) = read_cylinder(self.text, at)?;
+        let (line, next) = read_line(self.text, at)?;
+        let told = Told {
+            place: i,
+            cylinder,
+            look: look_at(self.limits, mark_at(&self.outcome.marks, i - 1), line),
+            doubt: gauge_of(self.limits, line),
+            first: first_of(sheet, cylinder.number),
+        };
+        Some((told, next))
+    }
+
+    // Whether the report has lines: not where the sheet was sent back by 14, 10, 11 or 12.
+    fn has_lines(&self) -> bool {
+        match self.outcome.ending {
+            Ending::Covered(_) | Ending::Short(_) => true,
+            Ending::SentBack(n) => n.0 == 13,
+        }
+    }
+
+    // What is made of one line of the report after the other.
+    fn each<T: Copy, F: Fn(T, Told) -> T>(&self, start: T, with: F) -> T
+        requires { F.IsAlwaysCallable with }
+    {
+        let mut made = start;
+        if !self.has_lines() {
+            return made;
+        }
+        let Some((_, from)) = read_field_after(self.text, 0, b'N', b'\n') else {
+            return made;
+        };
+        let mut at = from;
+        let mut i = 1;
+        while let Some((told, next)) = self.line_at(at, i) {
+            made = with(made, told);
+            at = next;
+            i += 1;
+        }
+        made
+    }
+
+    fn warned(&self) -> Warned {
+        let none = Warned {
+            gauges: 0,
+            heavy: 0,
+        };
+        self.each(none, |w, l| w.with(l))
+    }
+
+    fn say_sent_back(&self, p: Paper, n: Refusal) -> Paper {
+        let p = p.say(b"Sent back by ").say_refusal(n);
+        if n.0 == 14 {
+            say_where(p, self.text)
+        } else {
+            p
+        }
+    }
+
+    fn say_ending(&self, p: Paper) -> Paper {
+        match (self.outcome.ending, self.sheet.and_then(|s| s.need)) {
+            (Ending::Covered(mg) | Ending::Short(mg), Some(need)) => {
+                say_margin(p, mg.0, need, self.warned())
             }
+            (Ending::Covered(_) | Ending::Short(_), None) => p,
+            (Ending::SentBack(Refusal(13)), need) => p
+                .say(b"Needed ")
+                .say_figure(need.map(kilograms_up))
+                .say(b" kg. Sent back by ")
+                .say_refusal(Refusal(13)),
+            (Ending::SentBack(n), _) => self.say_sent_back(p, n),
         }
     }
 }
 
-// All of it, under a report; or the warnings alone, each after the name.
-fn explain_by(p: Paper, limits: Limits, s: &[u8], name: &[u8], explained: bool) -> Paper {
-    let r = read_sheet(s);
-    let sheet = r.sheet;
-    let need = sheet.need;
-    let o = weigh_sheet(limits, r);
-    let marks = o.marks;
-    let ending = o.ending;
-    let a = if has_lines(ending) {
-        say_cylinders(p, limits, s, sheet, marks, name, explained)
-    } else {
-        p
-    };
-    if explained {
-        say_ending(a, limits, s, marks, need, ending)
-    } else {
-        a
-    }
-}
-
+// Under a report.
 pub fn explain(p: Paper, limits: Limits, s: &[u8]) -> Paper {
-    explain_by(p, limits, s, b"", true)
+    let sheet = Explained::of(limits, s);
+    let p = sheet.each(p, |p, l| l.say_warnings(l.say_line(p), b""));
+    sheet.say_ending(p)
 }
 
+// Each after the name.
 pub fn warn(p: Paper, limits: Limits, s: &[u8], name: &[u8]) -> Paper {
-    explain_by(p, limits, s, name, false)
+    Explained::of(limits, s).each(p, |p, l| l.say_warnings(p, name))
 }

@@ -2,5 +2,4 @@ pub mod Cuts
 pub mod Wrongs
 pub mod Turns
 pub mod Named
-pub mod Steps
 pub mod Unique

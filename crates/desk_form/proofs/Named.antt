@@ -25,7 +25,7 @@ abbrev pub is_some : {A : Type 0} → Option A → Bool
 is_some None = false
 is_some (Some a) = true
 
-none_mapped : {A B : Type 0} (f : A → B) (o : Option A) → is_none (map f o) ≡ is_none o
+none_mapped : {A B : Type 0} (f : A → B) (o : Option A) → is_none (option_map f o) ≡ is_none o
 none_mapped f None = refl
 none_mapped f (Some a) = refl
 

@@ -102,24 +102,28 @@ cylinder_wrong i b u rest g e =
 
 -- ---- the loop
 
-pub record Passed (s : List ℕ) (passed at : ℕ) : Type 0 where
-  pub rest : first_wrong s ≡ wrong_cylinder (passed + 1) (cut (drop at s))
-  pub within : at ≤ length s
-  pub few : passed ≤ at
+-- lines before line `line` are in the form, which begins at a place
+pub record Passed (s : List ℕ) (line from : ℕ) : Type 0 where
+  pub rest : first_wrong s ≡ wrong_cylinder line (cut (drop from s))
+  pub within : from ≤ length s
+  pub few : line ≤ from + 1
 
-pub begun : (s : List ℕ) (f : Field) (n : ℕ) → Leaves s 0 (field_after 78 10 s) f n → Passed s 1 n
-begun s f n l = record { rest = need_passed s (drop n s) f l.0; within = l.2; few = l.1 }
+pub begun : (s : List ℕ) (f : Field) (n : ℕ) → Leaves s 0 (field_after 78 10 s) f n → Passed s 2 n
+begun s f n l = record { rest = need_passed s (drop n s) f l.0; within = l.2; few = omega (arith, l.1) }
 
-module _ {s : List ℕ} {passed at : ℕ} (t : Passed s passed at) where
-  pub done : length s ≤ at → first_wrong s ≡ None
+module _ {s : List ℕ} {i from : ℕ} (t : Passed s i from) where
+  pub done : length s ≤ from → first_wrong s ≡ None
   unfolding cut wrong_cylinder
   done h = t.rest ∙ rw (drop_of_length-le s h)
 
-  module _ (h : at < length s) where
-    pub stops : line (drop at s) ≡ None → first_wrong s ≡ Some (passed + 1, lines_of (drop at s))
-    stops e = t.rest ∙ cylinder_wrong (passed + 1) _ (drop at s) _ (front s at h) (no_line (drop at s) e)
+  module _ (h : from < length s) where
+    pub stops : line (drop from s) ≡ None → first_wrong s ≡ Some (i, lines_of (drop from s))
+    stops e = t.rest ∙ cylinder_wrong i _ (drop from s) _ (front s from h) (no_line (drop from s) e)
 
-    pub one_more : (l : Line Float) (n : ℕ) → Leaves s at (line (drop at s)) l n → Passed s (passed + 1) n
+    pub one_more : (l : Line Float) (n : ℕ) → Leaves s from (line (drop from s)) l n → Passed s (i + 1) n
     one_more l n e =
-        let o = of_cylinder (drop at s) l (drop n s) e.0 in
-        record { rest = t.rest ∙ cylinder_passed (passed + 1) (drop at s) (drop n s) o.c o.read; within = e.2; few = omega (arith, t.few, e.1) }
+        let o = of_cylinder (drop from s) l (drop n s) e.0 in
+        record { rest = t.rest ∙ cylinder_passed i (drop from s) (drop n s) o.c o.read; within = e.2; few = omega (arith, t.few, e.1) }
+
+-- what the code's function cites
+pub ruleset turns = (need_wrong, begun, done, stops, one_more)

@@ -1,5 +1,5 @@
 -- No second answer meets a public function's promise. Assumes nothing.
-use Rattle.std.specs.Prelude.{Option, Some}
+use Rattle.std.specs.Prelude.{Option, Some, None}
 use contract.Lifetimes.{Lfts}
 use mathlib.Core.Path.{◌≡◌, refl, sym, ap, ◌∙◌}
 use mathlib.Core.List.{List}
@@ -25,16 +25,19 @@ one_line {A} o i j x y e f =
     let p : ◌≡◌ {A = ℕ × A} (i, x) (j, y) = cc in
     (ap (λ (q : ℕ × A). q.0) p, ap (λ (q : ℕ × A). q.1) p)
 
-wrong_once : (t : List ℕ) (r s : Wrong) → WrongIs t r → WrongIs t s → r ≡ s
-wrong_once t Wrong.Nowhere Wrong.Nowhere x y = refl
-wrong_once t Wrong.Nowhere (Wrong.Line j m) x y = absurd (none_or_some x y.0)
-wrong_once t (Wrong.Line i n) Wrong.Nowhere x y = absurd (none_or_some y x.0)
-wrong_once t (Wrong.Line i n) (Wrong.Line j m) x y =
-    let e = one_line _ i j _ _ x.0 y.0 in
-    let a = e.0 in
-    let b = one_place t n m x.1 y.1 e.1 in
-    cc
+same : (v w : Wrong) → v.line ≡ w.line → v.from ≡ w.from → Some v ≡ Some w
+same v w e f =
+    let line : Some v ≡ Some (record { line = w.line; from = v.from }) = ap (λ (i : ℕ). Some (record { line = i; from = v.from })) e in
+    line ∙ ap (λ (i : ℕ). Some (record { line = w.line; from = i })) f
+
+wrong_once : (t : List ℕ) (r s : Option Wrong) → WrongIs t r → WrongIs t s → r ≡ s
+wrong_once t None None x y = refl
+wrong_once t None (Some w) x y = absurd (none_or_some x y.0)
+wrong_once t (Some v) None x y = absurd (none_or_some y x.0)
+wrong_once t (Some v) (Some w) x y =
+    let e = one_line _ v.line w.line _ _ x.0 y.0 in
+    same v w e.0 (one_place t v.from w.from x.1 y.1 e.1)
 
 -- however long the text is lent
-pub first_wrong_once : (κs : Lfts 1) → OneAnswer Wrong (first_wrong.Post κs)
+pub first_wrong_once : (κs : Lfts 1) → OneAnswer (Option Wrong) (first_wrong.Post κs)
 first_wrong_once κs a r s x y = wrong_once _ r s

@@ -49,6 +49,6 @@ unfoldable pub first_wrong : List ℕ → Option (ℕ × List (List ℕ))
 first_wrong t = wrong_in (lines_of t)
 
 -- what the code's answer says of a text: the line, and that it begins at a place
-abbrev pub WrongIs : List ℕ → Wrong → Type 0
-WrongIs t Wrong.Nowhere = first_wrong t ≡ None
-WrongIs t (Wrong.Line i from) = (first_wrong t ≡ Some (i, lines_of (drop from t))) × (from ≤ length t)
+abbrev pub WrongIs : List ℕ → Option Wrong → Type 0
+WrongIs t None = first_wrong t ≡ None
+WrongIs t (Some w) = (first_wrong t ≡ Some (w.line, lines_of (drop w.from t))) × (w.from ≤ length t)

@@ -1,7 +1,7 @@
 // RULES 14.5: the byte of a line at which it stops being in the form, and what is expected there. Words hang on it, and
 // no more: promised is that it does not lie before the line.
-ghost use Rattle.std.specs.Prelude.{◌≡◌, ◌≤◌};
-ghost use Rattle.desk_form.specs.Stop.{stop_of, StepsOn};
+ghost use Rattle.std.specs.Prelude.{◌≤◌};
+ghost use Rattle.desk_form.specs.Stop.{StepsOn};
 
 #[derive(Clone, Copy)]
 pub enum Expected {
@@ -31,57 +31,37 @@ pub struct Stop {
     pub behind: Behind,
 }
 
-// On to a place, or stopped.
+// Stopped at a place; a step that goes on answers the next place.
 fn stopped(at: usize, expected: Expected, behind: Behind) -> Result<usize, Stop>
     ensures { StepsOn at result }
 {
     Err(Stop {
-        at: at,
-        expected: expected,
-        behind: behind,
+        at,
+        expected,
+        behind,
     })
-}
-
-// Of a step that stopped; the end of the line at a place where none did.
-fn stop_of(step: Result<usize, Stop>, at: usize) -> Stop
-    ensures { result ≡ stop_of at step }
-{
-    match step {
-        Err(x) => x,
-        Ok(_) => Stop {
-            at: at,
-            expected: Expected::LineEnd,
-            behind: Behind::Other,
-        },
-    }
-}
-
-fn is_digit(b: u8) -> bool {
-    b >= b'0' && b <= b'9'
 }
 
 // The first place from one on that has no digit.
 fn past_digits(s: &[u8], from: usize) -> usize
     ensures { from ≤ result }
 {
-    let mut i = from;
-    while i < s.len() {
-        if !is_digit(s[i]) {
-            break;
+    for i in from..s.len() {
+        if !s[i].is_ascii_digit() {
+            return i;
         }
-        i += 1;
     }
-    i
+    from.max(s.len())
 }
 
 fn has(s: &[u8], at: usize, b: u8) -> bool {
-    if at < s.len() { s[at] == b } else { false }
+    s.get(at) == Some(&b)
 }
 
 // A byte of a line's form, which has `L` for `P`, `D` or `W`.
 fn fits(form: u8, b: u8) -> bool {
     if form == b'L' {
-        b == b'P' || b == b'D' || b == b'W'
+        matches!(b, b'P' | b'D' | b'W')
     } else {
         b == form
     }
@@ -99,44 +79,33 @@ fn wanted(form: u8) -> Expected {
 
 // Behind a digit that another may follow.
 fn wanted_or_digit(form: u8) -> Expected {
-    if form == b' ' {
-        Expected::DigitOrSpace
-    } else {
-        Expected::DigitOrLineEnd
+    match form {
+        b' ' => Expected::DigitOrSpace,
+        _ => Expected::DigitOrLineEnd,
     }
 }
 
 fn over_byte(s: &[u8], at: usize, form: u8) -> Result<usize, Stop>
     ensures { StepsOn at result }
 {
-    if at < s.len() {
-        if fits(form, s[at]) {
-            return Ok(at + 1);
-        }
+    match s.get(at) {
+        Some(&b) if fits(form, b) => Ok(at + 1),
+        _ => stopped(at, wanted(form), Behind::Other),
     }
-    stopped(at, wanted(form), Behind::Other)
 }
 
-// A 0 in front, which no digit may follow.
-fn over_zero(at: usize, past: usize, end: u8) -> Result<usize, Stop>
-    requires { at ≤ past }
-    ensures { StepsOn at result }
-{
-    if past - at > 1 {
-        return stopped(at + 1, wanted(end), Behind::Zero);
-    }
-    Ok(past)
-}
-
-// Digits from a place on, and the form's byte behind them.
+// Digits from a place on, and the form's byte behind them. No digit may follow a 0 in front.
 fn over_digits(s: &[u8], at: usize, end: u8) -> Result<usize, Stop>
     ensures { StepsOn at result }
 {
     let past = past_digits(s, at);
-    if has(s, at, b'0') {
-        return over_zero(at, past, end);
-    }
     let many = past - at;
+    if has(s, at, b'0') {
+        if many > 1 {
+            return stopped(at + 1, wanted(end), Behind::Zero);
+        }
+        return Ok(past);
+    }
     if many > 10 {
         return stopped(at + 10, wanted(end), Behind::TenDigits);
     }
@@ -159,57 +128,43 @@ fn over_blank(s: &[u8], at: usize, end: u8) -> Result<usize, Stop>
 fn over_number(s: &[u8], at: usize, end: u8) -> Result<usize, Stop>
     ensures { StepsOn at result }
 {
-    if at < s.len() {
-        if s[at] == b'-' {
-            return over_blank(s, at + 1, end);
-        }
-        if is_digit(s[at]) {
-            return over_digits(s, at, end);
-        }
+    match s.get(at) {
+        Some(b'-') => over_blank(s, at + 1, end),
+        Some(b) if b.is_ascii_digit() => over_digits(s, at, end),
+        _ => stopped(at, Expected::Number, Behind::Other),
     }
-    stopped(at, Expected::Number, Behind::Other)
 }
 
-fn byte_at(s: &[u8], i: usize) -> u8 {
-    if i < s.len() { s[i] } else { 0 }
-}
-
-// The k-th byte of a line's form, which has `#` for a number.
-fn over(s: &[u8], at: usize, form: &[u8], k: usize) -> Result<usize, Stop>
-    ensures { StepsOn at result }
-{
-    if k >= form.len() {
-        return stopped(at, Expected::LineEnd, Behind::Other);
-    }
-    if form[k] == b'#' {
-        return over_number(s, at, byte_at(form, k + 1));
-    }
-    over_byte(s, at, form[k])
-}
-
-fn stop_by(form: &[u8], s: &[u8], from: usize) -> Stop
-    ensures { from ≤ result.at }
+// A line's form has `#` for a number, and behind it the byte that ends the number.
+fn over_form(form: &[u8], s: &[u8], from: usize) -> Result<usize, Stop>
+    ensures { StepsOn from result }
 {
     let mut at = from;
-    let mut k: usize = 0;
-    while k < form.len() {
-        let step = over(s, at, form, k);
-        let Ok(next) = step else {
-            return stop_of(step, at);
+    for (k, &b) in form.iter().enumerate() {
+        at = if b == b'#' {
+            over_number(s, at, form.get(k + 1).copied().unwrap_or(0))?
+        } else {
+            over_byte(s, at, b)?
         };
-        at = next;
-        k += 1;
     }
-    stop_of(Ok(at), at)
+    Ok(at)
 }
 
-// In the line that begins at a place: the need's, which is line 1, or a cylinder's.
+// In the line that begins at a place: the need's, which is line 1, or a cylinder's. Where no step stops, its end is expected.
 pub fn stop_in(s: &[u8], line: usize, from: usize) -> Stop
     ensures { from ≤ result.at }
 {
-    if line == 1 {
-        stop_by(b"N #\n", s, from)
+    let form = if line == 1 {
+        b"N #\n".as_slice()
     } else {
-        stop_by(b"C # # L # #\n", s, from)
+        b"C # # L # #\n".as_slice()
+    };
+    match over_form(form, s, from) {
+        Err(stop) => stop,
+        Ok(at) => Stop {
+            at,
+            expected: Expected::LineEnd,
+            behind: Behind::Other,
+        },
     }
 }

@@ -24,7 +24,7 @@ held mg (Err n) = Look.Refused n
 
 -- what the door says at the temperature; without one it is not asked
 abbrev pub at_door : Milligrams → Temperature → (Float → Answer) → Look
-at_door mg None door = Look.Refused 1
+at_door mg None door = Look.Refused (record { 0 = 1 })
 at_door mg (Some t) door = held mg (door t)
 
 -- more than 750 mg a mL; a line that has milligrams has a volume in its range
@@ -34,7 +34,7 @@ overfull mg (Some v) = is_volume v && ltb (750 * v) mg.0
 
 -- the door is that of the reading's kind; a blank has none, and what was weighed is of no state
 abbrev pub seen : Limits → Milligrams → Temperature → Field → Reading Float → Look
-seen L mg k volume Reading.Blank = Look.Refused 1
+seen L mg k volume Reading.Blank = Look.Refused (record { 0 = 1 })
 seen L mg k volume (Reading.Pressure p) = at_door mg k (λ t. pressure_door of1996 L t p)
 seen L mg k volume (Reading.Density d) = at_door mg k (λ t. density_door of1996 L t d)
 seen L mg k volume (Reading.Weighed g) = Look.Weighed (record { mg = mg; overfull = overfull mg volume })

@@ -1,15 +1,13 @@
 // RULES 14.3 and 14.4: a line's mass with the density and the phase of its state, or weighed, or its refusal; whether that
 // is more than a cylinder is filled with; and what is to spare or missing.
 ghost use Rattle.std.specs.Prelude.{◌≡◌};
-ghost use Rattle.equation.specs.Equation.{of1996};
-ghost use Rattle.door_pressure.specs.PressureDoor.{pressure_door};
-ghost use Rattle.door_density.specs.DensityDoor.{density_door};
-ghost use Rattle.desk_look.specs.Held.{held, at_door, overfull, seen, look, heavy, margin};
+ghost use Rattle.desk_look.specs.Held.{held, overfull, seen, look, heavy, margin};
 
 use door_density::from_density;
 use door_limits::Limits;
 use door_pressure::from_pressure;
-use eos_state::Phase;
+use eos_state::{Phase, State};
+use refusal::Refusal;
 use sheet_line::line::{Line, Reading};
 use sheet_mass::Milligrams;
 use sheet_weigh::is_volume;
@@ -33,7 +31,7 @@ pub struct Weight {
 pub enum Look {
     Mass(Held),
     Weighed(Weight),
-    Refused(u8),
+    Refused(Refusal),
 }
 
 // In mg.
@@ -47,74 +45,48 @@ fn held_with(mg: Milligrams, a: Result<State, Refusal>) -> Look
     ensures { result ≡ held mg a }
 {
     match a {
-        Ok(s) => {
-            let phase = s.phase;
-            Look::Mass(Held {
-                mg: mg,
-                rho: s.rho,
-                phase: phase,
-            })
-        }
+        Ok(s) => Look::Mass(Held {
+            mg,
+            rho: s.rho,
+            phase: s.phase,
+        }),
         Err(n) => Look::Refused(n),
     }
-}
-
-fn by_pressure(limits: Limits, mg: Milligrams, k: Option<f64>, p: f64) -> Look
-    ensures { result ≡ at_door mg k (λ t. pressure_door of1996 limits t p) }
-{
-    let Some(t) = k else {
-        return Look::Refused(1);
-    };
-    held_with(mg, from_pressure(limits, t, p))
-}
-
-fn by_density(limits: Limits, mg: Milligrams, k: Option<f64>, d: f64) -> Look
-    ensures { result ≡ at_door mg k (λ t. density_door of1996 limits t d) }
-{
-    let Some(t) = k else {
-        return Look::Refused(1);
-    };
-    held_with(mg, from_density(limits, t, d))
 }
 
 // Above 750 mg a mL.
 fn is_overfull(mg: Milligrams, volume: Option<u64>) -> bool
     ensures { result ≡ overfull mg volume }
 {
-    let Some(v) = volume else {
-        return false;
-    };
-    if is_volume(v) {
-        return mg.0 > 750 * v;
+    match volume {
+        Some(v) if is_volume(v) => mg.0 > 750 * v,
+        _ => false,
     }
-    false
 }
 
-// With the state that the milligrams are of, or that they were weighed.
-fn seen_by(limits: Limits, mg: Milligrams, k: Option<f64>, volume: Option<u64>, r: Reading<f64>) -> Look
-    ensures { result ≡ seen limits mg k volume r }
+// With the state that the milligrams are of, by the door of the reading's kind, or that they were weighed.
+fn seen_by(limits: Limits, mg: Milligrams, l: Line<f64>) -> Look
+    ensures { result ≡ seen limits mg l.temperature l.volume l.reading }
 {
-    match r {
-        Reading::Blank => Look::Refused(1),
-        Reading::Pressure(p) => by_pressure(limits, mg, k, p),
-        Reading::Density(d) => by_density(limits, mg, k, d),
-        Reading::Weighed(_) => Look::Weighed(Weight {
-            mg: mg,
-            overfull: is_overfull(mg, volume),
+    match (l.reading, l.temperature) {
+        (Reading::Pressure(p), Some(t)) => held_with(mg, from_pressure(limits, t, p)),
+        (Reading::Density(d), Some(t)) => held_with(mg, from_density(limits, t, d)),
+        (Reading::Weighed(_), _) => Look::Weighed(Weight {
+            mg,
+            overfull: is_overfull(mg, l.volume),
         }),
+        _ => Look::Refused(Refusal(1)),
     }
 }
 
 // What came of the line decides.
+#[tactic(auto, unfolding(crate::specs::Held::look))]
 pub fn look_at(limits: Limits, w: Result<Milligrams, Refusal>, l: Line<f64>) -> Look
     ensures { result ≡ look limits w l }
 {
-    let temperature = l.temperature;
-    let reading = l.reading;
-    let volume = l.volume;
     match w {
-        Ok(mg) => seen_by(limits, mg, temperature, volume, reading),
-        Err(n) => Look::Refused(n),
+        Ok(mg) => seen_by(limits, mg, l),
+        Err(refused) => Look::Refused(refused),
     }
 }
 
@@ -133,7 +105,8 @@ pub fn margin_of(mg: u64, need: u64) -> Margin
     ensures { result ≡ margin mg need }
 {
     if mg >= need {
-        return Margin::Spare(mg - need);
+        Margin::Spare(mg - need)
+    } else {
+        Margin::Missing(need - mg)
     }
-    Margin::Missing(need - mg)
 }

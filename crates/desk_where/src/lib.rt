@@ -5,33 +5,19 @@ ghost use Rattle.std.specs.Prelude.{◌≤◌};
 
 use desk_form::stop::{Behind, Expected, Stop, stop_in};
 use desk_form::wrong::{Wrong, first_wrong};
-use desk_paper::paper::{Paper, say, say_number};
+use desk_paper::paper::Paper;
 
 fn say_expected(p: Paper, e: Expected) -> Paper {
-    match e {
-        Expected::Need => say(p, b"N"),
-        Expected::Cylinder => say(p, b"C"),
-        Expected::Letter => say(p, b"P, D or W"),
-        Expected::Space => say(p, b"a space"),
-        Expected::LineEnd => say(p, b"LF"),
-        Expected::Number => say(p, b"a digit or -"),
-        Expected::DigitOrSpace => say(p, b"a digit or a space"),
-        Expected::DigitOrLineEnd => say(p, b"a digit or LF"),
-    }
-}
-
-// The bytes 239, 187, 191 at the front.
-fn has_mark(s: &[u8]) -> bool {
-    if s.len() < 3 {
-        return false;
-    }
-    if s[0] != 239 {
-        return false;
-    }
-    if s[1] != 187 {
-        return false;
-    }
-    s[2] == 191
+    p.say(match e {
+        Expected::Need => b"N",
+        Expected::Cylinder => b"C",
+        Expected::Letter => b"P, D or W",
+        Expected::Space => b"a space",
+        Expected::LineEnd => b"LF",
+        Expected::Number => b"a digit or -",
+        Expected::DigitOrSpace => b"a digit or a space",
+        Expected::DigitOrLineEnd => b"a digit or LF",
+    })
 }
 
 // What stands at a place.
@@ -42,90 +28,58 @@ enum Found {
     Byte(u8),
 }
 
+// A byte order mark stands at the front alone.
 fn found_at(s: &[u8], at: usize) -> Found {
-    if at >= s.len() {
-        return Found::End;
+    if at == 0 && s.starts_with(b"\xef\xbb\xbf") {
+        return Found::Mark;
     }
-    if at == 0 {
-        if has_mark(s) {
-            return Found::Mark;
-        }
+    match s.get(at) {
+        Some(b) => Found::Byte(*b),
+        None => Found::End,
     }
-    Found::Byte(s[at])
 }
 
 fn say_byte(p: Paper, b: u8) -> Paper {
     match b {
-        b'\r' => say(p, b"CR"),
-        b'\n' => say(p, b"LF"),
-        b' ' => say(p, b"a space"),
-        b'\t' => say(p, b"a tab"),
-        33..=126 => say(say(say(p, b"'"), &[b]), b"'"),
-        _ => say_number(say(p, b"byte "), b as u64),
+        b'\r' => p.say(b"CR"),
+        b'\n' => p.say(b"LF"),
+        b' ' => p.say(b"a space"),
+        b'\t' => p.say(b"a tab"),
+        33..=126 => p.say(b"'").say(&[b]).say(b"'"),
+        _ => p.say(b"byte ").say_number(u64::from(b)),
     }
 }
 
 fn say_there(p: Paper, t: Found) -> Paper {
     match t {
-        Found::End => say(p, b"the end of the text"),
-        Found::Mark => say(p, b"a byte order mark"),
+        Found::End => p.say(b"the end of the text"),
+        Found::Mark => p.say(b"a byte order mark"),
         Found::Byte(b) => say_byte(p, b),
     }
-}
-
-fn is_digit(b: u8) -> bool {
-    b >= b'0' && b <= b'9'
-}
-
-fn is_letter(e: Expected) -> bool {
-    match e {
-        Expected::Letter => true,
-        _ => false,
-    }
-}
-
-fn is_number(e: Expected) -> bool {
-    match e {
-        Expected::Number => true,
-        _ => false,
-    }
-}
-
-fn is_kind(b: u8) -> bool {
-    b == b'P' || b == b'D' || b == b'W'
 }
 
 // Of a digit, by what stands before it.
 fn digit_hint(p: Paper, b: Behind) -> Paper {
     match b {
-        Behind::Zero => say(p, b" No number has a 0 in front."),
-        Behind::TenDigits => say(p, b" No number has more than ten digits."),
-        Behind::Blank => say(p, b" No number is below 0: - alone is a blank."),
+        Behind::Zero => p.say(b" No number has a 0 in front."),
+        Behind::TenDigits => p.say(b" No number has more than ten digits."),
+        Behind::Blank => p.say(b" No number is below 0: - alone is a blank."),
         Behind::Other => p,
     }
 }
 
 // Of a byte; front: its place is a line's front.
 fn byte_hint(p: Paper, b: u8, x: Stop, front: bool) -> Paper {
-    let expected = x.expected;
-    let behind = x.behind;
-    if is_digit(b) {
-        return digit_hint(p, behind);
-    }
-    if b == b'-' && is_letter(expected) {
-        return say(p, b" A blank keeps its letter: P -, D - or W -.");
-    }
-    if is_kind(b) && is_number(expected) {
-        return say(p, b" What was not read is written -, in its place.");
-    }
-    if b == b'\n' && front {
-        return say(p, b" No line is empty.");
-    }
-    match b {
-        b'\r' => say(p, b" Lines end in LF alone, not in CR LF."),
-        b',' | b'.' => say(p, b" Every number is whole: scorer --help shows the units."),
-        b' ' => say(
-            p,
+    match (b, x.expected) {
+        (b'0'..=b'9', _) => digit_hint(p, x.behind),
+        (b'-', Expected::Letter) => p.say(b" A blank keeps its letter: P -, D - or W -."),
+        (b'P' | b'D' | b'W', Expected::Number) => {
+            p.say(b" What was not read is written -, in its place.")
+        }
+        (b'\n', _) if front => p.say(b" No line is empty."),
+        (b'\r', _) => p.say(b" Lines end in LF alone, not in CR LF."),
+        (b',' | b'.', _) => p.say(b" Every number is whole: scorer --help shows the units."),
+        (b' ', _) => p.say(
             b" One space stands between two parts, and none at a line's front or end.",
         ),
         _ => p,
@@ -134,8 +88,8 @@ fn byte_hint(p: Paper, b: u8, x: Stop, front: bool) -> Paper {
 
 fn say_hint(p: Paper, t: Found, x: Stop, front: bool) -> Paper {
     match t {
-        Found::End => say(p, b" Every line ends in LF, the last too."),
-        Found::Mark => say(p, b" Save the text without it."),
+        Found::End => p.say(b" Every line ends in LF, the last too."),
+        Found::Mark => p.say(b" Save the text without it."),
         Found::Byte(b) => byte_hint(p, b, x, front),
     }
 }
@@ -145,30 +99,30 @@ fn say_column(p: Paper, from: usize, at: usize) -> Paper
     requires { from ≤ at }
 {
     if at - from < 65536 {
-        return say_number(p, (at - from + 1) as u64);
+        return p.say_number((at - from + 1) as u64);
     }
     p
 }
 
 fn say_stop(p: Paper, s: &[u8], line: usize, from: usize) -> Paper {
     let x = stop_in(s, line, from);
-    let expected = x.expected;
-    let at = x.at;
-    let t = found_at(s, at);
-    let a = say_number(say(p, b"Line "), line as u64);
-    let b = say_column(say(a, b", column "), from, at);
-    let c = say_expected(say(b, b": "), expected);
-    let d = say_there(say(c, b" is expected, and there is "), t);
-    let e = say_hint(say(d, b"."), t, x, at == from);
-    say(e, b"\n")
+    let t = found_at(s, x.at);
+    let p = say_column(
+        p.say(b"Line ").say_number(line as u64).say(b", column "),
+        from,
+        x.at,
+    );
+    let p = say_expected(p.say(b": "), x.expected);
+    let p = say_there(p.say(b" is expected, and there is "), t);
+    say_hint(p.say(b"."), t, x, x.at == from).say(b"\n")
 }
 
 pub fn say_where(p: Paper, s: &[u8]) -> Paper {
     if s.len() > 65536 {
-        return say(p, b"The text has more than 65,536 bytes.\n");
+        return p.say(b"The text has more than 65,536 bytes.\n");
     }
     match first_wrong(s) {
-        Wrong::Line(line, from) => say_stop(p, s, line, from),
-        Wrong::Nowhere => p,
+        Some(Wrong { line, from }) => say_stop(p, s, line, from),
+        None => p,
     }
 }

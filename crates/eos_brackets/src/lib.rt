@@ -52,7 +52,7 @@ pub fn first_bracket(d: f64, c: f64, z: f64) -> f64
     d - c * z
 }
 
-// Of a term with e^(−(α·(δ−ε)² + β·(τ−γ)²)).
+// Of a term with e^(−(α·(δ−ε)² + β·(τ−γ)²)). Eight numbers and no row: the definition names no table (`gaussian`).
 pub fn gaussian_brackets(
     d: f64,
     t: f64,
@@ -76,7 +76,7 @@ pub fn gaussian_brackets(
     }
 }
 
-// The figures of the first row of all.
+// The figures of the first row of all, field by field: a method over the five would name each of them too.
 pub fn times(term: f64, brackets: Five) -> Five
     ensures { result ≡ times term (of brackets) }
 {

@@ -31,7 +31,8 @@ fn dilute(r: f64) -> f64
     over(plain(root(r, Exponent { m: 1, k: 2 })), sum)
 }
 
-// Eq. (4), in W/(m K), with the powers of δ that the rows of a state have too.
+// Eq. (4), in W/(m K), with the powers of δ that the rows of a state have too. Written out: the sum begins with its first
+// term, which a loop over Table 4 would have apart.
 fn residual(r: f64, delta: f64) -> f64
     ensures { result ≡ value (residual (num r) (num delta)) }
 {

@@ -59,6 +59,7 @@ pub enum Printed {
     Of0_925,
 }
 
+// No `From`: docs/PROMISES.md names this function, and `worked_as_once` speaks of it.
 pub fn worked_as(printed: Printed) -> Exponent
     ensures { result ≡ worked_as printed }
 {

@@ -52,6 +52,7 @@ fn density_of(sum: f64) -> Option<f64>
     (0.0 < density).then_some(density)
 }
 
+// Two of one line each, which a function that takes the sum would not shorten.
 pub fn liquid_density(t: f64) -> Option<f64>
     ensures { result ≡ liquid_density t }
 {

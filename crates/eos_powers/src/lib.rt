@@ -6,7 +6,7 @@ ghost use Rattle.std.specs.Prelude.{◌≡◌, map};
 ghost use Rattle.std.specs.List.{range_with_len};
 ghost use Rattle.num_powers.specs.Power.{power, powers};
 
-// The first N powers, from x⁰ on, each the one before it times x.
+// The first N: 1, x, and then each the one before it times x.
 fn first_powers<const N: usize>(x: f64) -> [f64; N]
     ensures { result ≡ map (power x) (range_with_len 0 N) }
 {

@@ -1,6 +1,7 @@
 // Rows 1 to 34 of Table 31 of 004, read as docs/READING.md says, by column: each column is the definition's
 // (specs/Column.antt) by one computation over the whole of it. Behind an entry stands its row's number. A column is taken
-// once for all its rows, outside of a loop, since it is laid on the stack where it is taken.
+// once for all its rows, outside of a loop, since it is laid on the stack where it is taken. Columns and no rows: tried, and
+// slower as rows (docs/DECISIONS.md, "How a column is held").
 ghost use Rattle.std.specs.Prelude.{◌≡◌};
 ghost use Rattle.eos_rows.specs.Column.{coefficients, delta_powers, tau_quarters, decay_powers};
 

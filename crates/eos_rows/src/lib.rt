@@ -52,6 +52,7 @@ impl Gaussian {
     }
 }
 
+// By a match and no array, which is laid on the stack where it is taken (docs/DECISIONS.md, "The rows of Table 31").
 pub fn gaussian_row(i: usize) -> Gaussian
     ensures { result ≡ get_or gaussians i row39 }
 {

@@ -29,7 +29,7 @@ fn pressure_sum(theta: f64) -> f64
         + -3.2995634 * whole_power(theta, 4)
 }
 
-// The one test at the end stands for all: what has failed on the way is a NaN.
+// The one test at the end stands for all, with no `?` on the way: what has failed there is a NaN.
 pub fn vapour_pressure(t: f64) -> Option<f64>
     ensures { result ≡ vapour_pressure t }
 {

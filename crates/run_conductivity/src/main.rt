@@ -10,23 +10,21 @@ use door_limits::document_01;
 use door_pressure::from_pressure;
 use eos_conductivity::{background_at, dilute_at};
 use eos_state::{Phase, State};
-use run_print::bits::{STDOUT, say};
-use run_print::decimal::{Cell, Decimal, read_decimal, unit, value};
+use refusal::Refusal;
+use run_print::bits::{numbered, say};
+use run_print::decimal::{Decimal, read_decimal};
 
 fn is_near(x: f64, d: Decimal) -> bool {
-    let from = value(d, 1.0) - unit(d, 1.0);
-    let to = value(d, 1.0) + unit(d, 1.0);
-    if from < x { x < to } else { false }
+    let from = d.value(1.0) - d.unit(1.0);
+    let to = d.value(1.0) + d.unit(1.0);
+    from < x && x < to
 }
 
 fn is_printed(w: Option<f64>, printed: &[u8]) -> bool {
-    let Some(x) = w else {
-        return false;
-    };
-    let Cell::Readable(d) = read_decimal(printed) else {
-        return false;
-    };
-    is_near(x, d)
+    match (w, read_decimal(printed)) {
+        (Some(x), Some(d)) => is_near(x, d),
+        _ => false,
+    }
 }
 
 fn compare(what: &[u8], w: Option<f64>, printed: &[u8]) {
@@ -40,39 +38,24 @@ fn compare(what: &[u8], w: Option<f64>, printed: &[u8]) {
     }
 }
 
-fn in_milliwatts(w: Option<f64>) -> Worked {
-    match w {
-        Some(x) => Some(1000.0 * x),
-        None => None,
-    }
-}
-
-fn conductivity_of(c: Carried) -> Worked {
-    let k = c.conductivity;
-    match k {
-        Some(x) => Some(x),
-        None => None,
-    }
+fn in_milliwatts(w: Option<f64>) -> Option<f64> {
+    w.map(|x| 1000.0 * x)
 }
 
 // By the density door, asked for it.
-fn by_density(t: f64, rho: f64) -> Worked {
-    match with_conductivity(true, from_density(document_01(), t, rho)) {
-        Ok(c) => in_milliwatts(conductivity_of(c)),
-        Err(_) => None,
-    }
+fn by_density(t: f64, rho: f64) -> Option<f64> {
+    let c = with_conductivity(true, from_density(document_01(), t, rho)).ok()?;
+    in_milliwatts(c.conductivity)
 }
 
-fn without_enhancement(t: f64, rho: f64) -> Worked {
+fn without_enhancement(t: f64, rho: f64) -> Option<f64> {
     in_milliwatts(background_at(t, rho))
 }
 
 // The same at the density that the pressure door gives.
-fn without_enhancement_at(t: f64, p: f64) -> Worked {
-    match from_pressure(document_01(), t, p) {
-        Ok(s) => without_enhancement(s.t, s.rho),
-        Err(_) => None,
-    }
+fn without_enhancement_at(t: f64, p: f64) -> Option<f64> {
+    let s = from_pressure(document_01(), t, p).ok()?;
+    without_enhancement(s.t, s.rho)
 }
 
 fn table_7() {
@@ -161,9 +144,8 @@ fn at_a_pole() -> State {
 fn tell_refusal(c: Result<Carried, Refusal>) {
     match c {
         Ok(_) => say(b"answered\n"),
-        Err(n) => {
-            say(b"refused by ");
-            io::print_decimal(STDOUT, n as u64);
+        Err(Refusal(n)) => {
+            numbered(b"refused by ", u64::from(n));
             say(b"\n");
         }
     }

@@ -7,27 +7,14 @@ use desk_paper::help::say_help;
 use desk_paper::paper::{Paper, Stream, paper_of};
 use desk_words::put_words;
 use door_limits::document_01;
-use run_print::bits::{STDOUT, say};
-use run_texts::sheets::reported;
-use run_texts::texts::{fill, load, titled};
+use run_print::bits::{numbered, say};
+use run_texts::sheets::{each, reported};
+use run_texts::texts::{fill, load};
 
 fn shown(p: Paper, title: &[u8], text: &[u8]) {
     reported(title, text);
     let p = explain(p, document_01(), text);
     warn(p, document_01(), text, b"sheet.txt");
-}
-
-// Each sheet of a list.
-fn each(p: Paper, list: &[u8]) {
-    let mut at = 0;
-    while at < list.len() {
-        let t = titled(list, at);
-        let end = t.end;
-        let start = t.start;
-        let next = t.next;
-        shown(p, &list[at..end], &list[start..next]);
-        at = next;
-    }
 }
 
 // RULES 6.1: a sheet has 65,536 bytes at most.
@@ -41,8 +28,7 @@ fn long(p: Paper, title: &[u8], first: &[u8], last: &[u8]) {
 fn words_of(number: u32) {
     let mut space = [0; 512];
     let n = put_words(number, &mut space);
-    say(b"words of ");
-    io::print_decimal(STDOUT, number as u64);
+    numbered(b"words of ", u64::from(number));
     say(b" are ");
     if n == 0 {
         say(b"none");
@@ -52,10 +38,8 @@ fn words_of(number: u32) {
 }
 
 fn all_words() {
-    let mut number = 0;
-    while number < 32 {
+    for number in 0..32 {
         words_of(number);
-        number += 1;
     }
 }
 
@@ -66,7 +50,7 @@ fn main(rt: HostRuntime) {
     let n = load(&rt, complaints, b"sheets.txt", &mut space);
     say(b"= help\n");
     say_help(p);
-    each(p, &space[..n]);
+    each(&space[..n], |title, text| shown(p, title, text));
     long(p, b"= 65,536 bytes", b"N 1\n", b"C 1 1 P 1 1\n");
     long(p, b"= 65,537 bytes", b"N 10\n", b"C 1 1 P 1 1\n");
     long(

@@ -4,7 +4,7 @@
 #![tactic(auto)]
 
 use door_limits::document_01;
-use door_saturation::{saturated_at};
+use door_saturation::saturated_at;
 use eos_brackets::Five;
 use eos_densities::{liquid_density, vapour_density};
 use eos_ideal::ideal_part;
@@ -18,7 +18,8 @@ use eos_state::{Phase, State};
 use eos_terms::term::at_density;
 use equation::{conductivity_at, curve_at, pressure_on, state_on};
 use num_working::checked;
-use run_print::bits::{STDOUT, figure, say, show, tell};
+use refusal::Refusal;
+use run_print::bits::{figure, numbered, say, show, tell};
 
 // The start of a line of a temperature and a density.
 fn at(name: &[u8], t: f64, rho: f64) {
@@ -55,16 +56,10 @@ fn also(x: f64) {
 }
 
 fn carried(s: State) {
-    also(s.t);
-    also(s.p);
-    also(s.rho);
-    also(s.u);
-    also(s.h);
-    also(s.cv);
-    also(s.cp);
-    also(s.w);
-    say(b" fallen ");
-    io::print_decimal(STDOUT, s.fallen as u64);
+    for x in [s.t, s.p, s.rho, s.u, s.h, s.cv, s.cp, s.w] {
+        also(x);
+    }
+    numbered(b" fallen ", s.fallen as u64);
 }
 
 fn saturated(t: f64) {
@@ -75,10 +70,8 @@ fn saturated(t: f64) {
 
 fn ideal_gas(tau: f64) {
     let i = ideal_part(tau);
-    let first = i.first;
-    let second = i.second;
-    figure(b"I1 at ", tau, first);
-    figure(b"I2 at ", tau, second);
+    figure(b"I1 at ", tau, i.first);
+    figure(b"I2 at ", tau, i.second);
 }
 
 // Saturation by itself (RULES 5.6).
@@ -92,163 +85,131 @@ fn saturation_at(t: f64) {
             also(s.vapour);
             also(s.liquid);
         }
-        Err(n) => {
-            say(b"refused by ");
-            io::print_decimal(STDOUT, n as u64);
-        }
+        Err(Refusal(n)) => numbered(b"refused by ", u64::from(n)),
     }
     say(b"\n");
 }
 
-// What is worked at each number of a list.
-#[derive(Clone, Copy)]
-enum Of {
-    Saturation,
-    Melting,
-    Ideal,
-    Alone,
-}
-
-fn figures_of(of: Of, x: f64) {
-    match of {
-        Of::Saturation => saturated(x),
-        Of::Melting => figure(b"melting pressure at ", x, melting_pressure(x)),
-        Of::Ideal => ideal_gas(x),
-        Of::Alone => saturation_at(x),
-    }
-}
-
-fn each(of: Of, xs: &[f64]) {
-    let mut i = 0;
-    while i < xs.len() {
-        figures_of(of, xs[i]);
-        i += 1;
-    }
-}
-
 // From the triple point to the critical one, and where a pressure is 0, a density is not above 0, or a working fails.
 fn saturations() {
-    each(
-        Of::Saturation,
-        &[
-            216.592,
-            220.0,
-            233.15,
-            250.0,
-            273.15,
-            280.0,
-            295.5,
-            300.0,
-            303.5,
-            304.1,
-            304.12,
-            304.12819999999994,
-            304.1282,
-            250.29,
-            267.1,
-            217.64,
-            298.53,
-            271.99,
-            305.0,
-            50.0,
-            20.0,
-            3.1,
-            2.9,
-            1.0,
-            0.4,
-            1e-300,
-            0.0,
-            -0.0,
-            -5.0,
-            -1000.0,
-            1e300,
-            1.0 / 0.0,
-            -1.0 / 0.0,
-            0.0 / 0.0,
-        ],
-    );
+    for t in [
+        216.592,
+        220.0,
+        233.15,
+        250.0,
+        273.15,
+        280.0,
+        295.5,
+        300.0,
+        303.5,
+        304.1,
+        304.12,
+        304.12819999999994,
+        304.1282,
+        250.29,
+        267.1,
+        217.64,
+        298.53,
+        271.99,
+        305.0,
+        50.0,
+        20.0,
+        3.1,
+        2.9,
+        1.0,
+        0.4,
+        1e-300,
+        0.0,
+        -0.0,
+        -5.0,
+        -1000.0,
+        1e300,
+        1.0 / 0.0,
+        -1.0 / 0.0,
+        0.0 / 0.0,
+    ] {
+        saturated(t);
+    }
 }
 
 // Where another order of operations would show, from the triple point to the last temperature that may be asked, on both
 // sides of 5 and of 30 MPa, beyond, where the pressure is below 0, and where the working fails.
 fn meltings() {
-    each(
-        Of::Melting,
-        &[
-            216.6478,
-            216.9646,
-            218.2975,
-            218.3518,
-            330.0,
-            216.592,
-            216.59199999999998,
-            216.59200000000004,
-            216.5920025,
-            216.598387,
-            217.0,
-            217.5460227897887,
-            217.54602278978874,
-            222.7145,
-            222.7146,
-            250.0,
-            304.1282,
-            523.0,
-            327.673,
-            1100.0,
-            216.4812,
-            100.0,
-            0.0,
-            -0.0,
-            -300.0,
-            5e-324,
-            1e140,
-            1e151,
-            1e152,
-            1e300,
-            -1e300,
-            1.7976931348623157e308,
-            1.0 / 0.0,
-            -1.0 / 0.0,
-            0.0 / 0.0,
-        ],
-    );
+    for t in [
+        216.6478,
+        216.9646,
+        218.2975,
+        218.3518,
+        330.0,
+        216.592,
+        216.59199999999998,
+        216.59200000000004,
+        216.5920025,
+        216.598387,
+        217.0,
+        217.5460227897887,
+        217.54602278978874,
+        222.7145,
+        222.7146,
+        250.0,
+        304.1282,
+        523.0,
+        327.673,
+        1100.0,
+        216.4812,
+        100.0,
+        0.0,
+        -0.0,
+        -300.0,
+        5e-324,
+        1e140,
+        1e151,
+        1e152,
+        1e300,
+        -1e300,
+        1.7976931348623157e308,
+        1.0 / 0.0,
+        -1.0 / 0.0,
+        0.0 / 0.0,
+    ] {
+        figure(b"melting pressure at ", t, melting_pressure(t));
+    }
 }
 
 // From 524 K down to the triple point, and where an exponential is 0 or refused, a divisor is 0 or not finite, or one
 // of the two fails alone.
 fn ideal_gases() {
-    each(
-        Of::Ideal,
-        &[
-            0.58,
-            0.8,
-            1.0,
-            1.2,
-            1.4,
-            1.4041,
-            200.0,
-            230.0,
-            1e160,
-            1e200,
-            1e300,
-            3e-17,
-            1e-17,
-            1e-154,
-            1e-160,
-            1e-200,
-            0.0,
-            -0.0,
-            -1.0,
-            -13.0,
-            -20.0,
-            -25.7,
-            -25.85,
-            -30.0,
-            1.0 / 0.0,
-            -1.0 / 0.0,
-            0.0 / 0.0,
-        ],
-    );
+    for tau in [
+        0.58,
+        0.8,
+        1.0,
+        1.2,
+        1.4,
+        1.4041,
+        200.0,
+        230.0,
+        1e160,
+        1e200,
+        1e300,
+        3e-17,
+        1e-17,
+        1e-154,
+        1e-160,
+        1e-200,
+        0.0,
+        -0.0,
+        -1.0,
+        -13.0,
+        -20.0,
+        -25.7,
+        -25.85,
+        -30.0,
+        1.0 / 0.0,
+        -1.0 / 0.0,
+        0.0 / 0.0,
+    ] {
+        ideal_gas(tau);
+    }
 }
 
 fn of_a_row(x: f64) {
@@ -470,50 +431,49 @@ fn conductivity_edges() {
 
 // The ends of the range, 304.1282 and 523, each with the floats beside it; a spread; 0 to 29 C; and what is no temperature.
 fn saturations_alone() {
-    each(
-        Of::Alone,
-        &[
-            216.59199999999998,
-            216.592,
-            216.59200000000004,
-            304.12819999999994,
-            304.1282,
-            304.12820000000005,
-            522.9999999999999,
-            523.0,
-            523.0000000000001,
-            216.6,
-            220.0,
-            230.0,
-            240.0,
-            250.0,
-            260.0,
-            270.0,
-            280.0,
-            290.0,
-            300.0,
-            303.1282,
-            304.0,
-            304.128,
-            305.1282,
-            273.15,
-            278.15,
-            283.15,
-            288.15,
-            293.15,
-            298.15,
-            302.15,
-            0.0,
-            -0.0,
-            5e-324,
-            -1.0,
-            -250.0,
-            1e300,
-            1.0 / 0.0,
-            -1.0 / 0.0,
-            0.0 / 0.0,
-        ],
-    );
+    for t in [
+        216.59199999999998,
+        216.592,
+        216.59200000000004,
+        304.12819999999994,
+        304.1282,
+        304.12820000000005,
+        522.9999999999999,
+        523.0,
+        523.0000000000001,
+        216.6,
+        220.0,
+        230.0,
+        240.0,
+        250.0,
+        260.0,
+        270.0,
+        280.0,
+        290.0,
+        300.0,
+        303.1282,
+        304.0,
+        304.128,
+        305.1282,
+        273.15,
+        278.15,
+        283.15,
+        288.15,
+        293.15,
+        298.15,
+        302.15,
+        0.0,
+        -0.0,
+        5e-324,
+        -1.0,
+        -250.0,
+        1e300,
+        1.0 / 0.0,
+        -1.0 / 0.0,
+        0.0 / 0.0,
+    ] {
+        saturation_at(t);
+    }
 }
 
 fn main() {

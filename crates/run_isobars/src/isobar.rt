@@ -3,13 +3,10 @@
 use door_limits::{document_01, is_outside};
 use door_pressure::from_pressure;
 use eos_state::State;
-use run_print::decimal::{Cell, unit, value};
-use run_print::failure::judged;
-use run_print::table::{printed, says};
-use run_print::tally::{
-    CELLS, COMPARED, DAMAGED, DIFFERENCES, DIFFERENCES_LEFT_OUT, IN_CRITICAL_BOX, IN_RANGE,
-    ON_MELTING_LINE, ON_SATURATION_LINE, ROWS, Tally, counted,
-};
+use refusal::Refusal;
+use run_print::failure::Finding;
+use run_print::table::Row;
+use run_print::tally::{Count, Tally};
 
 // The columns. Pressures are printed in MPa, u and h in kJ/kg, the heat capacities in kJ/(kg K).
 pub const P: usize = 0;
@@ -35,112 +32,95 @@ const KILO: f64 = 1000.0;
 pub const MEGA: f64 = 1000000.0;
 
 // No number, which no comparison finds right, where the cell is damaged.
-fn number(text: &[u8], line: usize, column: usize, scale: f64) -> f64 {
-    match printed(text, line, column) {
-        Cell::Readable(d) => value(d, scale),
-        Cell::Damaged => 0.0 / 0.0,
+fn number(row: Row, column: usize, scale: f64) -> f64 {
+    match row.printed(column) {
+        Some(d) => d.value(scale),
+        None => 0.0 / 0.0,
     }
 }
 
 // Right within one unit of the cell's last digit.
-fn quantity(text: &[u8], line: usize, tally: Tally, column: usize, scale: f64, x: f64) -> Tally {
-    let Cell::Readable(d) = printed(text, line, column) else {
-        return counted(tally, DAMAGED);
+fn quantity(row: Row, tally: &mut Tally, column: usize, scale: f64, x: f64) {
+    let Some(d) = row.printed(column) else {
+        tally.counted(Count::Damaged);
+        return;
     };
-    let one = unit(d, scale);
-    let y = value(d, scale);
-    let right = x - one <= y && y <= x + one;
-    judged(
-        text,
-        line,
-        column,
-        tally,
-        CELLS,
-        right,
-        b", worked ",
-        x / scale,
-    )
+    let one = d.unit(scale);
+    let y = d.value(scale);
+    let found = Finding {
+        right: x - one <= y && y <= x + one,
+        words: b", worked ",
+        x: x / scale,
+    };
+    row.judged(column, tally, Count::Cells, found);
 }
 
-// h − u = p/ρ within the printed digits: a unit of h, one of u, and p/ρ² times one of ρ.
-fn difference(text: &[u8], line: usize, tally: Tally, p: f64) -> Tally {
-    let Cell::Readable(rho) = printed(text, line, RHO) else {
-        return counted(tally, DIFFERENCES_LEFT_OUT);
-    };
-    let Cell::Readable(u) = printed(text, line, U) else {
-        return counted(tally, DIFFERENCES_LEFT_OUT);
-    };
-    let Cell::Readable(h) = printed(text, line, H) else {
-        return counted(tally, DIFFERENCES_LEFT_OUT);
-    };
-    let density = value(rho, 1.0);
+// h − u = p/ρ within the printed digits: a unit of h, one of u, and p/ρ² times one of ρ. None where a cell of the three is damaged.
+fn balance(row: Row, p: f64) -> Option<Finding<'static>> {
+    let rho = row.printed(RHO)?;
+    let u = row.printed(U)?;
+    let h = row.printed(H)?;
+    let density = rho.value(1.0);
     let quotient = p / density;
-    let left = value(h, KILO) - value(u, KILO) - quotient;
-    let room = unit(h, KILO) + unit(u, KILO) + quotient / density * unit(rho, 1.0);
-    let right = -room <= left && left <= room;
-    judged(
-        text,
-        line,
-        RHO,
-        tally,
-        DIFFERENCES,
-        right,
-        b", h - u - p/rho is ",
-        left / KILO,
-    )
+    let left = h.value(KILO) - u.value(KILO) - quotient;
+    let room = h.unit(KILO) + u.unit(KILO) + quotient / density * rho.unit(1.0);
+    Some(Finding {
+        right: -room <= left && left <= room,
+        words: b", h - u - p/rho is ",
+        x: left / KILO,
+    })
 }
 
-fn compared(text: &[u8], line: usize, tally: Tally, x: State) -> Tally {
-    let tally = quantity(text, line, tally, RHO, 1.0, x.rho);
-    let tally = quantity(text, line, tally, U, KILO, x.u);
-    let tally = quantity(text, line, tally, H, KILO, x.h);
-    let tally = quantity(text, line, tally, CV, KILO, x.cv);
-    let tally = quantity(text, line, tally, CP, KILO, x.cp);
-    quantity(text, line, tally, W, 1.0, x.w)
+fn difference(row: Row, tally: &mut Tally, p: f64) {
+    match balance(row, p) {
+        Some(found) => row.judged(RHO, tally, Count::Differences, found),
+        None => tally.counted(Count::DifferencesLeftOut),
+    }
+}
+
+fn compared(row: Row, tally: &mut Tally, x: State) {
+    quantity(row, tally, RHO, 1.0, x.rho);
+    quantity(row, tally, U, KILO, x.u);
+    quantity(row, tally, H, KILO, x.h);
+    quantity(row, tally, CV, KILO, x.cv);
+    quantity(row, tally, CP, KILO, x.cp);
+    quantity(row, tally, W, 1.0, x.w);
 }
 
 // What the pressure door says of a row that is on neither line. A refusal but that of the critical box is a failure.
-fn asked(text: &[u8], line: usize, tally: Tally, t: f64, p: f64) -> Tally {
+fn asked(row: Row, tally: &mut Tally, t: f64, p: f64) {
     match from_pressure(document_01(), t, p) {
         Ok(x) => {
-            let tally = compared(text, line, counted(tally, COMPARED), x);
-            difference(text, line, tally, p)
+            tally.counted(Count::Compared);
+            compared(row, tally, x);
+            difference(row, tally, p);
         }
-        Err(n) => {
-            if n == 6 {
-                return counted(tally, IN_CRITICAL_BOX);
-            }
-            judged(
-                text,
-                line,
-                RHO,
-                tally,
-                CELLS,
-                false,
-                b", refused by ",
-                n as f64,
-            )
+        Err(Refusal(6)) => tally.counted(Count::InCriticalBox),
+        Err(Refusal(n)) => {
+            let found = Finding {
+                right: false,
+                words: b", refused by ",
+                x: f64::from(n),
+            };
+            row.judged(RHO, tally, Count::Cells, found);
         }
     }
 }
 
-pub fn row(text: &[u8], line: usize, tally: Tally) -> Tally {
-    let tally = counted(tally, ROWS);
-    let t = number(text, line, T, 1.0);
-    let p = number(text, line, P, MEGA);
+pub fn compare(row: Row, tally: &mut Tally) {
+    tally.counted(Count::Rows);
+    let t = number(row, T, 1.0);
+    let p = number(row, P, MEGA);
     let l = document_01();
-    if is_outside(l.asked.temperature, t) {
-        return tally;
+    if is_outside(l.asked.temperature, t) || is_outside(l.asked.pressure, p) {
+        return;
     }
-    if is_outside(l.asked.pressure, p) {
-        return tally;
+    tally.counted(Count::InRange);
+    if row.says(FLAG, b"on saturation line") {
+        tally.counted(Count::OnSaturationLine);
+    } else if row.says(FLAG, b"on melting line") {
+        tally.counted(Count::OnMeltingLine);
+    } else {
+        asked(row, tally, t, p);
     }
-    let tally = counted(tally, IN_RANGE);
-    if says(text, line, FLAG, b"on saturation line") {
-        return counted(tally, ON_SATURATION_LINE);
-    }
-    if says(text, line, FLAG, b"on melting line") {
-        return counted(tally, ON_MELTING_LINE);
-    }
-    asked(text, line, tally, t, p)
 }

@@ -9,49 +9,36 @@ mod saturated;
 
 ghost use Rattle.std.specs.Prelude.{◌≡◌, length};
 
-use desk_paper::paper::{Paper, Stream, paper_of, say_failure};
+use desk_paper::paper::{Paper, Stream, paper_of};
 use run_print::bits::say;
 use run_print::counts::tell_counts;
 use run_print::files::read_full;
-use run_print::table::line_after;
-use run_print::tally::{FAILURES, Tally, none};
+use run_print::table::{Row, line_after};
+use run_print::tally::{Count, Tally};
 use std::fs;
 use std::rt::Files;
 
-// What a table's rows are compared with.
-#[derive(Clone, Copy)]
-enum With {
-    Door,
-    MeltingLine,
-    Saturation,
-}
-
-fn row(text: &[u8], line: usize, tally: Tally, with: With) -> Tally {
-    match with {
-        With::Door => isobar::row(text, line, tally),
-        With::MeltingLine => melting::row(text, line, tally),
-        With::Saturation => saturated::row(text, line, tally),
-    }
-}
-
-// The first line names the columns.
-fn lines(text: &[u8], with: With) -> Tally {
-    let mut tally = none();
+// What comparing each row of a table counts. The first line names the columns.
+fn lines<F: Fn(Row, &mut Tally)>(text: &[u8], compare: F) -> Tally
+    requires { F.IsAlwaysCallable compare }
+{
+    let mut tally = Tally::none();
     let mut line = line_after(text, 0);
     while line < text.len() {
-        let more = row(text, line, tally, with);
-        tally = more;
+        compare(Row { text, line }, &mut tally);
         line = line_after(text, line);
     }
     tally
 }
 
 // A table that is wrong in this many places: the comparison must be able to fail.
-fn wrong(what: &[u8], text: &[u8], with: With, failures: u64, places: &[u8]) {
+fn wrong<F: Fn(Row, &mut Tally)>(what: &[u8], text: &[u8], compare: F, failures: u64, places: &[u8])
+    requires { F.IsAlwaysCallable compare }
+{
     say(what);
-    let tally = lines(text, with);
+    let tally = lines(text, compare);
     say(places);
-    if tally[FAILURES] == failures {
+    if tally.counts[Count::Failures as usize] == failures {
         say(b" found: yes\n");
     } else {
         say(b" found: no\n");
@@ -63,7 +50,7 @@ fn wrong_row() {
     wrong(
         b"a wrong row:\n",
         b"isobar_MPa,T_K,rho,u,h,s,cv,cp,w\n5.00,300,128.43,-99.772,-60.830,-0.88811,0.85258,1.8025,223.25\n",
-        With::Door,
+        isobar::compare,
         2,
         b"a wrong row is",
     );
@@ -75,7 +62,7 @@ fn wrong_cells() {
     wrong(
         b"a row with five wrong cells:\n",
         b"isobar_MPa,T_K,rho,u,h,s,cv,cp,w\n5.00,300,128.40,-99.775,-60.833,-0.88811,0.85261,1.8028,223.28\n",
-        With::Door,
+        isobar::compare,
         5,
         b"five wrong cells are",
     );
@@ -86,7 +73,7 @@ fn wrong_melting() {
     wrong(
         b"a wrong row on the melting line, to either side:\n",
         b"isobar_MPa,T_K,rho,u,h,s,cv,cp,w,flag\n5.00,217.547,,,,,,,,on melting line\n5.00,217.545,,,,,,,,on melting line\n5.00,217.546,,,,,,,,on melting line\n",
-        With::MeltingLine,
+        melting::compare,
         2,
         b"two wrong melting temperatures are",
     );
@@ -98,7 +85,7 @@ fn wrong_saturation() {
     wrong(
         b"a wrong row of saturation, of each phase:\n",
         b"T_K,p_MPa,phase,rho\n300,6.7148,liquid,679.84\n300,6.7148,vapour,269.08\n",
-        With::Saturation,
+        saturated::compare,
         3,
         b"a wrong pressure and two wrong densities are",
     );
@@ -112,14 +99,16 @@ fn space() -> [u8; 131072]
 }
 
 // A table's file and the words that go with it.
-fn compare<R: Files>(
+fn compare<R: Files, F: Fn(Row, &mut Tally)>(
     files: &R,
     complaints: Paper,
     file: &str,
-    with: With,
+    with: F,
     table: &[u8],
     words: &[u8],
-) {
+)
+    requires { F.IsAlwaysCallable with }
+{
     let mut space = space();
     match fs::open(files, file) {
         Ok(mut from) => {
@@ -127,7 +116,7 @@ fn compare<R: Files>(
             tell_counts(table, lines(&space[..n], with), words);
         }
         Err(e) => {
-            say_failure(complaints, file.as_bytes(), e);
+            complaints.say_failure(file.as_bytes(), e);
         }
     }
 }
@@ -137,7 +126,7 @@ fn compare_isobars<R: Files>(files: &R, complaints: Paper) {
         files,
         complaints,
         "isobars.csv",
-        With::Door,
+        isobar::compare,
         b"isobars",
         b" rows\n in range\n of them on the saturation line\n on the melting line\n in the critical box\n compared\n cells compared\n cells left out, damaged in the scan\n\n compared in h - u = p/rho\n left out of it, a cell damaged in the scan\n failures\n",
     );
@@ -148,7 +137,7 @@ fn compare_meltings<R: Files>(files: &R, complaints: Paper) {
         files,
         complaints,
         "isobars.csv",
-        With::MeltingLine,
+        melting::compare,
         b"melting",
         b" rows of the isobars\n\n\n of them on the melting line\n\n\n compared with the melting pressure\n cells left out, damaged in the scan\n\n\n\n failures\n",
     );
@@ -159,7 +148,7 @@ fn compare_saturations<R: Files>(files: &R, complaints: Paper) {
         files,
         complaints,
         "saturation.csv",
-        With::Saturation,
+        saturated::compare,
         b"saturation",
         b" rows\n\n\n\n\n compared\n comparisons, the critical density's with both equations\n cells left out, damaged in the scan\n\n\n\n failures\n",
     );

@@ -3,38 +3,32 @@
 use crate::isobar::{FLAG, MEGA, P, T};
 use eos_melting::melting_pressure;
 use num_working::plain;
-use run_print::decimal::{Cell, unit, value};
-use run_print::failure::judged;
-use run_print::table::{printed, says};
-use run_print::tally::{CELLS, DAMAGED, ON_MELTING_LINE, ROWS, Tally, counted};
+use run_print::failure::Finding;
+use run_print::table::Row;
+use run_print::tally::{Count, Tally};
 
-fn compared(text: &[u8], line: usize, tally: Tally) -> Tally {
-    let Cell::Readable(kelvin) = printed(text, line, T) else {
-        return counted(tally, DAMAGED);
-    };
-    let Cell::Readable(mega) = printed(text, line, P) else {
-        return counted(tally, DAMAGED);
-    };
-    let t = value(kelvin, 1.0);
-    let half = unit(kelvin, 1.0) / 2.0;
-    let p = value(mega, MEGA);
-    let right = plain(melting_pressure(t - half)) <= p && p <= plain(melting_pressure(t + half));
-    judged(
-        text,
-        line,
-        T,
-        tally,
-        CELLS,
-        right,
-        b", melting pressure there ",
-        plain(melting_pressure(t)) / MEGA,
-    )
+// None where the temperature or the pressure is damaged.
+fn passed(row: Row) -> Option<Finding<'static>> {
+    let kelvin = row.printed(T)?;
+    let mega = row.printed(P)?;
+    let t = kelvin.value(1.0);
+    let half = kelvin.unit(1.0) / 2.0;
+    let p = mega.value(MEGA);
+    Some(Finding {
+        right: plain(melting_pressure(t - half)) <= p && p <= plain(melting_pressure(t + half)),
+        words: b", melting pressure there ",
+        x: plain(melting_pressure(t)) / MEGA,
+    })
 }
 
-pub fn row(text: &[u8], line: usize, tally: Tally) -> Tally {
-    let tally = counted(tally, ROWS);
-    if says(text, line, FLAG, b"on melting line") {
-        return compared(text, line, counted(tally, ON_MELTING_LINE));
+pub fn compare(row: Row, tally: &mut Tally) {
+    tally.counted(Count::Rows);
+    if !row.says(FLAG, b"on melting line") {
+        return;
     }
-    tally
+    tally.counted(Count::OnMeltingLine);
+    match passed(row) {
+        Some(found) => row.judged(T, tally, Count::Cells, found),
+        None => tally.counted(Count::Damaged),
+    }
 }

@@ -3,11 +3,10 @@
 // (docs/READING.md, Saturation).
 use eos_densities::{liquid_density, vapour_density};
 use eos_saturation::vapour_pressure;
-use num_working::{plain};
-use run_print::decimal::{Cell, value};
-use run_print::failure::judged;
-use run_print::table::{printed, says};
-use run_print::tally::{CELLS, COMPARED, DAMAGED, ROWS, Tally, counted};
+use num_working::plain;
+use run_print::failure::Finding;
+use run_print::table::Row;
+use run_print::tally::{Count, Tally};
 
 const T: usize = 0;
 
@@ -23,69 +22,78 @@ const OF_PRESSURE: f64 = 0.00012;
 // Of a density, to 295 K, to 303 K, and from there to the critical point 1 %.
 fn uncertainty(t: f64, to_295: f64, to_303: f64) -> f64 {
     if t <= 295.0 {
-        return to_295;
+        to_295
+    } else if t <= 303.0 {
+        to_303
+    } else {
+        0.01
     }
-    if t <= 303.0 { to_303 } else { 0.01 }
 }
 
 // A cell that `scale` of make one of the working's unit, and the part of itself by which the worked may be off.
 fn near(
-    text: &[u8],
-    line: usize,
-    tally: Tally,
+    row: Row,
+    tally: &mut Tally,
     column: usize,
     scale: f64,
     worked: Option<f64>,
     uncertainty: f64,
-) -> Tally {
-    let Cell::Readable(d) = printed(text, line, column) else {
-        return counted(tally, DAMAGED);
+) {
+    let Some(d) = row.printed(column) else {
+        tally.counted(Count::Damaged);
+        return;
     };
-    let y = value(d, scale);
+    let y = d.value(scale);
     let x = plain(worked);
     let room = uncertainty * y;
-    let right = y - room <= x && x <= y + room;
-    judged(
-        text,
-        line,
-        column,
-        tally,
-        CELLS,
-        right,
-        b", worked ",
-        x / scale,
-    )
+    let found = Finding {
+        right: y - room <= x && x <= y + room,
+        words: b", worked ",
+        x: x / scale,
+    };
+    row.judged(column, tally, Count::Cells, found);
 }
 
-// The liquid's 0.015 % to 295 K and 0.04 % to 303 K, the vapour's 0.025 % and 0.08 %.
-fn density(text: &[u8], line: usize, tally: Tally, t: f64, vapour: bool) -> Tally {
-    if vapour {
-        let part = uncertainty(t, 0.00025, 0.0008);
-        return near(text, line, tally, RHO, 1.0, vapour_density(t), part);
-    }
-    let part = uncertainty(t, 0.00015, 0.0004);
-    near(text, line, tally, RHO, 1.0, liquid_density(t), part)
+// 0.025 % to 295 K and 0.08 % to 303 K.
+fn vapour(row: Row, tally: &mut Tally, t: f64) {
+    near(
+        row,
+        tally,
+        RHO,
+        1.0,
+        vapour_density(t),
+        uncertainty(t, 0.00025, 0.0008),
+    );
+}
+
+// 0.015 % to 295 K and 0.04 % to 303 K.
+fn liquid(row: Row, tally: &mut Tally, t: f64) {
+    near(
+        row,
+        tally,
+        RHO,
+        1.0,
+        liquid_density(t),
+        uncertainty(t, 0.00015, 0.0004),
+    );
 }
 
 // The vapour pressure stands in the rows of both phases, and is compared in the liquid's. The critical point is one
 // row, whose density is that of both.
-fn compared(text: &[u8], line: usize, tally: Tally, t: f64) -> Tally {
-    if says(text, line, PHASE, b"vapour") {
-        return density(text, line, tally, t, true);
+fn compared(row: Row, tally: &mut Tally, t: f64) {
+    if !row.says(PHASE, b"vapour") {
+        near(row, tally, P, 1000000.0, vapour_pressure(t), OF_PRESSURE);
+        liquid(row, tally, t);
     }
-    let p = vapour_pressure(t);
-    let tally = near(text, line, tally, P, 1000000.0, p, OF_PRESSURE);
-    let tally = density(text, line, tally, t, false);
-    if says(text, line, PHASE, b"liquid") {
-        return tally;
+    if !row.says(PHASE, b"liquid") {
+        vapour(row, tally, t);
     }
-    density(text, line, tally, t, true)
 }
 
-pub fn row(text: &[u8], line: usize, tally: Tally) -> Tally {
-    let tally = counted(tally, ROWS);
-    let Cell::Readable(d) = printed(text, line, T) else {
-        return tally;
-    };
-    compared(text, line, counted(tally, COMPARED), value(d, 1.0))
+pub fn compare(row: Row, tally: &mut Tally) {
+    tally.counted(Count::Rows);
+    if let Some(d) = row.printed(T) {
+        tally.counted(Count::Compared);
+        compared(row, tally, d.value(1.0));
+    }
 }

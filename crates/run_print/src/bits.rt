@@ -9,6 +9,12 @@ pub fn say(text: &[u8]) {
     io::write_all(STDOUT, text);
 }
 
+// A whole number after words of what it is.
+pub fn numbered(text: &[u8], n: u64) {
+    say(text);
+    io::print_decimal(STDOUT, n);
+}
+
 pub fn show(x: f64) {
     if is_finite(x) {
         io::print_hex(STDOUT, f64::to_bits(x), 16);

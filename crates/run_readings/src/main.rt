@@ -6,19 +6,14 @@
 mod doors;
 
 use eos_constants::{Printed, worked_as};
-use num_exponential::exponential::{exponential};
+use num_exponential::exponential::exponential;
 use num_powers::whole_power;
 use num_roots::root::{Exponent, root};
-use run_print::bits::{STDOUT, figure, say, show};
-
-fn numbered(text: &[u8], n: usize) {
-    say(text);
-    io::print_decimal(STDOUT, n as u64);
-}
+use run_print::bits::{figure, numbered, say, show};
 
 fn root_of(x: f64, m: usize, k: usize) {
-    numbered(b"root ", m);
-    numbered(b"/", k);
+    numbered(b"root ", m as u64);
+    numbered(b"/", k as u64);
     figure(b" of ", x, root(x, Exponent { m, k }));
 }
 
@@ -27,7 +22,7 @@ fn printed_root_of(x: f64, name: &[u8], printed: Printed) {
 }
 
 fn power_of(x: f64, n: usize) {
-    numbered(b"power ", n);
+    numbered(b"power ", n as u64);
     figure(b" of ", x, Some(whole_power(x, n)));
 }
 
@@ -39,7 +34,7 @@ fn e_to(x: f64) {
     match exponential(x) {
         Some(s) => {
             show(s.value);
-            numbered(b" fallen ", s.fallen as usize);
+            numbered(b" fallen ", s.fallen as u64);
         }
         None => say(b"refused"),
     }
@@ -47,31 +42,35 @@ fn e_to(x: f64) {
 }
 
 fn exponentials() {
-    e_to(0.0);
-    e_to(-0.0);
-    e_to(-701.0);
-    e_to(-700.0);
-    e_to(-700.0000000000001);
-    e_to(700.0);
-    e_to(700.0000000000001);
-    e_to(1.0 / 0.0);
-    e_to(-1.0 / 0.0);
-    e_to(0.0 / 0.0);
-    e_to(1.0);
-    e_to(-1.0);
-    e_to(-0.0001220703125);
-    e_to(-36.5);
-    e_to(0.3);
-    e_to(12.25);
-    e_to(-123.456);
-    e_to(650.1);
-    e_to(-1e-300);
-    e_to(-36.0);
-    e_to(-36.00000000000001);
-    e_to(-35.99999999999999);
-    e_to(36.00000000000001);
-    e_to(36.5);
-    e_to(-37.0);
+    for x in [
+        0.0,
+        -0.0,
+        -701.0,
+        -700.0,
+        -700.0000000000001,
+        700.0,
+        700.0000000000001,
+        1.0 / 0.0,
+        -1.0 / 0.0,
+        0.0 / 0.0,
+        1.0,
+        -1.0,
+        -0.0001220703125,
+        -36.5,
+        0.3,
+        12.25,
+        -123.456,
+        650.1,
+        -1e-300,
+        -36.0,
+        -36.00000000000001,
+        -35.99999999999999,
+        36.00000000000001,
+        36.5,
+        -37.0,
+    ] {
+        e_to(x);
+    }
 }
 
 // At exponents as 004 prints them.
@@ -132,12 +131,8 @@ fn main() {
     powers();
     exponentials();
     edges();
-    roots_of(0.000001);
-    roots_of(0.0712890625);
-    roots_of(0.7);
-    roots_of(1.0);
-    roots_of(1.4042);
-    roots_of(17.77);
-    roots_of(1000.0);
+    for x in [0.000001, 0.0712890625, 0.7, 1.0, 1.4042, 17.77, 1000.0] {
+        roots_of(x);
+    }
     doors::run();
 }

@@ -5,7 +5,8 @@
 
 use desk_paper::paper::{Paper, Stream, paper_of};
 use door_limits::document_01;
-use run_print::bits::{STDOUT, say};
+use refusal::Refusal;
+use run_print::bits::{numbered, say};
 use run_texts::sheets::{each, reported};
 use run_texts::texts::{fill, load};
 use sheet_score::score;
@@ -24,17 +25,10 @@ fn lent(out: &mut [u8]) {
         b"N 45000000\nC 7 - P 5000000 40000\nC 8 2000000 P 5000000 40000\n",
         out,
     );
-    say(b"= an output of dots: ");
-    io::print_decimal(STDOUT, out.len() as u64);
+    numbered(b"= an output of dots: ", out.len() as u64);
     match w {
-        Ok(n) => {
-            say(b", bytes written: ");
-            io::print_decimal(STDOUT, n as u64);
-        }
-        Err(n) => {
-            say(b", refused by ");
-            io::print_decimal(STDOUT, n as u64);
-        }
+        Ok(n) => numbered(b", bytes written: ", n as u64),
+        Err(Refusal(n)) => numbered(b", refused by ", u64::from(n)),
     }
     say(b"\n");
     say(out);
@@ -87,13 +81,14 @@ fn main(rt: HostRuntime) {
     let complaints = paper_of(Stream::Complaints(rt.stderr()));
     let mut space = io::large_buffer();
     let n = load(&rt, complaints, b"sheets.txt", &mut space);
-    each(&space[..n]);
+    each(&space[..n], reported);
     each(
         b"= CR LF in the first line\nN 1\r\nC 7 3000000 P 5000000 1\n\
         = CR LF in the last line\nN 1\nC 7 3000000 P 5000000 1\r\n\
         = a tab\nN 1\nC 7\t3000000 P 5000000 1\n\
         = a NUL byte\nN 1\nC 7 3000000 P 5000000 1\0\n\
         = a byte above 127\nN 1\nC 7 3000000 P 5000000 \xb1\n",
+        reported,
     );
     banks(&rt, complaints);
     long();

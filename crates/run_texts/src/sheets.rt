@@ -1,5 +1,5 @@
 // Sheets by a title and their report (RULES 7).
-use crate::texts::titled;
+use crate::texts::{Places, titled};
 use door_limits::document_01;
 use run_print::bits::say;
 use sheet_score::score;
@@ -14,15 +14,14 @@ pub fn reported(title: &[u8], text: &[u8]) {
     }
 }
 
-// Each sheet of a list.
-pub fn each(list: &[u8]) {
+// Shows each sheet of a list, by its title and its text.
+pub fn each<F: Fn(&[u8], &[u8])>(list: &[u8], show: F)
+    requires { F.IsAlwaysCallable show }
+{
     let mut at = 0;
     while at < list.len() {
-        let t = titled(list, at);
-        let end = t.end;
-        let start = t.start;
-        let next = t.next;
-        reported(&list[at..end], &list[start..next]);
+        let Places { end, start, next } = titled(list, at);
+        show(&list[at..end], &list[start..next]);
         at = next;
     }
 }

@@ -3,7 +3,7 @@ ghost use Rattle.std.specs.Prelude.{◌<◌, ◌≤◌, length};
 ghost use Rattle.io.specs.Counts.{IsPrefixLen};
 
 use desk_paper::files::open;
-use desk_paper::paper::{Paper, say_failure};
+use desk_paper::paper::Paper;
 use run_print::files::read_full;
 use sheet_write::put;
 use std::rt::Files;
@@ -15,7 +15,7 @@ pub fn load<R: Files>(files: &R, complaints: Paper, file: &[u8], space: &mut [u8
     match open(files, file) {
         Ok(mut from) => read_full(&mut from, space),
         Err(e) => {
-            say_failure(complaints, file, e);
+            complaints.say_failure(file, e);
             0
         }
     }
@@ -26,14 +26,10 @@ pub fn find(text: &[u8], from: usize, mark: u8) -> usize
     requires { from ≤ length text.now }
     ensures { (from ≤ result) × (result ≤ length text.now) }
 {
-    let mut i = from;
-    while i < text.len() {
-        if text[i] == mark {
-            return i;
-        }
-        i += 1;
+    match text[from..].iter().position(|b| *b == mark) {
+        Some(i) => from + i,
+        None => text.len(),
     }
-    i
 }
 
 // A title and a text in a list: where the title ends, and where the text starts and the next title.
@@ -81,10 +77,8 @@ pub fn fill(space: &mut [u8], first: &[u8], lines: &[u8], times: usize, others: 
     ensures { IsPrefixLen result space.new }
 {
     let mut n = add(space, 0, first);
-    let mut i = 0;
-    while i < times {
+    for _ in 0..times {
         n = add(space, n, lines);
-        i += 1;
     }
     add(space, n, others)
 }

@@ -8,7 +8,7 @@ use desk_arguments::{Asked, Named, Wish, Word, nothing_asked, take_word, word_of
 use desk_explain::{explain, warn};
 use desk_paper::files::open;
 use desk_paper::help::{say_help, say_usage};
-use desk_paper::paper::{Paper, Stream, paper_of, say, say_failure, say_number};
+use desk_paper::paper::{Paper, Stream, paper_of};
 use desk_words::version;
 use door_limits::document_01;
 use sheet_score::score;
@@ -16,33 +16,18 @@ use std::env::FillError;
 use std::io::{Error, IsTerminal};
 use std::rt::{Env, Stderr, Stdout};
 
-// How many bytes were read.
-#[derive(Clone, Copy)]
-enum Read {
-    Bytes(usize),
-    Failed(Error),
-}
-
-// How many bytes were read, and how many their report has.
-#[derive(Clone, Copy)]
-enum Scored {
-    Report(usize, usize),
-    Unread(Error),
-}
-
-// Reads to the end of the input, or until the space is full.
-fn read_text<R: std::io::Read>(from: &mut R, space: &mut [u8]) -> Read
+// Reads to the end of the input, or until the space is full; answers how many bytes were read.
+fn read_text<R: std::io::Read>(from: &mut R, space: &mut [u8]) -> Result<usize, Error>
     ensures { ReadInto space.new result }
 {
     let mut n = 0;
     while n < space.len() {
-        match from.read(&mut space[n..]) {
-            Ok(0) => return Read::Bytes(n),
-            Ok(more) => n += more,
-            Err(e) => return Read::Failed(e),
+        match from.read(&mut space[n..])? {
+            0 => break,
+            more => n += more,
         }
     }
-    Read::Bytes(n)
+    Ok(n)
 }
 
 // The output holds the longest report: 32 lines of at most 46 bytes, and an ending of at most 40.
@@ -55,14 +40,16 @@ fn report_of(text: &[u8], out: &mut [u8; 1512]) -> usize
     long
 }
 
-// The report of what was read.
-fn score_from<R: std::io::Read>(from: &mut R, space: &mut [u8], out: &mut [u8; 1512]) -> Scored
+// The report of what was read: how many bytes were read, and how many their report has.
+fn score_from<R: std::io::Read>(
+    from: &mut R,
+    space: &mut [u8],
+    out: &mut [u8; 1512],
+) -> Result<(usize, usize), Error>
     ensures { Scores space.new out.old out.new result }
 {
-    match read_text(from, space) {
-        Read::Bytes(n) => Scored::Report(n, report_of(&space[..n], out)),
-        Read::Failed(e) => Scored::Unread(e),
-    }
+    let n = read_text(from, space)?;
+    Ok((n, report_of(&space[..n], out)))
 }
 
 fn output(to: Stdout) -> Paper {
@@ -75,27 +62,16 @@ fn complaints(to: Stderr) -> Paper {
 
 // Whether all was written; what wasn't is said.
 fn is_written(p: Paper, to: Stderr) -> bool {
-    match p.failure {
-        None => true,
-        Some(e) => {
-            say_failure(complaints(to), b"standard output", e);
-            false
-        }
+    if let Some(e) = p.failure {
+        complaints(to).say_failure(b"standard output", e);
     }
-}
-
-fn is_several(n: Named) -> bool {
-    match n {
-        Named::Several => true,
-        _ => false,
-    }
+    p.failure.is_none()
 }
 
 // The name of a sheet, where there are several.
 fn say_name(p: Paper, a: Asked, name: &[u8]) -> Paper {
-    let named = a.named;
-    if is_several(named) {
-        return say(say(say(p, b"== "), name), b"\n");
+    if matches!(a.named, Named::Several) {
+        return p.say(b"== ").say(name).say(b"\n");
     }
     p
 }
@@ -103,8 +79,8 @@ fn say_name(p: Paper, a: Asked, name: &[u8]) -> Paper {
 // What has to be said of a sheet on standard error, where it isn't explained.
 fn warn_of(p: Paper, name: &[u8], text: &[u8]) {
     if text.len() > 65536 {
-        say(p, name);
-        say(p, b": The text has more than 65,536 bytes.\n");
+        p.say(name);
+        p.say(b": The text has more than 65,536 bytes.\n");
     }
     warn(p, document_01(), text, name);
 }
@@ -115,9 +91,9 @@ fn answer<R: std::io::Read>(rt: HostRuntime, from: &mut R, name: &[u8], a: Asked
     let mut space = [0; 65537];
     let mut out = [0; 1512];
     match score_from(from, &mut space, &mut out) {
-        Scored::Report(n, long) => tell(rt, name, a, &space[..n], &out[..long]),
-        Scored::Unread(e) => {
-            say_failure(complaints(rt.stderr()), name, e);
+        Ok((n, long)) => tell(rt, name, a, &space[..n], &out[..long]),
+        Err(e) => {
+            complaints(rt.stderr()).say_failure(name, e);
             true
         }
     }
@@ -125,7 +101,7 @@ fn answer<R: std::io::Read>(rt: HostRuntime, from: &mut R, name: &[u8], a: Asked
 
 // A text and its report; whether to go on.
 fn tell(rt: HostRuntime, name: &[u8], a: Asked, text: &[u8], out: &[u8]) -> bool {
-    let report = say(say_name(output(rt.stdout()), a, name), out);
+    let report = say_name(output(rt.stdout()), a, name).say(out);
     if a.explained {
         return is_written(explain(report, document_01(), text), rt.stderr());
     }
@@ -153,7 +129,7 @@ fn answer_file(rt: HostRuntime, name: &[u8], a: Asked) -> bool {
     match open(&rt, name) {
         Ok(mut from) => answer(rt, &mut from, name, a),
         Err(e) => {
-            say_failure(complaints(rt.stderr()), name, e);
+            complaints(rt.stderr()).say_failure(name, e);
             true
         }
     }
@@ -165,7 +141,7 @@ fn answer_place(rt: HostRuntime, place: usize, a: Asked) -> bool {
     match rt.arg(place, &mut name) {
         Ok(n) => answer_file(rt, &name[..n], a),
         Err(e) => {
-            say_failure(complaints(rt.stderr()), b"FILE", error_of(e));
+            complaints(rt.stderr()).say_failure(b"FILE", error_of(e));
             true
         }
     }
@@ -181,13 +157,6 @@ fn answer_word(rt: HostRuntime, place: usize, w: Word, a: Asked) -> bool {
         Word::Input => answer_input(rt, a),
         Word::File => answer_place(rt, place, a),
         _ => true,
-    }
-}
-
-fn is_end(w: Word) -> bool {
-    match w {
-        Word::End => true,
-        _ => false,
     }
 }
 
@@ -222,17 +191,14 @@ fn answer_each(rt: HostRuntime, a: Asked) {
         if !answer_word(rt, i, w, a) {
             return;
         }
-        if is_end(w) {
-            ended = true;
-        }
+        ended = ended || matches!(w, Word::End);
     }
 }
 
 // Nobody is to wait for a program that waits for him.
 fn answer_nothing_named(rt: HostRuntime, a: Asked) {
     if rt.stdin().is_terminal() {
-        say(
-            complaints(rt.stderr()),
+        complaints(rt.stderr()).say(
             b"scorer: reading a sheet from standard input; scorer --help shows how one is written\n",
         );
     }
@@ -240,38 +206,41 @@ fn answer_nothing_named(rt: HostRuntime, a: Asked) {
 }
 
 fn answer_named(rt: HostRuntime, a: Asked) {
-    let named = a.named;
-    match named {
-        Named::Nothing => answer_nothing_named(rt, a),
-        _ => answer_each(rt, a),
+    if matches!(a.named, Named::Nothing) {
+        answer_nothing_named(rt, a);
+    } else {
+        answer_each(rt, a);
     }
 }
 
 fn say_version(p: Paper, v: u64) -> Paper {
-    let a = say_number(say(p, b"makhroeng "), v / 10000);
-    let b = say_number(say(a, b"."), v / 100 % 100);
-    say(say_number(say(b, b"."), v % 100), b"\n")
+    p.say(b"makhroeng ")
+        .say_number(v / 10000)
+        .say(b".")
+        .say_number(v / 100 % 100)
+        .say(b".")
+        .say_number(v % 100)
+        .say(b"\n")
 }
 
 fn no_flag<E: Env>(env: &E, p: Paper, place: usize) {
     let mut word = io::buffer();
     let n = env.arg(place, &mut word).unwrap_or(0);
-    say(p, &word[..n]);
-    say(p, b": no such flag\n");
+    p.say(&word[..n]);
+    p.say(b": no such flag\n");
     say_usage(p);
 }
 
 fn main(rt: HostRuntime) {
     let a = asked_for(&rt);
-    let wish = a.wish;
-    match wish {
+    match a.wish {
         Wish::Score => answer_named(rt, a),
         Wish::Help => {
             is_written(say_help(output(rt.stdout())), rt.stderr());
         }
         Wish::Version => {
             is_written(
-                say_version(output(rt.stdout()), version() as u64),
+                say_version(output(rt.stdout()), u64::from(version())),
                 rt.stderr(),
             );
         }

@@ -15,7 +15,7 @@ pub one_report : (o bs xs ys : List ℕ) (r s : Written) → ReportIs o xs bs r 
 one_report o bs xs ys (Ok n) (Ok k) p q = (ap Ok (by_equation p.0.count q.0.count), by_equation p.0.bytes q.0.bytes)
 one_report o bs xs ys (Ok n) (Err k) p q = absurd (omega (arith, p.1, q.2))
 one_report o bs xs ys (Err n) (Ok k) p q = absurd (omega (arith, p.2, q.1))
-one_report o bs xs ys (Err n) (Err k) p q = (ap Err (by_equation p.0 q.0), by_equation p.1 q.1)
+one_report o bs xs ys (Err n) (Err k) p q = (ap (λ (k : ℕ). Err (record { 0 = k })) (by_equation p.0 q.0), by_equation p.1 q.1)
 
 pub write_report_once : (κs : Lfts 1) → OneWriting Written (write_report.Post κs)
 write_report_once κs a r s x y = one_report _ _ _ _ r s

@@ -15,7 +15,7 @@ Written = Result ℕ Refusal
 -- `M mg` or `R no`, and the line's end
 unfoldable pub weighed_bytes : Weighed → List ℕ
 weighed_bytes (Ok mg) = ascii "M " ++ decimal mg.0 ++ ascii "\n"
-weighed_bytes (Err number) = ascii "R " ++ decimal number ++ ascii "\n"
+weighed_bytes (Err refusal) = ascii "R " ++ decimal refusal.0 ++ ascii "\n"
 
 -- RULES 7.1: `L i M mg` or `L i R no`
 unfoldable pub line_bytes : ℕ → Weighed → List ℕ
@@ -30,7 +30,7 @@ lines_bytes i (m ∷ ms) = line_bytes i m.weighed ++ lines_bytes (i + 1) ms
 unfoldable pub ending_bytes : Ending → List ℕ
 ending_bytes (Ending.Covered mg) = ascii "TOTAL " ++ decimal mg.0 ++ ascii " COVERED\n"
 ending_bytes (Ending.Short mg) = ascii "TOTAL " ++ decimal mg.0 ++ ascii " SHORT\n"
-ending_bytes (Ending.SentBack number) = ascii "SENT BACK " ++ decimal number ++ ascii "\n"
+ending_bytes (Ending.SentBack refusal) = ascii "SENT BACK " ++ decimal refusal.0 ++ ascii "\n"
 
 -- the lines are counted from 1, and the ending stands after them
 unfoldable pub report_bytes : Outcome → List ℕ
@@ -41,4 +41,4 @@ report_bytes o = lines_bytes 1 (marks_of o.marks) ++ ending_bytes o.ending
 -- no report is longer than 32 lines of 46 bytes and an ending of 40
 abbrev pub ReportIs : List ℕ → List ℕ → List ℕ → Written → Type 0
 ReportIs o xs bs (Ok r) = Wrote o xs r bs × (length bs ≤ length o)
-ReportIs o xs bs (Err n) = (n ≡ 15) × (xs ≡ o) × (length o < length bs) × (length bs ≤ 1512)
+ReportIs o xs bs (Err n) = (n.0 ≡ 15) × (xs ≡ o) × (length o < length bs) × (length bs ≤ 1512)

@@ -1,11 +1,10 @@
 -- Ten squarings of each number, one after the other. Assumes nothing.
-use mathlib.Core.Path.{refl}
-use Rattle.num_exponential.specs.Decay.{each}
+use mathlib.Core.List.{map-map}
 use Rattle.num_exponential.specs.Lockstep.{squarings}
 use Rattle.num_exponential.proofs.lockstep.ten_squarings.Goals as goal
 
 pub returns : goal.returns
-unfolding each squarings
+unfolding squarings
 returns c =
     rw (
       c.squares.ensures,
@@ -18,4 +17,4 @@ returns c =
       c.squares-s-3.ensures,
       c.squares-s-2.ensures,
       c.squares-s.ensures,
-    ) refl
+    ) (simp map-map)

@@ -32,6 +32,7 @@ use Rattle.sheet_score.specs.Score.{listed, report}
 use Rattle.demands.specs.Demands.{Exactly}
 use Rattle.demands.specs.Lines.{AtDoor, for_pressure, for_density, Dashed, in_number, in_temperature, in_value, in_volume}
 use Rattle.demands.specs.Twice.{at, Again, Twice, no_mark, came, RefusesAt, lacks, is_again, alone, WeighsAt, marked_before, report_before}
+use Rattle.demands.proofs.Checks.{same_number}
 use Rattle.demands.proofs.Lines.{not_weighed, dash_refused, line_refusals, line_answers}
 
 -- ---- 1: a field that the line requires is blank, as it is written and as it is read
@@ -172,9 +173,6 @@ module _ (cs : List Cylinder) (i : ℕ) where
       by_field (Some n) e false p = by_on (not_dashed e p) n e (is_on (numbers above) n) refl
 
 -- ---- what came of it
-
-same_number : {m n : ℕ} → refusal.refused {A = Milligrams} m ≡ refusal.refused n → m ≡ n
-same_number e = cc
 
 pub no_mass : {A : Type 0} {n : ℕ} {mg : Milligrams} → refusal.refused n ≡ Ok mg → A
 no_mass e = let z : ◌≡◌ {A = ℕ} 0 1 = cc in absurd (omega arith)

@@ -1,8 +1,9 @@
 -- The checks on the inputs and that of the melting line, by what they find. Assumes nothing.
 use Rattle.refusal.specs.Refused.{refused}
-use Rattle.std.specs.Prelude.{Some, None, Ok, Err}
+use Rattle.refusal.specs.declared.Refusal.{Refusal}
+use Rattle.std.specs.Prelude.{Some, None, Ok, Err, Result}
 use Prim.Native.Nat.{ℕ}
-use mathlib.Core.Path.{◌≡◌, refl, sym}
+use mathlib.Core.Path.{◌≡◌, refl, sym, ap}
 use mathlib.Core.Bool.{Bool, true, false, ◌&&◌, not, true≢false}
 use borrow.Author.Tests.{not-true, not-false}
 use lib.Ieee.{Float, lt}
@@ -14,6 +15,14 @@ use Rattle.door_limits.specs.declared.Range.{Range}
 use Rattle.door_checks.specs.Check.{ranged, solid, Check}
 use Rattle.door_answers.specs.Answer.{passed, Answer}
 use Rattle.demands.specs.Demands.{OutOfRange, no_number, no_temperature, no_value, InRange, Fluid}
+
+-- ---- two refusals that are the same have one number
+abbrev number_in : {A : Type 0} → Result A Refusal → ℕ
+number_in (Ok x) = 0
+number_in (Err n) = n.0
+
+pub same_number : {A : Type 0} {m n : ℕ} → refused {A = A} m ≡ refused n → m ≡ n
+same_number e = ap number_in e
 
 -- ---- both are numbers
 pub first : (a b : Bool) → (a && b) ≡ true → a ≡ true
@@ -27,7 +36,7 @@ second false b h = absurd (true≢false (sym h))
 -- ---- 3, 4 and 5
 module _ (temperature value : Range) (t x : Float) where
   pub data Finds (c : Check) : Type 0 where
-    stops : (n : ℕ) → c ≡ Err n → OutOfRange temperature value t x n → Finds c
+    stops : (n : ℕ) → c ≡ refused n → OutOfRange temperature value t x n → Finds c
     passes : c ≡ Ok tt → InRange temperature value t x → Finds c
 
   pub finds : Finds (ranged temperature value t x)
@@ -38,7 +47,7 @@ module _ (temperature value : Range) (t x : Float) where
       (λ f. by_test Finds (outside value x) _ _ (λ g. stops 5 refl (no_value (not-false _ e) f g))
       (λ g. passes refl (record { numbers = not-false _ e; temperature = f; value = g }))))
 
-  pub stops_back : {n : ℕ} → OutOfRange temperature value t x n → ranged temperature value t x ≡ Err n
+  pub stops_back : {n : ℕ} → OutOfRange temperature value t x n → ranged temperature value t x ≡ refused n
   unfolding ranged
   stops_back (no_number e) = rw e refl
   stops_back (no_temperature e f) = rw (e, f) refl

@@ -1,5 +1,6 @@
 -- What is worked on request is worked of the door's answer and after it, so that nothing else of an answer hangs on it. Over any equation, of 1996, and of
 -- the public functions. Assumes nothing.
+use Rattle.refusal.specs.declared.Refusal.{Refusal}
 use Rattle.refusal.specs.Refused.{refused}
 use Rattle.std.specs.Prelude.{Some, None, Ok, Err}
 use Prim.Native.Nat.{ℕ}
@@ -21,11 +22,12 @@ use Rattle.door_pressure.proofs.from_pressure.Reads as from_pressure
 use Rattle.door_density.specs.DensityDoor as density
 use Rattle.door_density.specs.DensityDoor.{density_door}
 use Rattle.door_density.proofs.from_density.Reads as from_density
-use Rattle.door_conductivity.specs.Conducted.{carrying, conducting, with_conductivity, Conductivity}
+use Rattle.door_conductivity.specs.Conducted.{carrying, conducting, with_conductivity, Conductivity, Conducted}
 use Rattle.door_conductivity.specs.declared.Carried.{Carried}
 use Rattle.door_conductivity.proofs.with_conductivity.Reads as with_conductivity_reads
 use Rattle.demands.specs.Demands.{Whatever, Exactly, Settled, given, not_given, to_9}
 use Rattle.demands.specs.Conductivities.{without_conductivity, Unasked, PressureByAny, DensityByAny, RefusesAsked, by_door, no_conductivity, AnswersAsked, AskedRefusals, AskedAnswers, SettledAsked, given_with, given_none, SameConductivity}
+use Rattle.demands.proofs.Checks.{same_number}
 use Rattle.demands.proofs.PressureDoors.{pressure_answers}
 use Rattle.demands.proofs.DensityDoors.{density_answers}
 
@@ -48,17 +50,17 @@ module _ (E : Equation) (L : Limits) where
 module _ (E : Equation) where
   -- of a state, by what its conductivity was worked to
   refused_back : (s : State) (w : Worked) → E.conductivity s.t s.rho ≡ w → (n : ℕ) → RefusesAsked E (Ok s) n
-      → or_else w (refused 7) (λ x. carrying s (Some x)) ≡ Err n
+      → or_else w (refused 7) (λ x. carrying s (Some x)) ≡ refused n
   refused_back s w e n (by_door h) = never (cc)
   refused_back s None e n (no_conductivity h k) = refl
   refused_back s (Some x) e n (no_conductivity h k) = never (cc)
 
   refused_of : (s : State) (w : Worked) → E.conductivity s.t s.rho ≡ w → (n : ℕ)
-      → or_else w (refused 7) (λ x. carrying s (Some x)) ≡ Err n → RefusesAsked E (Ok s) n
-  refused_of s None e n h = let m : 7 ≡ n = cc in rw (← m) (no_conductivity refl e)
+      → or_else w (refused 7) (λ x. carrying s (Some x)) ≡ refused n → RefusesAsked E (Ok s) n
+  refused_of s None e n h = let m : 7 ≡ n = same_number h in rw (← m) (no_conductivity refl e)
   refused_of s (Some x) e n h = never (cc)
 
-  door_back : (m n : ℕ) → RefusesAsked E (Err m) n → Err m ≡ Err n
+  door_back : (m : Refusal) (n : ℕ) → RefusesAsked E (Err m) n → ◌≡◌ {A = Conducted} (Err m) (refused n)
   door_back m n (by_door h) = cc
   door_back m n (no_conductivity h k) = never (cc)
 
@@ -114,7 +116,7 @@ module _ (E : Equation) (L : Limits) (lawful : Lawful E) where
 
 -- ---- of what the function promises: asked for, not asked for, and what a conductivity is that is carried
 pub with_conductivity_asked : Whatever (with_conductivity_reads.Post tt) (λ a r. a.0 ≡ true
-    → ((n : ℕ) → Exactly (r ≡ Err n) (RefusesAsked of1996 a.1.0 n)) × ((c : Carried) → Exactly (r ≡ Ok c) (AnswersAsked of1996 a.1.0 c)))
+    → ((n : ℕ) → Exactly (r ≡ refused n) (RefusesAsked of1996 a.1.0 n)) × ((c : Carried) → Exactly (r ≡ Ok c) (AnswersAsked of1996 a.1.0 c)))
 with_conductivity_asked a r s h k =
     let e : r ≡ with_conductivity of1996 true a.1.0 = rw k at h in
     rw e (asked_refusals of1996 a.1.0, asked_answers of1996 a.1.0)

@@ -1,5 +1,6 @@
 -- An answer's state was worked at its temperature and density, so its count is the equation's there, of any equation that is lawful; and no step of a door
 -- looks at a count, of any equation. Over any limits, of 1996, and of the public functions. Assumes nothing.
+use Rattle.refusal.specs.Refused.{refused}
 use Rattle.num_halving.specs.declared.Missed.TheVariants.{Nowhere, Broke}
 use Rattle.std.specs.Prelude.{Some, None, Ok, Err}
 use Prim.Native.Nat.{ℕ}
@@ -98,11 +99,11 @@ after_test : (t : Bool) {a b x y : Answer} → Was x a → Was y b → Was (cond
 after_test true h k = h
 after_test false h k = k
 
-after_working : (w : Worked) (n : ℕ) (f g : Float → Answer) → ((x : Float) → Was (g x) (f x)) → Was (or_else w (Err n) g) (or_else w (Err n) f)
+after_working : (w : Worked) (n : ℕ) (f g : Float → Answer) → ((x : Float) → Was (g x) (f x)) → Was (or_else w (refused n) g) (or_else w (refused n) f)
 after_working None n f g h = record { is = refl }
 after_working (Some x) n f g h = h x
 
-refuses : (n : ℕ) → Was (Err n) (Err n)
+refuses : (n : ℕ) → Was (refused n) (refused n)
 refuses n = record { is = refl }
 
 after_search : (s : Float → Stated) (c : Crossing) → Was (found (λ rho. forgotten_in (s rho)) c) (found s c)

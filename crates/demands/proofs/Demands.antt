@@ -29,12 +29,12 @@ use Rattle.demands.proofs.PressureDoors.{ends, pressure_refusals, pressure_answe
 use Rattle.demands.proofs.DensityDoors.{density_refusals, density_answers}
 
 -- ---- DEMAND 1: every input is answered or refused, and each refusal is given exactly under its condition
-pub from_pressure_refuses : Whatever (from_pressure.Post tt) (λ a r. (n : ℕ) → Exactly (r ≡ Err n) (RefusesP of1996 a.0 a.1.0 a.1.1.0 n))
+pub from_pressure_refuses : Whatever (from_pressure.Post tt) (λ a r. (n : ℕ) → Exactly (r ≡ refused n) (RefusesP of1996 a.0 a.1.0 a.1.1.0 n))
 from_pressure_refuses a r s h n =
     let w = pressure_refusals of1996 a.0 lawful a.1.0 a.1.1.0 n in
     (λ e. w.0 (sym h ∙ e), λ q. h ∙ w.1 q)
 
-pub from_density_refuses : Whatever (from_density.Post tt) (λ a r. (n : ℕ) → Exactly (r ≡ Err n) (RefusesD of1996 a.0 a.1.0 a.1.1.0 n))
+pub from_density_refuses : Whatever (from_density.Post tt) (λ a r. (n : ℕ) → Exactly (r ≡ refused n) (RefusesD of1996 a.0 a.1.0 a.1.1.0 n))
 from_density_refuses a r s h n =
     let w = density_refusals of1996 a.0 lawful a.1.0 a.1.1.0 n in
     (λ e. w.0 (sym h ∙ e), λ q. h ∙ w.1 q)
@@ -70,9 +70,9 @@ of_density (no_melting q r e f m) = to_9 7 (omega arith) (omega arith)
 of_density (solid_there q r e f m h) = is_19
 of_density (no_state q r e f m g) = to_9 7 (omega arith) (omega arith)
 
-settled : (r : Answer) → ((n : ℕ) → r ≡ Err n → Numbered 3 n) → Settled r
+settled : (r : Answer) → ((n : ℕ) → r ≡ refused n → Numbered 3 n) → Settled r
 settled (Ok x) h = given x refl
-settled (Err n) h = not_given n refl (h n refl)
+settled (Err n) h = not_given n.0 refl (h n.0 refl)
 
 pub pressure_settles : (L : Limits) (t p : Float) → Settled (pressure_door of1996 L t p)
 pressure_settles L t p = settled _ (λ n e. of_pressure ((pressure_refusals of1996 L lawful t p n).0 e))

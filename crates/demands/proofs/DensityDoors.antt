@@ -18,12 +18,12 @@ use Rattle.door_checks.specs.Check.{solid, boxed, Check}
 use Rattle.door_answers.specs.Answer.{passed, answer_with, Answer}
 use Rattle.door_density.specs.DensityDoor.{in_phase, beneath, entered, unboxed, density_door}
 use Rattle.demands.specs.Demands.{Fluid, InRangeD, in_box_d, PastD, Phased, above_critical, as_vapour, as_liquid, RefusesD, out_of_ranges, in_the_box, no_vapour, no_liquid, between, no_pressure, pressure_outside, no_melting, solid_there, no_state, AnsweredD, DensityRefusals, DensityAnswers}
-use Rattle.demands.proofs.Checks.{stops, passes, finds, stops_back, passes_back, melts}
+use Rattle.demands.proofs.Checks.{same_number, stops, passes, finds, stops_back, passes_back, melts}
 
 module _ (E : Equation) (L : Limits) (lawful : Lawful E) (t rho : Float) where
   -- ---- an answer of the door, explained
   pub data Explains (a : Answer) : Type 0 where
-    refuses : (n : ℕ) → a ≡ Err n → RefusesD E L t rho n → Explains a
+    refuses : (n : ℕ) → a ≡ refused n → RefusesD E L t rho n → Explains a
     answers : (x : State) → a ≡ Ok x → AnsweredD E L t rho x → Explains a
 
   module _ (past : PastD E L t rho) where
@@ -96,7 +96,7 @@ module _ (E : Equation) (L : Limits) (lawful : Lawful E) (t rho : Float) where
   has_phase past (as_vapour cold e f g) = enters past ∙ rw (cold, e, f, g) refl
   has_phase past (as_liquid cold e f g h) = enters past ∙ rw (cold, e, f, g, h) refl
 
-  pub refuses_back : {n : ℕ} → RefusesD E L t rho n → density_door E L t rho ≡ Err n
+  pub refuses_back : {n : ℕ} → RefusesD E L t rho n → density_door E L t rho ≡ refused n
   unfolding density_door unboxed boxed entered beneath in_phase solid
   refuses_back (out_of_ranges b) = ap (λ (c : Check). passed c (unboxed E L t rho)) (stops_back L.asked.temperature L.asked.density t rho b)
   refuses_back (in_the_box r e) = rw (passes_back L.asked.temperature L.asked.density t rho r, e) refl
@@ -114,8 +114,8 @@ module _ (E : Equation) (L : Limits) (lawful : Lawful E) where
   pub density_refusals : DensityRefusals E L
   density_refusals t rho n = (go (explained E L lawful t rho), refuses_back E L lawful t rho)
     where
-      go : Explains E L lawful t rho (density_door E L t rho) → density_door E L t rho ≡ Err n → RefusesD E L t rho n
-      go (refuses m f w) e = let q : m ≡ n = cc in subst (RefusesD E L t rho) q w
+      go : Explains E L lawful t rho (density_door E L t rho) → density_door E L t rho ≡ refused n → RefusesD E L t rho n
+      go (refuses m f w) e = let q : m ≡ n = same_number (sym f ∙ e) in subst (RefusesD E L t rho) q w
       go (answers x f a) e = let z : ◌≡◌ {A = ℕ} 0 1 = cc in absurd (omega arith)
 
   pub density_answers : DensityAnswers E L

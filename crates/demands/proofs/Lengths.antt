@@ -48,7 +48,7 @@ number_most : (L : Limits) (cs : List Cylinder) (i : ℕ) → i < length cs → 
 number_most L cs i h = go (came L cs i) refl
   where
     go : (w : Weighed) → came L cs i ≡ w → number_of w < 10 ^ 20
-    go (Err n) e = at_most (number_at ((refusals_at L cs i h n).0 e))
+    go (Err n) e = at_most (number_at ((refusals_at L cs i h n.0).0 e))
     go (Ok mg) e =
         let m = marked_length L (map line_of cs) in
         let u = all_light L (map line_of cs) i mg no_mark (omega (arith, m, length-map cs line_of)) e in

@@ -1,5 +1,5 @@
 -- A line: each refusal exactly under its condition, and what its milligrams are. Assumes nothing.
-use Rattle.refusal.specs.Refused.{refused}
+use Rattle.refusal.specs.Refused as refusal
 use Rattle.std.specs.Prelude.{Some, None, Ok, Err}
 use Prim.Native.Nat.{ℕ, ◌*◌}
 use mathlib.Core.Path.{◌≡◌, refl, ap, subst, ◌∙◌}
@@ -25,6 +25,7 @@ use Rattle.sheet_weigh.specs.Weighing.{if_number, is_volume, filled, on_scale, m
 use Rattle.sheet_outcome.specs.Outcome.{Weighed}
 use Rattle.sheet_report.proofs.Reports.{number_of}
 use Rattle.demands.specs.Demands.{Exactly}
+use Rattle.demands.proofs.Checks.{same_number}
 use Rattle.demands.proofs.Ranges.{Outside, below_one, above_top, inside, outside, is_inside, is_outside}
 use Rattle.demands.specs.Lines as lines
 use Rattle.demands.specs.Lines.{AtDoor, for_pressure, for_density, Dashed, in_number, in_temperature, in_value, in_volume, Asked, by_pressure, by_density, Figures, Volume, NoVolume, none, too_large, Mass, NoMass, no_grams, too_heavy, OnScale, product, RefusesLine, no_volume, no_volume_weighed, no_mass, by_door, no_product, Weighs, by_product, by_scale}
@@ -69,7 +70,7 @@ not_weighed for_density e = let z : ◌≡◌ {A = ℕ} 0 1 = cc in omega arith
 
 module _ (L : Limits) where
   pub data Comes (c : Cylinder) : Weighed → Type 0 where
-    refused : {n : ℕ} → RefusesLine L c n → Comes c (Err n)
+    refused : {n : ℕ} → RefusesLine L c n → Comes c (refusal.refused n)
     weighs : {mg : ℕ} → Weighs L c mg → Comes c (Ok (as_milligrams mg))
 
   module _ (c : Cylinder) where
@@ -91,7 +92,7 @@ module _ (L : Limits) where
     of_volume : {v : ℕ} (w : Weighed) → (Volume v → Comes c w) → (NoVolume v → RefusesLine L c 2) → Comes c (filled v w)
     unfolding filled
     of_volume {v} w f out =
-        by_test (Comes c) (is_volume v) w (refused 2) (λ r. f (in_volume_range v r))
+        by_test (Comes c) (is_volume v) w (refusal.refused 2) (λ r. f (in_volume_range v r))
         (λ r. refused (out (out_of_volume_range (outside 1_000_000 v r))))
 
     at_door : {v : ℕ} (a : Answer) → Figures L c v a → Comes c (filled v (by_answer a v))
@@ -123,18 +124,18 @@ module _ (L : Limits) where
 
     -- ---- DEMAND 2: a blank is refused by 1, whatever the other fields are, and never read as a number
 
-    of_number : (n : Field) (f : ℕ → Weighed) → ((k : ℕ) → f k ≡ refused 1) → if_number n f ≡ refused 1
+    of_number : (n : Field) (f : ℕ → Weighed) → ((k : ℕ) → f k ≡ refusal.refused 1) → if_number n f ≡ refusal.refused 1
     of_number None f h = refl
     of_number (Some n) f h = h n
 
-    no_temperature : (v : ℕ) (d : Kind) (x : Field) → AtDoor d → by_reading L None v (reading_of (recorded_of d x)) ≡ refused 1
+    no_temperature : (v : ℕ) (d : Kind) (x : Field) → AtDoor d → by_reading L None v (reading_of (recorded_of d x)) ≡ refusal.refused 1
     unfolding by_reading
     no_temperature v d None a = refl
     no_temperature v Kind.Pressure (Some x) a = refl
     no_temperature v Kind.Density (Some x) a = refl
     no_temperature v Kind.Weighed (Some x) a = absurd (not_weighed a refl)
 
-    pub dash_refused : Dashed c → weighed L (line_of c) ≡ refused 1
+    pub dash_refused : Dashed c → weighed L (line_of c) ≡ refusal.refused 1
     unfolding weighed by_reading
     dash_refused (in_number e) = rw e
     dash_refused (in_volume e) = rw e (of_number c.number _ (λ _. refl))
@@ -149,17 +150,17 @@ module _ (L : Limits) where
     at_the_door t d x a v (by_pressure n) = refl
     at_the_door t d x a v (by_density n) = refl
 
-    figured : {v : ℕ} {a : Answer} → Figures L c v a → weighed L (line_of c) ≡ cond (is_volume v) (by_answer a v) (refused 2)
+    figured : {v : ℕ} {a : Answer} → Figures L c v a → weighed L (line_of c) ≡ cond (is_volume v) (by_answer a v) (refusal.refused 2)
     unfolding weighed filled
     figured {v} {a} f =
         rw (f.number, f.volume, f.temperature)
         (at_the_door (div binary64 (whole f.degrees) (whole 10000)) c.kind c.value a v f.asked)
 
-    scaled : {v g : ℕ} → OnScale c v g → weighed L (line_of c) ≡ cond (is_volume v) (on_scale (from_scale (as_grams g))) (refused 2)
+    scaled : {v g : ℕ} → OnScale c v g → weighed L (line_of c) ≡ cond (is_volume v) (on_scale (from_scale (as_grams g))) (refusal.refused 2)
     unfolding weighed by_reading filled
     scaled f = rw (f.number, f.volume, f.kind, f.value)
 
-    line_refused : {n : ℕ} → RefusesLine L c n → weighed L (line_of c) ≡ Err n
+    line_refused : {n : ℕ} → RefusesLine L c n → weighed L (line_of c) ≡ refusal.refused n
     unfolding milligrams from_scale
     line_refused (lines.blank b) = dash_refused b
     line_refused (no_volume f r) = figured f ∙ rw (is_no_volume r)
@@ -175,15 +176,15 @@ module _ (L : Limits) where
 
   -- ---- each refusal exactly under its condition, and the milligrams exactly as they are defined
 
-  refuses : (c : Cylinder) (w : Weighed) (k : ℕ) → Comes c w → w ≡ Err k → RefusesLine L c k
-  refuses c w k (refused {n} r) e = let q : n ≡ k = cc in subst (RefusesLine L c) q r
+  refuses : (c : Cylinder) (w : Weighed) (k : ℕ) → Comes c w → w ≡ refusal.refused k → RefusesLine L c k
+  refuses c w k (refused {n} r) e = let q : n ≡ k = same_number e in subst (RefusesLine L c) q r
   refuses c w k (weighs x) e = let z : ◌≡◌ {A = ℕ} 0 1 = cc in absurd (omega arith)
 
   is_weighed : (c : Cylinder) (w : Weighed) (k : ℕ) → Comes c w → w ≡ Ok (as_milligrams k) → Weighs L c k
   is_weighed c w k (weighs {mg} x) e = subst (Weighs L c) (ap number_of e) x
   is_weighed c w k (refused r) e = let z : ◌≡◌ {A = ℕ} 0 1 = cc in absurd (omega arith)
 
-  pub line_refusals : (c : Cylinder) (n : ℕ) → Exactly (weighed L (line_of c) ≡ Err n) (RefusesLine L c n)
+  pub line_refusals : (c : Cylinder) (n : ℕ) → Exactly (weighed L (line_of c) ≡ refusal.refused n) (RefusesLine L c n)
   line_refusals c n = (refuses c (weighed L (line_of c)) n (comes c), line_refused c)
 
   pub line_answers : (c : Cylinder) (mg : ℕ) → Exactly (weighed L (line_of c) ≡ Ok (as_milligrams mg)) (Weighs L c mg)

@@ -21,6 +21,7 @@ use Rattle.demands.specs.Demands.{Exactly, Numbered, to_9, is_19, Settled, given
 use Rattle.demands.specs.Lines as lines
 use Rattle.demands.specs.Lines.{Dashed, Asked, by_pressure, by_density, RefusesLine, no_volume, no_volume_weighed, no_mass, by_door, no_product}
 use Rattle.demands.specs.Twice.{at, Again, came, RefusesAt, lacks, is_again, alone, NumberedAlone, as_door, is_23, NumberedAt, as_alone, is_30}
+use Rattle.demands.proofs.Checks.{same_number}
 use Rattle.demands.proofs.Demands.{pressure_settles, density_settles}
 use Rattle.demands.proofs.Twice.{stands_again, refusals_at}
 
@@ -34,9 +35,9 @@ from_1 : {n : ℕ} → Numbered 3 n → Numbered 1 n
 from_1 (to_9 n h k) = to_9 n (omega arith) k
 from_1 is_19 = is_19
 
-door_number : {n : ℕ} → Settled (Err n) → Numbered 1 n
+door_number : {n : ℕ} → Settled (refused n) → Numbered 1 n
 door_number (given x e) = let z : ◌≡◌ {A = ℕ} 0 1 = cc in absurd (omega arith)
-door_number {n} (not_given m e k) = let z : m ≡ n = cc in subst (Numbered 1) z (from_1 k)
+door_number {n} (not_given m e k) = let z : m ≡ n = same_number (sym e) in subst (Numbered 1) z (from_1 k)
 
 one_to_9 : (n : ℕ) → 1 ≤ n → n ≤ 9 → NumberedAlone n
 one_to_9 n h k = as_door (to_9 n h k)

@@ -1,5 +1,5 @@
 -- A sheet: its report, for every byte string, and every byte of the lent output. Assumes nothing.
-use Rattle.refusal.specs.Refused.{refused}
+use Rattle.refusal.specs.Refused as refusal
 use Rattle.std.specs.Prelude.{Float, Some, None, Ok, Err, Option}
 use Prim.Native.Nat.{ℕ, zero, suc, ◌+◌, ◌-◌, ◌*◌, ◌^◌, ◌≤◌, ◌<◌}
 use mathlib.Core.Path.{◌≡◌, refl, sym, ap, subst, ◌∙◌}
@@ -47,11 +47,11 @@ abbrev massed : List ℕ → List Mark
 massed mgs = map (λ (mg : ℕ). record { weighed = Ok (as_milligrams mg) }) mgs
 
 pub data Tally (ms : List Mark) : Summed → Type 0 where
-  refused : (i n : ℕ) → i < length ms → (get_or ms i no_mark).weighed ≡ Err n → Tally ms None
+  refused : (i n : ℕ) → i < length ms → (get_or ms i no_mark).weighed ≡ refusal.refused n → Tally ms None
   summed : (mgs : List ℕ) → ms ≡ massed mgs → Tally ms (Some (as_milligrams (sum mgs)))
 
 one_mark : (m : Mark) (ms : List Mark) (w : Weighed) → m.weighed ≡ w → (t : Summed) → Tally ms t → Tally (m ∷ ms) (plus w t)
-one_mark m ms (Err n) e t r = refused 0 n (omega arith) e
+one_mark m ms (Err n) e t r = refused 0 n.0 (omega arith) e
 one_mark m ms (Ok mg) e t (refused i n h r) = refused (suc i) n (omega arith) r
 one_mark m ms (Ok mg) e t (summed mgs a) =
     summed (mg.0 ∷ mgs) (ap (λ (w : Weighed). record { weighed = w } ∷ ms) e ∙ ap (λ (l : List Mark). record { weighed = Ok mg } ∷ l) a)
@@ -61,7 +61,7 @@ unfolding total
 tally [] = summed [] refl
 tally (m ∷ ms) = one_mark m ms m.weighed refl (total ms) (tally ms)
 
-pub refused_total : (ms : List Mark) (i n : ℕ) → i < length ms → (get_or ms i no_mark).weighed ≡ Err n → total ms ≡ None
+pub refused_total : (ms : List Mark) (i n : ℕ) → i < length ms → (get_or ms i no_mark).weighed ≡ refusal.refused n → total ms ≡ None
 unfolding total
 refused_total [] i n h e = absurd (omega arith)
 refused_total (m ∷ ms) zero n h e = rw e
@@ -72,7 +72,7 @@ refused_total (m ∷ ms) (suc i) n h e = rw (refused_total ms i n (le_of_suc-le-
     any (Err k) = refl
 
 -- none of these is refused
-mass_at : (mgs : List ℕ) (i n : ℕ) → i < length mgs → (get_or (massed mgs) i no_mark).weighed ≡ Err n → ⊥
+mass_at : (mgs : List ℕ) (i n : ℕ) → i < length mgs → (get_or (massed mgs) i no_mark).weighed ≡ refusal.refused n → ⊥
 mass_at [] i n h e = omega arith
 mass_at (mg ∷ mgs) zero n h e = no_mass (sym e)
 mass_at (mg ∷ mgs) (suc i) n h e = mass_at mgs i n (le_of_suc-le-suc h) e
@@ -85,13 +85,13 @@ module _ (L : Limits) where
     pub place : ℕ
     pub number : ℕ
     pub within : place < length ls
-    pub refused : weighed L (get_or ls place blank_line) ≡ Err number
+    pub refused : weighed L (get_or ls place blank_line) ≡ refusal.refused number
 
   placed : {ls : List (Line Float)} → OneRefused L ls → RefusedAlone ls
   placed (here {l} {ls} {n} e) = record { place = 0; number = n; within = omega arith; refused = e }
   placed (there r) = let p = placed r in record { place = suc p.place; number = p.number; within = omega (arith, p.within); refused = p.refused }
 
-  at_place : (ls : List (Line Float)) (i n : ℕ) → i < length ls → weighed L (get_or ls i blank_line) ≡ Err n → OneRefused L ls
+  at_place : (ls : List (Line Float)) (i n : ℕ) → i < length ls → weighed L (get_or ls i blank_line) ≡ refusal.refused n → OneRefused L ls
   at_place [] i n h e = absurd (omega arith)
   at_place (l ∷ ls) zero n h e = here e
   at_place (l ∷ ls) (suc i) n h e = there (at_place ls i n (le_of_suc-le-suc h) e)
@@ -147,13 +147,13 @@ module _ (L : Limits) where
       by_line : OneRefused L (map line_of cs) → Sent
       by_number : Twice cs → Sent
 
-    sent : (i n : ℕ) → i < length marks → (get_or marks i no_mark).weighed ≡ Err n → Sent
+    sent : (i n : ℕ) → i < length marks → (get_or marks i no_mark).weighed ≡ refusal.refused n → Sent
     sent i n h e = go ((refusals_at L cs i k n).0 e)
       where
         k : i < length cs
         k = omega (arith, marks_many)
 
-        by_itself : {m : ℕ} → weighed L (line_of (at cs i)) ≡ Err m → Sent
+        by_itself : {m : ℕ} → weighed L (line_of (at cs i)) ≡ refusal.refused m → Sent
         by_itself {m} w = by_line (at_place (map line_of cs) i m (omega (arith, k, length-map cs line_of)) (rw (line_at cs i) w))
 
         go : {m : ℕ} → RefusesAt L cs i m → Sent
@@ -196,7 +196,7 @@ module _ (L : Limits) (t : List ℕ) where
     of_need : Lined t b → (f : Field) → b.need ≡ f → Reported L t (listed (needed f) bank)
     of_need l None e = no_need l (subst NoNeed (sym e) sheets.blank)
     of_need l (Some mg) e =
-        by_test ListedAs (is_need mg) (Ok mg) (refused 12)
+        by_test ListedAs (is_need mg) (Ok mg) (refusal.refused 12)
         (λ r. let i = inside 9_999_999_999 mg r in
         of_total mg (record { lined = l; need = e; at_least = i.0; at_most = i.1 }) (total bank) (tally bank))
         (λ r. no_need l (subst NoNeed (sym e) (out_of_need (outside 9_999_999_999 mg r))))
@@ -267,7 +267,7 @@ delivered L t o xs (Ok k) p =
     let w = p.0 in
     subst (λ (n : ℕ). Delivered L t o xs (Ok n)) (sym w.count)
     (fits (reported L t) p.1 (long w p.1) (λ i h. rw w.bytes (front bs (drop (length bs) o) i h)) (λ i h. rw w.bytes (behind o bs i h)))
-delivered L t o xs (Err n) p = subst (λ (k : ℕ). Delivered L t o xs (Err k)) (sym p.0) (too_long (reported L t) p.2 p.1)
+delivered L t o xs (Err n) p = subst (λ (k : ℕ). Delivered L t o xs (refusal.refused k)) (sym p.0) (too_long (reported L t) p.2 p.1)
 
 -- DEMANDS 1 AND 2 for a sheet: whatever limits, bytes and output, this is what comes back of `score` and what every byte of the output is
 pub score_delivers : (κs : Lfts 2) → Delivers (score.Post κs)

@@ -1,5 +1,5 @@
 -- A line on its sheet: each refusal exactly under its condition, 30 among them; and where no number stands twice, all as it was. Assumes nothing.
-use Rattle.refusal.specs.Refused.{refused}
+use Rattle.refusal.specs.Refused as refusal
 use Rattle.std.specs.Prelude.{Float, Some, None, Ok, Err, Option}
 use Prim.Native.Nat.{ℕ, zero, suc, ◌<◌}
 use mathlib.Core.Path.{◌≡◌, refl, sym, ap, subst, ◌∙◌}
@@ -32,6 +32,7 @@ use Rattle.sheet_score.specs.Score.{listed, report}
 use Rattle.demands.specs.Demands.{Exactly}
 use Rattle.demands.specs.Lines.{AtDoor, for_pressure, for_density, Dashed, in_number, in_temperature, in_value, in_volume}
 use Rattle.demands.specs.Twice.{at, Again, Twice, no_mark, came, RefusesAt, lacks, is_again, alone, WeighsAt, marked_before, report_before}
+use Rattle.demands.proofs.Checks.{same_number}
 use Rattle.demands.proofs.Lines.{not_weighed, dash_refused, line_refusals, line_answers}
 
 -- ---- 1: a field that the line requires is blank, as it is written and as it is read
@@ -122,30 +123,30 @@ module _ (cs : List Cylinder) (i : ℕ) where
   abbrev stands : Check
   stands = standing (numbers above) (line_of (at cs i))
 
-  stands_lacking : Dashed (at cs i) → stands ≡ refused 1
+  stands_lacking : Dashed (at cs i) → stands ≡ refusal.refused 1
   unfolding standing
   stands_lacking d = ⊎_elim (λ e. rw e) (λ e. rw e (go (at cs i).number)) (lacks_one (at cs i) d)
     where
-      go : (f : Field) → if_numbered f (λ n. refused 1) ≡ refused 1
+      go : (f : Field) → if_numbered f (λ n. refusal.refused 1) ≡ refusal.refused 1
       go None = refl
       go (Some n) = refl
 
   -- none is blank, and so there is a number
-  by_number : (Dashed (at cs i) → ⊥) → (c : Check) → ((n : ℕ) → (at cs i).number ≡ Some n → cond (is_on (numbers above) n) (refused 30) (Ok tt) ≡ c) → stands ≡ c
+  by_number : (Dashed (at cs i) → ⊥) → (c : Check) → ((n : ℕ) → (at cs i).number ≡ Some n → cond (is_on (numbers above) n) (refusal.refused 30) (Ok tt) ≡ c) → stands ≡ c
   unfolding standing
   by_number h c f = rw (lacks_none (at cs i) h) (go (at cs i).number refl)
     where
-      go : (g : Field) → (at cs i).number ≡ g → if_numbered g (λ n. cond (is_on (numbers above) n) (refused 30) (Ok tt)) ≡ c
+      go : (g : Field) → (at cs i).number ≡ g → if_numbered g (λ n. cond (is_on (numbers above) n) (refusal.refused 30) (Ok tt)) ≡ c
       go None e = absurd (h (in_number e))
       go (Some n) e = f n e
 
-  pub stands_again : (Dashed (at cs i) → ⊥) → Again cs i → stands ≡ refused 30
-  stands_again h a = by_number h (refused 30) (λ n e. rw (again_on n e a))
+  pub stands_again : (Dashed (at cs i) → ⊥) → Again cs i → stands ≡ refusal.refused 30
+  stands_again h a = by_number h (refusal.refused 30) (λ n e. rw (again_on n e a))
 
   stands_ready : (Dashed (at cs i) → ⊥) → (Again cs i → ⊥) → stands ≡ Ok tt
   stands_ready h a = by_number h (Ok tt) (λ n e. go n e (is_on (numbers above) n) refl)
     where
-      go : (n : ℕ) → (at cs i).number ≡ Some n → (b : Bool) → is_on (numbers above) n ≡ b → cond b (refused 30) (Ok tt) ≡ Ok tt
+      go : (n : ℕ) → (at cs i).number ≡ Some n → (b : Bool) → is_on (numbers above) n ≡ b → cond b (refusal.refused 30) (Ok tt) ≡ Ok tt
       go n e true p = absurd (a (on_again n e p))
       go n e false p = refl
 
@@ -173,10 +174,7 @@ module _ (cs : List Cylinder) (i : ℕ) where
 
 -- ---- what came of it
 
-same_number : {m n : ℕ} → Err m ≡ Err n → m ≡ n
-same_number e = cc
-
-pub no_mass : {A : Type 0} {n : ℕ} {mg : Milligrams} → Err n ≡ Ok mg → A
+pub no_mass : {A : Type 0} {n : ℕ} {mg : Milligrams} → refusal.refused n ≡ Ok mg → A
 no_mass e = let z : ◌≡◌ {A = ℕ} 0 1 = cc in absurd (omega arith)
 
 abbrev mark_alone : Limits → Line Float → Mark
@@ -195,16 +193,16 @@ module _ (L : Limits) where
         ap (λ (m : Mark). m.weighed) (marked_at L (map line_of cs) i _ blank_line (omega (arith, length-map cs line_of)))
         ∙ ap (weighed_after L (numbers (above cs i))) (line_at cs i)
 
-    came_lacking : Dashed (at cs i) → came L cs i ≡ refused 1
+    came_lacking : Dashed (at cs i) → came L cs i ≡ refusal.refused 1
     came_lacking d = came_as ∙ rw (stands_lacking cs i d)
 
-    came_again : (Dashed (at cs i) → ⊥) → Again cs i → came L cs i ≡ refused 30
+    came_again : (Dashed (at cs i) → ⊥) → Again cs i → came L cs i ≡ refusal.refused 30
     came_again d a = came_as ∙ rw (stands_again cs i d a)
 
     came_ready : (Dashed (at cs i) → ⊥) → (Again cs i → ⊥) → came L cs i ≡ weighed L (line_of (at cs i))
     came_ready d a = came_as ∙ rw (stands_ready cs i d a)
 
-    refused_at : (n : ℕ) → came L cs i ≡ Err n → RefusesAt L cs i n
+    refused_at : (n : ℕ) → came L cs i ≡ refusal.refused n → RefusesAt L cs i n
     refused_at n e = go (how cs i)
       where
         go : Stands cs i → RefusesAt L cs i n
@@ -212,7 +210,7 @@ module _ (L : Limits) where
         go (standing_again d a) = let z : 30 ≡ n = same_number (sym (came_again d a) ∙ e) in subst (RefusesAt L cs i) z (is_again d a)
         go (standing_ready d a) = alone d a ((line_refusals L (at cs i) n).0 (sym (came_ready d a) ∙ e))
 
-    is_refused_at : {n : ℕ} → RefusesAt L cs i n → came L cs i ≡ Err n
+    is_refused_at : {n : ℕ} → RefusesAt L cs i n → came L cs i ≡ refusal.refused n
     is_refused_at (lacks d) = came_lacking d
     is_refused_at (is_again d a) = came_again d a
     is_refused_at (alone {n} d a r) = came_ready d a ∙ (line_refusals L (at cs i) n).1 r
@@ -231,7 +229,7 @@ module _ (L : Limits) where
         came_ready (λ d. no_mass (sym (dash_refused L (at cs i) d) ∙ e)) w.first ∙ e
 
   -- EACH LINE'S REFUSAL, on its sheet, exactly under its condition, and its milligrams exactly as they are defined
-  pub refusals_at : (cs : List Cylinder) (i : ℕ) → i < length cs → (n : ℕ) → Exactly (came L cs i ≡ Err n) (RefusesAt L cs i n)
+  pub refusals_at : (cs : List Cylinder) (i : ℕ) → i < length cs → (n : ℕ) → Exactly (came L cs i ≡ refusal.refused n) (RefusesAt L cs i n)
   refusals_at cs i h n = (refused_at cs i h n, is_refused_at cs i h)
 
   pub answers_at : (cs : List Cylinder) (i : ℕ) → i < length cs → (mg : ℕ) → Exactly (came L cs i ≡ Ok (as_milligrams mg)) (WeighsAt L cs i mg)
@@ -243,11 +241,11 @@ module _ (L : Limits) where
     pub place : ℕ
     pub number : ℕ
     pub within : place < length cs
-    pub refused : came L cs place ≡ Err number
+    pub refused : came L cs place ≡ refusal.refused number
 
   module _ (cs : List Cylinder) where
     -- where one is by itself it is on its sheet, by the same number or another
-    pub some_alone : (i n : ℕ) → i < length cs → weighed L (line_of (at cs i)) ≡ Err n → SomeRefused cs
+    pub some_alone : (i n : ℕ) → i < length cs → weighed L (line_of (at cs i)) ≡ refusal.refused n → SomeRefused cs
     some_alone i n h e = go (how cs i)
       where
         go : Stands cs i → SomeRefused cs
@@ -292,7 +290,7 @@ module _ (L : Limits) where
       ap (listed (admitted true (length b.cylinders) b.need)) (marked_as_before b.cylinders (once b refl))
 
   -- as it is, twice or not, where the sheet is sent back before its lines are worked
-  pub sent_back_as_before : (b : Bank) (n : ℕ) → admitted true (length b.cylinders) b.need ≡ Err n
+  pub sent_back_as_before : (b : Bank) (n : ℕ) → admitted true (length b.cylinders) b.need ≡ refusal.refused n
       → report L (Some b) ≡ report_before L (Some b)
   unfolding report
   sent_back_as_before b n e = rw e

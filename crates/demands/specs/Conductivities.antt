@@ -1,4 +1,5 @@
 -- RULES 5.5: the thermal conductivity, on request, of whatever a door answered, over any equation. Definitions only.
+use Rattle.refusal.specs.Refused.{refused}
 use Rattle.std.specs.Prelude.{ℕ, ◌≡◌, true, false, Float, Some, None, Ok, Err}
 use Rattle.num_working.specs.Working.{Worked}
 use Rattle.eos_state.specs.declared.State.{State}
@@ -45,7 +46,7 @@ module _ (E : Equation) (L : Limits) where
 
 -- asked for: the door's own refusal, or 7 where the working fails at the T and ρ of its state
 pub data RefusesAsked (E : Equation) (a : Answer) : ℕ → Type 0 where
-  by_door : {n : ℕ} → a ≡ Err n → RefusesAsked E a n
+  by_door : {n : ℕ} → a ≡ refused n → RefusesAsked E a n
   no_conductivity : {s : State} → a ≡ Ok s → E.conductivity s.t s.rho ≡ None → RefusesAsked E a 7
 
 -- and answered: the door's own state, bit for bit, with the conductivity at its T and ρ
@@ -56,7 +57,7 @@ pub record AnswersAsked (E : Equation) (a : Answer) (c : Carried) : Type 0 where
   pub carried : c.conductivity ≡ Some number
 
 abbrev pub AskedRefusals : Equation → Type 0
-AskedRefusals E = (a : Answer) (n : ℕ) → Exactly (with_conductivity E true a ≡ Err n) (RefusesAsked E a n)
+AskedRefusals E = (a : Answer) (n : ℕ) → Exactly (with_conductivity E true a ≡ refused n) (RefusesAsked E a n)
 
 abbrev pub AskedAnswers : Equation → Type 0
 AskedAnswers E = (a : Answer) (c : Carried) → Exactly (with_conductivity E true a ≡ Ok c) (AnswersAsked E a c)
@@ -64,7 +65,7 @@ AskedAnswers E = (a : Answer) (c : Carried) → Exactly (with_conductivity E tru
 -- demand 1: an answer, or one of a door's refusals
 pub data SettledAsked (a : Conducted) : Type 0 where
   given_with : (c : Carried) → a ≡ Ok c → SettledAsked a
-  given_none : (n : ℕ) → a ≡ Err n → Numbered 3 n → SettledAsked a
+  given_none : (n : ℕ) → a ≡ refused n → Numbered 3 n → SettledAsked a
 
 -- RULES 5.3: both doors give the same conductivity
 abbrev pub SameConductivity : Equation → Limits → Type 0

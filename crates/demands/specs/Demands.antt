@@ -149,15 +149,15 @@ pub data Numbered (first : ℕ) : ℕ → Type 0 where
 -- demand 1: whatever numbers come in, there is an answer or one of a door's refusals, and a refused state carries no figures
 pub data Settled (a : Answer) : Type 0 where
   given : (x : State) → a ≡ Ok x → Settled a
-  not_given : (n : ℕ) → a ≡ Err n → Numbered 3 n → Settled a
+  not_given : (n : ℕ) → a ≡ refused n → Numbered 3 n → Settled a
 
 module _ (E : Equation) (L : Limits) where
   -- each refusal exactly under its condition
   abbrev pub PressureRefusals : Type 0
-  PressureRefusals = (t p : Float) (n : ℕ) → Exactly (pressure_door E L t p ≡ Err n) (RefusesP E L t p n)
+  PressureRefusals = (t p : Float) (n : ℕ) → Exactly (pressure_door E L t p ≡ refused n) (RefusesP E L t p n)
 
   abbrev pub DensityRefusals : Type 0
-  DensityRefusals = (t rho : Float) (n : ℕ) → Exactly (density_door E L t rho ≡ Err n) (RefusesD E L t rho n)
+  DensityRefusals = (t rho : Float) (n : ℕ) → Exactly (density_door E L t rho ≡ refused n) (RefusesD E L t rho n)
 
   -- demand 3
   abbrev pub PressureAnswers : Type 0

@@ -1,5 +1,6 @@
 -- RULES 10.1: what is demanded of a cylinder's line by itself, as it is written: when each refusal is given, in the order of RULES 3.2 but for 30, and what its
 -- milligrams are. Definitions only.
+use Rattle.refusal.specs.Refused.{refused}
 use Rattle.std.specs.Prelude.{ℕ, ◌*◌, ◌≤◌, ◌<◌, ◌≡◌, Float, Some, None, Ok, Err}
 use Rattle.std.specs.Float.{binary64}
 use Rattle.std.specs.Float.Ieee.{div, mul}
@@ -78,7 +79,7 @@ module _ (L : Limits) where
     no_volume : {v : ℕ} {a : Answer} → Figures c v a → NoVolume v → RefusesLine c 2
     no_volume_weighed : {v g : ℕ} → OnScale c v g → NoVolume v → RefusesLine c 2
     no_mass : {v g : ℕ} → OnScale c v g → Volume v → NoMass g → RefusesLine c 23
-    by_door : {v n : ℕ} → Figures c v (Err n) → Volume v → RefusesLine c n
+    by_door : {v n : ℕ} → Figures c v (refused n) → Volume v → RefusesLine c n
     no_product : {v : ℕ} {s : State} → Figures c v (Ok s) → Volume v → whole_below (product s v) ≡ None → RefusesLine c 7
 
   -- what an answered line's milligrams are: RULES 6.5, the whole number at or below the one product; RULES 6.7, 1000 times the grams

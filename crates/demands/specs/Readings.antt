@@ -1,4 +1,5 @@
 -- RULES 8.1: the readings that are proved, of the numerics, of the checks on what a door is asked and of a sheet's line, as one table. Definitions only.
+use Rattle.refusal.specs.Refused.{refused}
 use Rattle.std.specs.Prelude.{ℕ, List, [], ◌∷◌, ◌++◌, map, Some, Ok, Err}
 use Rattle.std.specs.Float.{binary64}
 use Rattle.std.specs.Float.Ieee.{div}
@@ -49,7 +50,7 @@ abbrev pub written : ℕ → ℕ → ℕ → Cylinder
 written t p v = record { number = Some 1; temperature = Some t; kind = Pressure; value = Some p; volume = Some v }
 
 abbrev pub gives : Cylinder → ℕ → Starred
-gives c n = record { worked = line (weighed document01 (line_of c)); reads = line (Err n) }
+gives c n = record { worked = line (weighed document01 (line_of c)); reads = line (refused n) }
 
 unfoldable pub of_lines : List Starred
 of_lines =

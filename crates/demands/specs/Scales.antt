@@ -69,7 +69,7 @@ module _ (L : Limits) where
   abbrev pub ScaleRefusals : Type 0
   ScaleRefusals =
       (cs : List Cylinder) (i : ℕ) → i < length cs → (at cs i).kind ≡ Kind.Weighed
-      → (n : ℕ) → Exactly (came L cs i ≡ Err n) (RefusesScale cs i n)
+      → (n : ℕ) → Exactly (came L cs i ≡ refused n) (RefusesScale cs i n)
 
   abbrev pub ScaleAnswers : Type 0
   ScaleAnswers =

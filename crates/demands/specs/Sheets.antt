@@ -46,7 +46,7 @@ pub record Needs (t : List ℕ) (b : Bank) (mg : ℕ) : Type 0 where
 module _ (L : Limits) where
   -- some line is refused by itself
   pub data OneRefused : List (Line Float) → Type 0 where
-    here : {l : Line Float} {ls : List (Line Float)} {n : ℕ} → weighed L l ≡ Err n → OneRefused (l ∷ ls)
+    here : {l : Line Float} {ls : List (Line Float)} {n : ℕ} → weighed L l ≡ refused n → OneRefused (l ∷ ls)
     there : {l : Line Float} {ls : List (Line Float)} → OneRefused ls → OneRefused (l ∷ ls)
 
   -- every line is answered by itself, and these are their milligrams

@@ -26,7 +26,11 @@ fn worked_at(t: f64) -> Result<Saturation, Refusal>
     let pressure = vapour_pressure(t).ok_or(Refusal(7))?;
     let vapour = vapour_density(t).ok_or(Refusal(7))?;
     let liquid = liquid_density(t).ok_or(Refusal(7))?;
-    Ok(Saturation { pressure, vapour, liquid })
+    Ok(Saturation {
+        pressure,
+        vapour,
+        liquid,
+    })
 }
 
 #[tactic(auto, unfolding(crate::specs::Saturation::saturated))]

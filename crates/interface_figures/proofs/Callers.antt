@@ -14,6 +14,7 @@ use lib.Ieee.{Float, nan}
 use Rattle.num_working.specs.Number.{whole}
 use Rattle.eos_state.specs.State.{eight}
 use Rattle.eos_state.specs.declared.State.{State}
+use Rattle.refusal.specs.declared.Refusal.{Refusal}
 use Rattle.equation.specs.Equation.{Equation}
 use Rattle.door_answers.specs.Answer.{Answer}
 use Rattle.door_conductivity.specs.Conducted.{with_conductivity, Conductivity, Conducted}
@@ -108,5 +109,5 @@ either_way : (l : List Float) (b : Bool) → cond b l l ≡ l
 either_way l true = refl
 either_way l false = refl
 
-pub refused_stays : (old new : List Float) (n r : ℕ) → CarriedIn old new (Err n) r → new ≡ old
+pub refused_stays : (old new : List Float) (n : Refusal) (r : ℕ) → CarriedIn old new (Err n) r → new ≡ old
 refused_stays old new n r p = p.figures ∙ either_way old (ltb (length old) 8)

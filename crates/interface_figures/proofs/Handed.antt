@@ -1,51 +1,21 @@
 -- Numbers set one after the other, and what a caller is handed, by what the door or saturation comes to. Assumes nothing.
-use Rattle.std.specs.Prelude.{Some, None, Ok, Err}
+use Rattle.std.specs.Prelude.{Some, Ok}
 use mathlib.Core.Path.{◌≡◌, refl, sym, ap, ◌∙◌}
 use mathlib.Core.Bool.{Bool, true, false, cond}
 use mathlib.Core.List.{List, [], ◌∷◌, ◌++◌}
-use Prim.Native.Nat.{ℕ, ◌≤◌, ◌<◌}
+use Prim.Native.Nat.{ℕ, ◌≤◌}
 use native.Mathlib.Omega.{arith}
 use lib.Dec.{ltb}
 use lib.ListN.{length, drop, set}
 use lib.Seq.{take_all, take-nil, set_out}
 use lib.Ieee.{Float}
-use borrow.Author.Tests.{ltb-true, ltb-false, lt-ltb, le-ltb}
+use borrow.Author.Tests.{ltb-true, ltb-false}
 use Rattle.num_working.specs.Number.{whole}
 use Rattle.eos_state.specs.State.{eight}
 use Rattle.eos_state.specs.declared.State.{State}
 use Rattle.door_answers.specs.Answer.{Answer}
 use Rattle.door_conductivity.specs.declared.Carried.{Carried}
-use Rattle.door_conductivity.specs.Conducted.{Conducted}
-use Rattle.door_saturation.specs.declared.Saturation.{Saturation}
-use Rattle.interface_figures.specs.Figures.{HandedIn, with_eight, AnsweredIn, laid_over, counted, CarriedIn, CountedIn, with_three}
-
-pub eight_over : (l : List Float) (s : State) → 8 ≤ length l
-    → set (set (set (set (set (set (set (set l 0 s.t) 1 s.p) 2 s.rho) 3 s.u) 4 s.h) 5 s.cv) 6 s.cp) 7 s.w ≡ with_eight s l
-unfolding with_eight
-eight_over [] s h = absurd (omega arith)
-eight_over (x₀ ∷ []) s h = absurd (omega arith)
-eight_over (x₀ ∷ x₁ ∷ []) s h = absurd (omega arith)
-eight_over (x₀ ∷ x₁ ∷ x₂ ∷ []) s h = absurd (omega arith)
-eight_over (x₀ ∷ x₁ ∷ x₂ ∷ x₃ ∷ []) s h = absurd (omega arith)
-eight_over (x₀ ∷ x₁ ∷ x₂ ∷ x₃ ∷ x₄ ∷ []) s h = absurd (omega arith)
-eight_over (x₀ ∷ x₁ ∷ x₂ ∷ x₃ ∷ x₄ ∷ x₅ ∷ []) s h = absurd (omega arith)
-eight_over (x₀ ∷ x₁ ∷ x₂ ∷ x₃ ∷ x₄ ∷ x₅ ∷ x₆ ∷ []) s h = absurd (omega arith)
-eight_over (x₀ ∷ x₁ ∷ x₂ ∷ x₃ ∷ x₄ ∷ x₅ ∷ x₆ ∷ x₇ ∷ rest) s h = refl
-
-pub three_over : (l : List Float) (s : Saturation) → 3 ≤ length l → set (set (set l 0 s.pressure) 1 s.vapour) 2 s.liquid ≡ with_three s l
-unfolding with_three
-three_over [] s h = absurd (omega arith)
-three_over (x₀ ∷ []) s h = absurd (omega arith)
-three_over (x₀ ∷ x₁ ∷ []) s h = absurd (omega arith)
-three_over (x₀ ∷ x₁ ∷ x₂ ∷ rest) s h = refl
-
--- too few are lent, or enough
-module _ (least : ℕ) (old given : List Float) (number : ℕ) where
-  pub too_few : length old < least → HandedIn least old old given number 15
-  too_few h = record { number = rw (lt-ltb (length old) least h) refl; figures = rw (lt-ltb (length old) least h) refl }
-
-  pub enough : (new : List Float) (r : ℕ) → least ≤ length old → r ≡ number → new ≡ given → HandedIn least old new given number r
-  enough new r h e f = record { number = rw (le-ltb (length old) least h) e; figures = rw (le-ltb (length old) least h) f }
+use Rattle.interface_figures.specs.Figures.{with_eight, AnsweredIn, laid_over, counted, CarriedIn, CountedIn}
 
 -- ---- all that a state carries
 
@@ -78,18 +48,8 @@ state_counted old mid new a s r e p f =
       figures = f ∙ rw (p.figures, eight_laid old s (ltb (length old) 8) refl) (behind (eight s) old (whole s.fallen) (ltb (length old) 8) (omega arith) refl);
     })
 
-pub refused_counted : (old new : List Float) (a : Answer) (n r : ℕ) → a ≡ Err n → AnsweredIn old new a r → CountedIn old new a r
-refused_counted old new a n r e p = record { number = p.number; figures = rw e (rw e at p.figures) }
-
 -- and what it carries on request, handed over with the count before
-pub not_asked_in : (old new : List Float) (c : Carried) (r : ℕ) → c.conductivity ≡ None → CountedIn old new (Ok c.state) r
-    → CarriedIn old new (Ok c) r
-not_asked_in old new c r e p = record { number = p.number; figures = rw e p.figures }
-
 pub asked_in : (old mid new : List Float) (c : Carried) (x : Float) (r : ℕ) → c.conductivity ≡ Some x → CountedIn old mid (Ok c.state) r
     → new ≡ set mid 9 x → CarriedIn old new (Ok c) r
 asked_in old mid new c x r e p f =
     record { number = p.number; figures = f ∙ rw (p.figures, e) (behind (counted c.state) old x (ltb (length old) 8) (omega arith) refl) }
-
-pub refused_in : (old new : List Float) (n r : ℕ) → CountedIn old new (Err n) r → CarriedIn old new (Err n) r
-refused_in old new n r p = record { number = p.number; figures = p.figures }

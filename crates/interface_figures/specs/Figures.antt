@@ -30,7 +30,7 @@ with_eight s figures = eight s ++ drop 8 figures
 
 abbrev pub number_of : Answer → ℕ
 number_of (Ok s) = phase_number s.phase
-number_of (Err n) = n
+number_of (Err n) = n.0
 
 abbrev pub figures_of : Answer → List Float → List Float
 figures_of (Ok s) figures = with_eight s figures
@@ -60,7 +60,7 @@ carried c = counted c.state ++ on_request c.conductivity
 
 abbrev pub conducted_number : Conducted → ℕ
 conducted_number (Ok c) = phase_number c.state.phase
-conducted_number (Err n) = n
+conducted_number (Err n) = n.0
 
 abbrev pub carried_of : Conducted → List Float → List Float
 carried_of (Ok c) figures = laid_over (carried c) figures
@@ -90,7 +90,7 @@ with_three s figures = s.pressure ∷ s.vapour ∷ s.liquid ∷ drop 3 figures
 
 abbrev pub saturated_number : Saturated → ℕ
 saturated_number (Ok s) = 259
-saturated_number (Err n) = n
+saturated_number (Err n) = n.0
 
 abbrev pub saturated_of : Saturated → List Float → List Float
 saturated_of (Ok s) figures = with_three s figures

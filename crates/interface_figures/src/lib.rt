@@ -1,15 +1,17 @@
 // RULES 12: what the functions for C hand over in the figures that a caller lends, and the number that they return.
 #![tactic(auto)]
 
-ghost use Rattle.std.specs.Prelude.{◌≡◌, ◌≤◌, length, set};
+ghost use Rattle.std.specs.Prelude.{◌≡◌, ◌≤◌, Ok, length, set};
 ghost use Rattle.equation.specs.Equation.{of1996};
 ghost use Rattle.door_conductivity.specs.Conducted.{with_conductivity};
 ghost use Rattle.interface_figures.specs.Figures.{phase_number, with_eight, with_three, asked, AnsweredIn, CarriedIn, CountedIn, SaturatedIn};
 
 use door_conductivity::{Carried, with_conductivity};
-use door_saturation::{Saturation};
+use door_saturation::Saturation;
 use eos_state::{Phase, State};
+use refusal::Refusal;
 
+// The numbers, as all that are returned here, are those of the C interface (include/makhroeng.h).
 fn phase_number(phase: Phase) -> u32
     ensures { result ≡ phase_number phase }
 {
@@ -21,18 +23,12 @@ fn phase_number(phase: Phase) -> u32
 }
 
 // The eight numbers over the front of the figures.
+#[tactic(auto, unfolding(crate::specs::Figures::with_eight))]
 fn put_eight(s: State, figures: &mut [f64])
     requires { 8 ≤ length figures.old }
     ensures { figures.new ≡ with_eight s figures.old }
 {
-    figures[0] = s.t;
-    figures[1] = s.p;
-    figures[2] = s.rho;
-    figures[3] = s.u;
-    figures[4] = s.h;
-    figures[5] = s.cv;
-    figures[6] = s.cp;
-    figures[7] = s.w;
+    figures[..8].copy_from_slice(&[s.t, s.p, s.rho, s.u, s.h, s.cv, s.cp, s.w]);
 }
 
 // Of a door: its eight numbers.
@@ -44,11 +40,10 @@ pub fn put_answer(a: Result<State, Refusal>, figures: &mut [f64]) -> u32
     }
     match a {
         Ok(s) => {
-            let phase = s.phase;
             put_eight(s, figures);
-            phase_number(phase)
+            phase_number(s.phase)
         }
-        Err(n) => n as u32,
+        Err(Refusal(n)) => u32::from(n),
     }
 }
 
@@ -65,23 +60,20 @@ fn put_at(i: usize, x: f64, figures: &mut [f64])
 fn put_counted(a: Result<State, Refusal>, figures: &mut [f64]) -> u32
     ensures { CountedIn figures.old figures.new a result }
 {
+    let number = put_answer(a, figures);
     let Ok(s) = a else {
-        return put_answer(a, figures);
+        return number;
     };
-    let fallen = s.fallen as f64;
-    let number = put_answer(Ok(s), figures);
-    put_at(8, fallen, figures);
+    put_at(8, f64::from(s.fallen), figures);
     number
 }
 
 // Behind these what the state carries on request.
 fn put_carried(c: Carried, figures: &mut [f64]) -> u32
-    ensures { CarriedIn figures.old figures.new (Conducted.State c) result }
+    ensures { CarriedIn figures.old figures.new (Ok c) result }
 {
-    let state = c.state;
-    let conductivity = c.conductivity;
-    let number = put_counted(Ok(state), figures);
-    let Some(x) = conductivity else {
+    let number = put_counted(Ok(c.state), figures);
+    let Some(x) = c.conductivity else {
         return number;
     };
     put_at(9, x, figures);
@@ -98,6 +90,7 @@ fn put_conducted(c: Result<Carried, Refusal>, figures: &mut [f64]) -> u32
 }
 
 // All that a state carries: whoever lends ten asks for the conductivity.
+#[tactic(auto, unfolding(crate::specs::Figures::asked))]
 pub fn put_state(a: Result<State, Refusal>, figures: &mut [f64]) -> u32
     ensures { CarriedIn figures.old figures.new (with_conductivity of1996 (asked figures.old) a) result }
 {
@@ -106,13 +99,12 @@ pub fn put_state(a: Result<State, Refusal>, figures: &mut [f64]) -> u32
 }
 
 // The three numbers over the front of the figures.
+#[tactic(auto, unfolding(crate::specs::Figures::with_three))]
 fn put_three(s: Saturation, figures: &mut [f64])
     requires { 3 ≤ length figures.old }
     ensures { figures.new ≡ with_three s figures.old }
 {
-    figures[0] = s.pressure;
-    figures[1] = s.vapour;
-    figures[2] = s.liquid;
+    figures[..3].copy_from_slice(&[s.pressure, s.vapour, s.liquid]);
 }
 
 pub fn put_saturated(s: Result<Saturation, Refusal>, figures: &mut [f64]) -> u32
@@ -126,6 +118,6 @@ pub fn put_saturated(s: Result<Saturation, Refusal>, figures: &mut [f64]) -> u32
             put_three(x, figures);
             259
         }
-        Err(n) => n as u32,
+        Err(Refusal(n)) => u32::from(n),
     }
 }

@@ -1,23 +1,10 @@
 -- The lengths that fit. Assumes nothing.
-use mathlib.Core.Path.{◌≡◌, refl, sym, ◌∙◌}
+use mathlib.Core.Path.{◌≡◌, refl, sym}
 use mathlib.Core.Bool.{Bool, true, false, ◌&&◌, true≢false}
-use Prim.Native.Nat.{ℕ, ◌*◌, ◌/◌, ◌%◌}
-use native.Mathlib.Omega.{arith}
-use borrow.Author.Tests.{eqb-true, eqb-false, eq-eqb, ne_eqb}
+use Prim.Native.Nat.{ℕ, ◌*◌}
+use borrow.Author.Tests.{eqb-true, eq-eqb}
 use lib.Dec.{eqb}
 use Rattle.interface_states.specs.States.{fits}
-
--- two tests that hold together are one
-decided : (a b c d : ℕ) (x : Bool) → eqb a b ≡ x → (a ≡ b → c ≡ d) → (c ≡ d → a ≡ b) → eqb a b ≡ eqb c d
-decided a b c d true e to back = e ∙ sym (eq-eqb c d (to (eqb-true a b e)))
-decided a b c d false e to back = e ∙ sym (ne_eqb c d (λ q. eqb-false a b e (back q)))
-
--- a number is ten times another where the other is its tenth and nothing is left
-pub tenth : (f n : ℕ) → f / 10 ≡ n → eqb (f % 10) 0 ≡ eqb f (10 * n)
-tenth f n h = decided (f % 10) 0 f (10 * n) (eqb (f % 10) 0) refl (λ e. omega (arith, h, e)) (λ e. omega (arith, h, e))
-
-pub not_tenth : (f n : ℕ) → (f / 10 ≡ n → ⊥) → eqb (f / 10) n ≡ eqb f (10 * n)
-not_tenth f n h = decided (f / 10) n f (10 * n) (eqb (f / 10) n) refl (λ e. absurd (h e)) (λ e. omega (arith, e))
 
 -- what the three tests say
 each_true : (x y z : Bool) → (x && (y && z)) ≡ true → (x ≡ true) × ((y ≡ true) × (z ≡ true))

@@ -1,6 +1,6 @@
 -- After i turns the first i places are as they are given, and with what is left to do they make the whole. Assumes nothing.
 use mathlib.Core.Path.{◌≡◌, refl, sym, ap, ◌∙◌}
-use mathlib.Core.Bool.{true, false}
+use mathlib.Core.Bool.{true}
 use mathlib.Core.List.{List, [], ◌∷◌, ◌++◌, append_assoc, append-nil}
 use Prim.Native.Nat.{ℕ, zero, suc, ◌+◌, ◌*◌, ◌≤◌, ◌<◌}
 use native.Mathlib.Omega.{arith}
@@ -14,7 +14,6 @@ use Rattle.door_pressure.specs.PressureDoor.{pressure_door}
 use Rattle.door_conductivity.specs.Conducted.{with_conductivity, Conducted}
 use Rattle.interface_figures.specs.Figures.{conducted_number, carried_of, asked, CarriedIn}
 use Rattle.interface_states.specs.States.{all_fit, given, numbers, tens, StatesIn}
-use Rattle.interface_states.proofs.Fitting.{fitting}
 
 -- what the door gives a place, with the conductivity
 abbrev pub at : Float → Float → Conducted
@@ -47,26 +46,6 @@ pub record Turn (ts ps : List Float) (answers₀ answers : List ℕ) (figures₀
   pub within : i ≤ length ts
   pub answered : take i answers ++ numbers (drop i (given ts ps)) ≡ numbers (given ts ps)
   pub figured : take (10 * i) figures ++ tens (drop i (given ts ps)) (drop (10 * i) figures) ≡ tens (given ts ps) figures₀
-
-pub misfit : (ts ps : List Float) (answers : List ℕ) (figures : List Float) → all_fit ts ps answers figures ≡ false
-    → StatesIn ts ps answers answers figures figures 15
-misfit ts ps answers figures h = record { number = rw h refl; answered = rw h refl; figured = rw h refl }
-
-pub start : (ts ps : List Float) (answers : List ℕ) (figures : List Float) → all_fit ts ps answers figures ≡ true
-    → Turn ts ps answers answers figures figures 0
-start ts ps answers figures h =
-    let f = fitting _ _ _ _ h in
-    record {
-      fit = h;
-      even = f.0;
-      room = f.1.0;
-      tenfold = f.1.1;
-      same_answers = refl;
-      same_figures = refl;
-      within = omega arith;
-      answered = refl;
-      figured = refl;
-    }
 
 -- the ten figures of place i
 abbrev pub ten : ℕ → List Float → List Float

@@ -23,13 +23,7 @@ fn is_tenfold(figures: usize, n: usize) -> bool
 fn lengths_fit(temperatures: usize, pressures: usize, answers: usize, figures: usize) -> bool
     ensures { result ≡ fits temperatures pressures answers figures }
 {
-    if pressures != temperatures {
-        return false;
-    }
-    if answers != temperatures {
-        return false;
-    }
-    is_tenfold(figures, temperatures)
+    pressures == temperatures && answers == temperatures && is_tenfold(figures, temperatures)
 }
 
 // One place, by what is lent for it.
@@ -45,11 +39,9 @@ pub fn put_states(ts: &[f64], ps: &[f64], answers: &mut [u32], figures: &mut [f6
     if !lengths_fit(ts.len(), ps.len(), answers.len(), figures.len()) {
         return 15;
     }
-    let mut i = 0;
-    while i < ts.len() {
+    for i in 0..ts.len() {
         let at = 10 * i;
         answers[i] = put_place(ts[i], ps[i], &mut figures[at..at + 10]);
-        i += 1;
     }
     260
 }

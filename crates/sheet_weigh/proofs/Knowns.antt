@@ -7,7 +7,6 @@ use native.Mathlib.Numerals.{add-one}
 use native.Mathlib.Omega.{arith}
 use lib.ListN.{length, take, get_or, set, length-append, length-take}
 use lib.Seq.{take-suc}
-use Rattle.sheet_text.specs.Field.{Field}
 use Rattle.sheet_line.specs.declared.line.Line.{Line}
 use Rattle.sheet_read.specs.Padded.{padded}
 use Rattle.sheet_read.proofs.Paddings.{padded_length, padded_set, taken_back}

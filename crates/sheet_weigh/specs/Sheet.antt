@@ -1,13 +1,13 @@
 -- RULES 6.6, 7.1 and 7.2: what comes of a sheet, line by line. Definitions only.
 use Rattle.refusal.specs.Refused.{refused}
-use Rattle.std.specs.Prelude.{Float, ℕ, ◌^◌, ◌<◌, ◌≡◌, List, [], ◌∷◌, ◌++◌, length, take, get_or, Ok, Err}
+use Rattle.std.specs.Prelude.{Float, ℕ, ◌^◌, ◌<◌, ◌≡◌, List, [], ◌∷◌, ◌++◌, length, take, get_or, true, Option, Some, None, Ok, Err}
 use Rattle.door_limits.specs.declared.Limits.{Limits}
 use Rattle.sheet_mass.specs.declared.Milligrams.{Milligrams}
 use Rattle.sheet_line.specs.declared.line.Line.{Line}
 use Rattle.sheet_read.specs.Padded.{padded}
-use Rattle.sheet_read.specs.declared.SheetRead.{SheetRead}
+use Rattle.sheet_read.specs.declared.Sheet.{Sheet}
 use Rattle.sheet_standing.specs.Standing.{numbers}
-use Rattle.sheet_outcome.specs.Outcome.{admitted, total, ending, Weighed, Admitted}
+use Rattle.sheet_outcome.specs.Outcome.{admitted, total, ending, Admitted}
 use Rattle.sheet_outcome.specs.declared.Mark.{Mark}
 use Rattle.sheet_outcome.specs.declared.Marks.{Marks}
 use Rattle.sheet_outcome.specs.declared.Ending.{Ending}
@@ -35,10 +35,10 @@ module _ (L : Limits) where
   unfoldable pub marked : List (Line Float) → List Mark
   marked ls = marked_after [] ls
 
-  unfoldable pub outcome : SheetRead → Outcome
-  outcome r =
-      let s = r.sheet in
-      finished (admitted r.ok s.count s.need) (marked (take s.count s.lines))
+  -- a text that is not in the form has no sheet
+  unfoldable pub outcome : Option Sheet → Outcome
+  outcome None = finished (refused 14) []
+  outcome (Some s) = finished (admitted true s.count s.need) (marked (take s.count s.lines))
 
 -- ---- what code inside asks for, to add: each line's milligrams are below 2⁵³
 abbrev pub Light : List Mark → Type 0

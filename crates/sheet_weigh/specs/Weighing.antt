@@ -41,6 +41,9 @@ if_kelvin (Some t) f = f t
 abbrev pub is_volume : ℕ → Bool
 is_volume v = leb 1 v && leb v 1_000_000
 
+abbrev pub in_volume : ℕ → Check
+in_volume v = cond (is_volume v) (Ok tt) (refused 2)
+
 unfoldable pub filled : ℕ → Weighed → Weighed
 filled v w = cond (is_volume v) w (refused 2)
 

@@ -3,128 +3,97 @@
 #![tactic(auto)]
 
 ghost use Rattle.std.specs.Prelude.{◌≡◌, [], ◌≤◌, take};
-ghost use Rattle.sheet_mass.specs.Mass.{from_scale};
 ghost use Rattle.sheet_outcome.specs.Outcome.{marks_of, total};
-ghost use Rattle.sheet_line.specs.declared.line.Reading.{Reading};
-ghost use Rattle.sheet_weigh.specs.Weighing.{is_volume, milligrams, by_answer, on_scale, filled, by_reading, weighed, weighed_after};
+ghost use Rattle.sheet_weigh.specs.Weighing.{is_volume, in_volume, milligrams, by_reading, weighed, weighed_after};
 ghost use Rattle.sheet_weigh.specs.Sheet.{marks_for, finished, marked, outcome, Light};
 
-use door_answers::{refusal_number};
-use door_checks::{number_of};
 use door_density::from_density;
 use door_limits::Limits;
 use door_pressure::from_pressure;
-use num_whole::{whole_below};
+use num_whole::whole_below;
+use refusal::Refusal;
 use sheet_line::line::{Line, Reading};
-use sheet_mass::{Grams, Milligrams, from_scale};
+use sheet_mass::{Milligrams, from_scale};
 use sheet_outcome::{Ending, Mark, Marks, Outcome, admit, conclude};
-use sheet_read::{Sheet, SheetRead};
+use sheet_read::Sheet;
 use sheet_standing::standing_of;
 
+// RULES 2.4, in mL.
 pub fn is_volume(v: u64) -> bool
     ensures { result ≡ is_volume v }
 {
     v >= 1 && v <= 1_000_000
 }
 
+fn in_volume(v: u64) -> Result<(), Refusal>
+    ensures { result ≡ in_volume v }
+{
+    if is_volume(v) {
+        return Ok(());
+    }
+    Err(Refusal(2))
+}
+
+#[tactic(auto, unfolding(crate::specs::Weighing::milligrams, num_working::specs::Number::whole), using(crate::proofs::Weighings::in_float_lem))]
 fn milligrams(rho: f64, v: u64) -> Result<Milligrams, Refusal>
     requires { v ≤ 1_000_000 }
     ensures { result ≡ milligrams rho v }
 {
-    let Some(mg) = whole_below(rho * (v as f64)) else {
-        return Err(Refusal(7));
-    };
+    let mg = whole_below(rho * (v as f64)).ok_or(Refusal(7))?;
     Ok(Milligrams(mg))
 }
 
-// By the state's density, or the door's refusal handed on.
-fn by_answer(a: Result<State, Refusal>, v: u64) -> Result<Milligrams, Refusal>
-    requires { v ≤ 1_000_000 }
-    ensures { result ≡ by_answer a v }
-{
-    let Ok(s) = a else {
-        return Err(refusal_number(a));
-    };
-    milligrams(s.rho, v)
-}
-
-fn by_pressure(limits: Limits, k: Option<f64>, p: f64, v: u64) -> Result<Milligrams, Refusal>
-    ensures { result ≡ by_reading limits k v (Reading.Pressure p) }
-{
-    let Some(t) = k else {
-        return Err(Refusal(1));
-    };
-    if !is_volume(v) {
-        return Err(Refusal(2));
-    }
-    by_answer(from_pressure(limits, t, p), v)
-}
-
-fn by_density(limits: Limits, k: Option<f64>, d: f64, v: u64) -> Result<Milligrams, Refusal>
-    ensures { result ≡ by_reading limits k v (Reading.Density d) }
-{
-    let Some(t) = k else {
-        return Err(Refusal(1));
-    };
-    if !is_volume(v) {
-        return Err(Refusal(2));
-    }
-    by_answer(from_density(limits, t, d), v)
-}
-
-// No door is asked, and no temperature.
-fn by_scale(g: Grams, v: u64) -> Result<Milligrams, Refusal>
-    ensures { result ≡ filled v (on_scale (from_scale g)) }
-{
-    if !is_volume(v) {
-        return Err(Refusal(2));
-    }
-    let Some(mg) = from_scale(g) else {
-        return Err(Refusal(23));
-    };
-    Ok(mg)
-}
-
-// A reading that asks a door takes the temperature with it.
-fn by_reading(limits: Limits, k: Option<f64>, v: u64, r: Reading<f64>) -> Result<Milligrams, Refusal>
+// A reading that asks a door takes the temperature with it; a mass that was weighed asks none.
+#[tactic(auto, unfolding(crate::specs::Weighing::by_reading, crate::specs::Weighing::filled), using(crate::proofs::Weighings::volume_most))]
+fn by_reading(
+    limits: Limits,
+    k: Option<f64>,
+    v: u64,
+    r: Reading<f64>,
+) -> Result<Milligrams, Refusal>
     ensures { result ≡ by_reading limits k v r }
 {
     match r {
         Reading::Blank => Err(Refusal(1)),
-        Reading::Pressure(p) => by_pressure(limits, k, p, v),
-        Reading::Density(d) => by_density(limits, k, d, v),
-        Reading::Weighed(g) => by_scale(g, v),
+        Reading::Pressure(p) => {
+            let t = k.ok_or(Refusal(1))?;
+            in_volume(v)?;
+            let state = from_pressure(limits, t, p)?;
+            milligrams(state.rho, v)
+        }
+        Reading::Density(d) => {
+            let t = k.ok_or(Refusal(1))?;
+            in_volume(v)?;
+            let state = from_density(limits, t, d)?;
+            milligrams(state.rho, v)
+        }
+        Reading::Weighed(g) => {
+            in_volume(v)?;
+            from_scale(g).ok_or(Refusal(23))
+        }
     }
 }
 
+#[tactic(auto, unfolding(crate::specs::Weighing::weighed))]
 pub fn weigh(limits: Limits, l: Line<f64>) -> Result<Milligrams, Refusal>
     ensures { result ≡ weighed limits l }
 {
-    let number = l.number;
-    let volume = l.volume;
-    let temperature = l.temperature;
-    let reading = l.reading;
-    let Some(_) = number else {
-        return Err(Refusal(1));
-    };
-    let Some(v) = volume else {
-        return Err(Refusal(1));
-    };
-    by_reading(limits, temperature, v, reading)
+    l.number.ok_or(Refusal(1))?;
+    let v = l.volume.ok_or(Refusal(1))?;
+    by_reading(limits, l.temperature, v, l.reading)
 }
 
 // After lines with these cylinder numbers: 1, then 30, and else what the line alone comes to.
+#[tactic(auto, unfolding(crate::specs::Weighing::weighed_after))]
 fn weigh_after(limits: Limits, numbers: &[u64], l: Line<f64>) -> Result<Milligrams, Refusal>
     ensures { result ≡ weighed_after limits numbers.now l }
 {
-    let c = standing_of(numbers, l);
-    let Ok(()) = c else {
-        return Err(number_of(c));
-    };
+    standing_of(numbers, l)?;
     weigh(limits, l)
 }
 
-// Each line's milligrams or refusal; i counts the lines from 1, and known the cylinder numbers that were read.
+// Each line's milligrams or refusal; known counts the cylinder numbers that were read.
+#[tactic(auto, using(crate::proofs::Knowns::known_most, crate::proofs::Knowns::known_room))]
 fn weigh_all(limits: Limits, s: Sheet) -> Marks
     requires { s.count ≤ 32 }
     ensures { result ≡ marks_for (marked limits (take s.count s.lines)) }
@@ -135,48 +104,39 @@ fn weigh_all(limits: Limits, s: Sheet) -> Marks
     let mut marks = [none; 32];
     let mut numbers: [u64; 32] = [0; 32];
     let mut known: usize = 0;
-    let n = s.count;
-    let mut i: usize = 1;
-    while i <= n {
-        let l = s.lines[i - 1];
-        let number = l.number;
-        let w = weigh_after(limits, &numbers[..known], l);
-        marks[i - 1] = Mark { weighed: w };
-        if let Some(x) = number {
-            numbers[known] = x;
+    for i in 0..s.count {
+        let l = s.lines[i];
+        let weighed = weigh_after(limits, &numbers[..known], l);
+        marks[i] = Mark { weighed };
+        if let Some(number) = l.number {
+            numbers[known] = number;
             known += 1;
         }
-        i += 1;
     }
     Marks {
-        marks: marks,
-        count: n,
+        marks,
+        count: s.count,
     }
 }
 
+#[tactic(auto, using(sheet_outcome::proofs::Totals::onto_none, sheet_outcome::proofs::Totals::at_end, sheet_outcome::proofs::Totals::one_refused, sheet_outcome::proofs::Totals::one_more))]
 fn total(m: Marks) -> Option<Milligrams>
     requires count_bound { m.count ≤ 32 }
     requires light { Light (marks_of m) }
     ensures { result ≡ total (marks_of m) }
 {
-    let n = m.count;
     let mut sum: u64 = 0;
-    let mut i: usize = 0;
-    while i < n {
-        let mark = m.marks[i];
-        let w = mark.weighed;
-        let Ok(mg) = w else {
-            return None;
-        };
+    for mark in &m.marks[..m.count] {
+        let mg = mark.weighed.ok()?;
         sum += mg.0;
-        i += 1;
     }
     Some(Milligrams(sum))
 }
 
 // A sheet that is sent back before its lines are worked.
-fn send_back(number: u8) -> Outcome
-    ensures { result ≡ finished (Admitted.SentBack number) [] }
+#[tactic(auto, unfolding(crate::specs::Sheet::marks_for, sheet_read::specs::Padded::padded))]
+fn send_back(why: Refusal) -> Outcome
+    ensures { result ≡ finished (Err why) [] }
 {
     let none = Mark {
         weighed: Err(Refusal(0)),
@@ -186,30 +146,32 @@ fn send_back(number: u8) -> Outcome
             marks: [none; 32],
             count: 0,
         },
-        ending: Ending::SentBack(number),
+        ending: Ending::SentBack(why),
     }
 }
 
 // A sheet that is worked.
 fn work(limits: Limits, s: Sheet, need: u64) -> Outcome
     requires { s.count ≤ 32 }
-    ensures { result ≡ finished (Admitted.Need need) (marked limits (take s.count s.lines)) }
+    ensures { result ≡ finished (Ok need) (marked limits (take s.count s.lines)) }
 {
-    let m = weigh_all(limits, s);
-    let e = conclude(need, total(m));
+    let marks = weigh_all(limits, s);
     Outcome {
-        marks: m,
-        ending: e,
+        marks,
+        ending: conclude(need, total(marks)),
     }
 }
 
-pub fn weigh_sheet(limits: Limits, r: SheetRead) -> Outcome
+// 14 of a text that is not in the form, which has no sheet.
+#[tactic(auto, unfolding(crate::specs::Sheet::outcome), using(sheet_outcome::proofs::Admissions::few))]
+pub fn weigh_sheet(limits: Limits, r: Option<Sheet>) -> Outcome
     ensures { result ≡ outcome limits r }
 {
-    let s = r.sheet;
-    let need = s.need;
-    match admit(r.ok, s.count, need) {
-        Err(number) => send_back(number),
-        Ok(mg) => work(limits, s, mg),
+    let Some(s) = r else {
+        return send_back(Refusal(14));
+    };
+    match admit(true, s.count, s.need) {
+        Err(why) => send_back(why),
+        Ok(need) => work(limits, s, need),
     }
 }

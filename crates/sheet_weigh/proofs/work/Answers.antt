@@ -2,9 +2,9 @@
 use Rattle.std.specs.Prelude.{Float}
 use mathlib.Core.List.{List}
 use Prim.Native.Nat.{ℕ, ◌≤◌}
-use Rattle.sheet_line.specs.declared.line.Line.{Line}
 use native.Mathlib.Omega.{arith}
 use lib.ListN.{length, take, length-take}
+use Rattle.sheet_line.specs.declared.line.Line.{Line}
 use Rattle.sheet_weigh.proofs.Markings.{marks_of_lem, fit_to_add}
 use Rattle.sheet_weigh.proofs.work.Goals as goal
 
@@ -15,9 +15,9 @@ pub total-requires : goal.total-requires
 total-requires c =
     let s = c.args.s in
     let f = fit_to_add c.args.limits (take s.count s.lines) (few s.count s.lines c.requires) in
-    rw c.weigh_all-m.ensures (record { count_bound = f.0; light = f.1 })
+    rw c.weigh_all-marks.ensures (record { count_bound = f.0; light = f.1 })
 
 pub returns : goal.returns
 returns c =
     let s = c.args.s in
-    rw (c.conclude-e.ensures, c.total.ensures, c.weigh_all-m.ensures, marks_of_lem _ _ (few s.count s.lines c.requires))
+    rw (c.conclude.ensures, c.total.ensures, c.weigh_all-marks.ensures, marks_of_lem _ _ (few s.count s.lines c.requires))

@@ -1,4 +1,4 @@
--- A density is compared with 750, of a weight it was, and a refusal has none. Assumes nothing.
+-- A density is compared with 750. Assumes nothing.
 use mathlib.Core.Path.{refl}
 use lib.Ieee.{of_bits, of_int}
 use Rattle.num_working.specs.Number.{whole}
@@ -7,6 +7,3 @@ use Rattle.desk_look.proofs.held.is_heavy.Goals as goal
 pub returns-in-Mass : goal.returns-in-Mass
 unfolding whole of_bits of_int
 returns-in-Mass c = rw c.in-Mass.is refl
-
-pub returns-in-Weighed : goal.returns-in-Weighed
-returns-in-Weighed c = rw c.in-Weighed.is refl

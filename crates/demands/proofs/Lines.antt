@@ -10,7 +10,7 @@ use Rattle.num_working.specs.Number.{whole}
 use Rattle.sheet_text.specs.Field.{Field}
 use Rattle.sheet_mass.specs.Mass.{as_grams, as_milligrams, is_mass, milligrams_of, from_scale, Scaled}
 use Rattle.sheet_line.specs.Record.{recorded_of}
-use Rattle.sheet_line.specs.Line.{temperature_of, reading_of, line_of, Temperature}
+use Rattle.sheet_line.specs.Line.{temperature_of, reading_of, line_of}
 use Rattle.sheet_line.specs.declared.cylinder.Kind.{Kind}
 use Rattle.sheet_line.specs.declared.cylinder.Cylinder.{Cylinder}
 use Rattle.eos_state.specs.declared.State.{State}

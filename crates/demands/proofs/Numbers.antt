@@ -1,8 +1,8 @@
 -- The number of a line's refusal: from 1 to 9, 19 or 23; on its sheet also 30, and that only of a number that stands there twice. Assumes nothing.
 use Rattle.refusal.specs.Refused.{refused}
-use Rattle.std.specs.Prelude.{Some, Err}
+use Rattle.std.specs.Prelude.{Some}
 use Prim.Native.Nat.{ℕ, ◌≤◌, ◌<◌}
-use mathlib.Core.Path.{◌≡◌, refl, subst}
+use mathlib.Core.Path.{◌≡◌, refl, sym, subst}
 use mathlib.Core.List.{List, map}
 use native.Mathlib.Omega.{arith}
 use lib.ListN.{length}
@@ -16,7 +16,6 @@ use Rattle.sheet_standing.specs.Standing.{first_with}
 use Rattle.sheet_standing.proofs.Firsts.{First, first_of_again}
 use Rattle.door_limits.specs.declared.Limits.{Limits}
 use Rattle.door_answers.specs.Answer.{Answer}
-use Rattle.sheet_outcome.specs.Outcome.{Weighed}
 use Rattle.demands.specs.Demands.{Exactly, Numbered, to_9, is_19, Settled, given, not_given}
 use Rattle.demands.specs.Lines as lines
 use Rattle.demands.specs.Lines.{Dashed, Asked, by_pressure, by_density, RefusesLine, no_volume, no_volume_weighed, no_mass, by_door, no_product}

@@ -1,8 +1,9 @@
 -- The checks on the inputs and that of the melting line, by what they find. Assumes nothing.
 use Rattle.refusal.specs.Refused.{refused}
-use Rattle.std.specs.Prelude.{Some, None, Ok, Err}
+use Rattle.refusal.specs.declared.Refusal.{Refusal}
+use Rattle.std.specs.Prelude.{Some, None, Ok, Err, Result}
 use Prim.Native.Nat.{ℕ}
-use mathlib.Core.Path.{◌≡◌, refl, sym}
+use mathlib.Core.Path.{◌≡◌, refl, sym, ap}
 use mathlib.Core.Bool.{Bool, true, false, ◌&&◌, not, true≢false}
 use borrow.Author.Tests.{not-true, not-false}
 use lib.Ieee.{Float, lt}
@@ -14,6 +15,14 @@ use Rattle.door_limits.specs.declared.Range.{Range}
 use Rattle.door_checks.specs.Check.{ranged, solid, Check}
 use Rattle.door_answers.specs.Answer.{passed, Answer}
 use Rattle.demands.specs.Demands.{OutOfRange, no_number, no_temperature, no_value, InRange, Fluid}
+
+-- ---- two refusals that are the same have one number
+abbrev number_in : {A : Type 0} → Result A Refusal → ℕ
+number_in (Ok x) = 0
+number_in (Err n) = n.0
+
+pub same_number : {A : Type 0} {m n : ℕ} → refused {A = A} m ≡ refused n → m ≡ n
+same_number e = ap number_in e
 
 -- ---- both are numbers
 pub first : (a b : Bool) → (a && b) ≡ true → a ≡ true

@@ -22,11 +22,12 @@ use Rattle.door_pressure.proofs.from_pressure.Reads as from_pressure
 use Rattle.door_density.specs.DensityDoor as density
 use Rattle.door_density.specs.DensityDoor.{density_door}
 use Rattle.door_density.proofs.from_density.Reads as from_density
-use Rattle.door_conductivity.specs.Conducted.{carrying, conducting, with_conductivity, Conductivity}
+use Rattle.door_conductivity.specs.Conducted.{carrying, conducting, with_conductivity, Conductivity, Conducted}
 use Rattle.door_conductivity.specs.declared.Carried.{Carried}
 use Rattle.door_conductivity.proofs.with_conductivity.Reads as with_conductivity_reads
 use Rattle.demands.specs.Demands.{Whatever, Exactly, Settled, given, not_given, to_9}
 use Rattle.demands.specs.Conductivities.{without_conductivity, Unasked, PressureByAny, DensityByAny, RefusesAsked, by_door, no_conductivity, AnswersAsked, AskedRefusals, AskedAnswers, SettledAsked, given_with, given_none, SameConductivity}
+use Rattle.demands.proofs.Checks.{same_number}
 use Rattle.demands.proofs.PressureDoors.{pressure_answers}
 use Rattle.demands.proofs.DensityDoors.{density_answers}
 
@@ -56,10 +57,10 @@ module _ (E : Equation) where
 
   refused_of : (s : State) (w : Worked) → E.conductivity s.t s.rho ≡ w → (n : ℕ)
       → or_else w (refused 7) (λ x. carrying s (Some x)) ≡ refused n → RefusesAsked E (Ok s) n
-  refused_of s None e n h = let m : 7 ≡ n = cc in rw (← m) (no_conductivity refl e)
+  refused_of s None e n h = let m : 7 ≡ n = same_number h in rw (← m) (no_conductivity refl e)
   refused_of s (Some x) e n h = never (cc)
 
-  door_back : (m : Refusal) (n : ℕ) → RefusesAsked E (Err m) n → Err m ≡ refused n
+  door_back : (m : Refusal) (n : ℕ) → RefusesAsked E (Err m) n → ◌≡◌ {A = Conducted} (Err m) (refused n)
   door_back m n (by_door h) = cc
   door_back m n (no_conductivity h k) = never (cc)
 

@@ -1,6 +1,6 @@
 -- The density door, over any equation and any limits: each refusal exactly under its condition, and what an answer means. Assumes nothing.
 use Rattle.refusal.specs.Refused.{refused}
-use Rattle.std.specs.Prelude.{Some, None, Ok, Err}
+use Rattle.std.specs.Prelude.{Some, None, Ok}
 use Prim.Native.Nat.{ℕ}
 use mathlib.Core.Path.{◌≡◌, refl, sym, ap, subst, ◌∙◌}
 use mathlib.Core.Bool.{Bool, true, false, cond, ◌&&◌, not}
@@ -18,7 +18,7 @@ use Rattle.door_checks.specs.Check.{solid, boxed, Check}
 use Rattle.door_answers.specs.Answer.{passed, answer_with, Answer}
 use Rattle.door_density.specs.DensityDoor.{in_phase, beneath, entered, unboxed, density_door}
 use Rattle.demands.specs.Demands.{Fluid, InRangeD, in_box_d, PastD, Phased, above_critical, as_vapour, as_liquid, RefusesD, out_of_ranges, in_the_box, no_vapour, no_liquid, between, no_pressure, pressure_outside, no_melting, solid_there, no_state, AnsweredD, DensityRefusals, DensityAnswers}
-use Rattle.demands.proofs.Checks.{stops, passes, finds, stops_back, passes_back, melts}
+use Rattle.demands.proofs.Checks.{same_number, stops, passes, finds, stops_back, passes_back, melts}
 
 module _ (E : Equation) (L : Limits) (lawful : Lawful E) (t rho : Float) where
   -- ---- an answer of the door, explained
@@ -115,7 +115,7 @@ module _ (E : Equation) (L : Limits) (lawful : Lawful E) where
   density_refusals t rho n = (go (explained E L lawful t rho), refuses_back E L lawful t rho)
     where
       go : Explains E L lawful t rho (density_door E L t rho) → density_door E L t rho ≡ refused n → RefusesD E L t rho n
-      go (refuses m f w) e = let q : m ≡ n = cc in subst (RefusesD E L t rho) q w
+      go (refuses m f w) e = let q : m ≡ n = same_number (sym f ∙ e) in subst (RefusesD E L t rho) q w
       go (answers x f a) e = let z : ◌≡◌ {A = ℕ} 0 1 = cc in absurd (omega arith)
 
   pub density_answers : DensityAnswers E L

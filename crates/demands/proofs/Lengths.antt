@@ -70,13 +70,13 @@ lines_most i (m ∷ ms) each h =
 abbrev number_in : Ending → ℕ
 number_in (Ending.Covered mg) = mg.0
 number_in (Ending.Short mg) = mg.0
-number_in (Ending.SentBack n) = n
+number_in (Ending.SentBack n) = n.0
 
 ending_most : (e : Ending) → number_in e < 10 ^ 20 → (1 ≤ length (ending_bytes e)) × (length (ending_bytes e) ≤ 40)
 unfolding ending_bytes
 ending_most (Ending.Covered mg) h = (omega arith, omega (arith, between_most (ascii "TOTAL ") mg.0 (ascii " COVERED\n") h))
 ending_most (Ending.Short mg) h = (omega arith, omega (arith, between_most (ascii "TOTAL ") mg.0 (ascii " SHORT\n") h))
-ending_most (Ending.SentBack n) h = (omega arith, omega (arith, between_most (ascii "SENT BACK ") n (ascii "\n") h))
+ending_most (Ending.SentBack n) h = (omega arith, omega (arith, between_most (ascii "SENT BACK ") n.0 (ascii "\n") h))
 
 -- ---- the report
 
@@ -84,8 +84,8 @@ abbrev Sized : List ℕ → Type 0
 Sized bs = (1 ≤ length bs) × (length bs ≤ 1512)
 
 module _ (L : Limits) (t : List ℕ) where
-  alone : (n : ℕ) → n < 10 ^ 20 → Sized (ending_bytes (Ending.SentBack n))
-  alone n h = let r = ending_most (Ending.SentBack n) h in (r.0, omega (arith, r.1))
+  alone : (n : ℕ) → n < 10 ^ 20 → Sized (ending_bytes (Ending.SentBack (record { 0 = n })))
+  alone n h = let r = ending_most (Ending.SentBack (record { 0 = n })) h in (r.0, omega (arith, r.1))
 
   after_lines : {b : Bank} → Lined t b → (e : Ending) → number_in e < 10 ^ 20 → Sized (lines_bytes 1 (marked L (sheets.lines b)) ++ ending_bytes e)
   after_lines {b} l e h =
@@ -104,8 +104,8 @@ module _ (L : Limits) (t : List ℕ) where
   report_length (no_lines e z) = alone 10 (omega arith)
   report_length (many_lines e h) = alone 11 (omega arith)
   report_length (no_need l n) = alone 12 (omega arith)
-  report_length (one_refused n r) = after_lines n.lined (Ending.SentBack 13) (omega arith)
-  report_length (named_twice n w) = after_lines n.lined (Ending.SentBack 13) (omega arith)
+  report_length (one_refused n r) = after_lines n.lined (Ending.SentBack (record { 0 = 13 })) (omega arith)
+  report_length (named_twice n w) = after_lines n.lined (Ending.SentBack (record { 0 = 13 })) (omega arith)
   report_length (covered {b} {need} {mgs} n once a h) = after_lines n.lined (Ending.Covered (as_milligrams (sum mgs))) (total_most n.lined a)
   report_length (short {b} {need} {mgs} n once a h) = after_lines n.lined (Ending.Short (as_milligrams (sum mgs))) (total_most n.lined a)
 

@@ -10,7 +10,7 @@ use Rattle.num_working.specs.Number.{whole}
 use Rattle.sheet_text.specs.Field.{Field}
 use Rattle.sheet_mass.specs.Mass.{as_grams, as_milligrams, is_mass, milligrams_of, from_scale, Scaled}
 use Rattle.sheet_line.specs.Record.{recorded_of}
-use Rattle.sheet_line.specs.Line.{temperature_of, reading_of, line_of, Temperature}
+use Rattle.sheet_line.specs.Line.{temperature_of, reading_of, line_of}
 use Rattle.sheet_line.specs.declared.cylinder.Kind.{Kind}
 use Rattle.sheet_line.specs.declared.cylinder.Cylinder.{Cylinder}
 use Rattle.eos_state.specs.declared.State.{State}
@@ -25,6 +25,7 @@ use Rattle.sheet_weigh.specs.Weighing.{if_number, is_volume, filled, on_scale, m
 use Rattle.sheet_outcome.specs.Outcome.{Weighed}
 use Rattle.sheet_report.proofs.Reports.{number_of}
 use Rattle.demands.specs.Demands.{Exactly}
+use Rattle.demands.proofs.Checks.{same_number}
 use Rattle.demands.proofs.Ranges.{Outside, below_one, above_top, inside, outside, is_inside, is_outside}
 use Rattle.demands.specs.Lines as lines
 use Rattle.demands.specs.Lines.{AtDoor, for_pressure, for_density, Dashed, in_number, in_temperature, in_value, in_volume, Asked, by_pressure, by_density, Figures, Volume, NoVolume, none, too_large, Mass, NoMass, no_grams, too_heavy, OnScale, product, RefusesLine, no_volume, no_volume_weighed, no_mass, by_door, no_product, Weighs, by_product, by_scale}
@@ -176,7 +177,7 @@ module _ (L : Limits) where
   -- ---- each refusal exactly under its condition, and the milligrams exactly as they are defined
 
   refuses : (c : Cylinder) (w : Weighed) (k : ℕ) → Comes c w → w ≡ refusal.refused k → RefusesLine L c k
-  refuses c w k (refused {n} r) e = let q : n ≡ k = cc in subst (RefusesLine L c) q r
+  refuses c w k (refused {n} r) e = let q : n ≡ k = same_number e in subst (RefusesLine L c) q r
   refuses c w k (weighs x) e = let z : ◌≡◌ {A = ℕ} 0 1 = cc in absurd (omega arith)
 
   is_weighed : (c : Cylinder) (w : Weighed) (k : ℕ) → Comes c w → w ≡ Ok (as_milligrams k) → Weighs L c k

@@ -17,7 +17,7 @@ use lib.Ieee.Positive.{den, den_pos, positive, value→cross}
 use lib.Ieee.Scale.{finite}
 use Rattle.num_working.specs.Number.{whole, decimal, fraction, nonneg}
 use Rattle.num_working.specs.Working.{Worked}
-use Rattle.num_whole.specs.Whole.{whole_below, Below}
+use Rattle.num_whole.specs.Whole.{whole_below}
 use Rattle.num_whole.proofs.Wholes.{is_at_or_below}
 use Rattle.num_laws.proofs.Orders.{cross, under, round_unsigned, bits_mono, Ordered}
 use Rattle.num_laws.proofs.Sums.{Ranked, ordered, not_below, onward, mul_keeps}

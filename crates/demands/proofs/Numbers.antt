@@ -1,8 +1,8 @@
 -- The number of a line's refusal: from 1 to 9, 19 or 23; on its sheet also 30, and that only of a number that stands there twice. Assumes nothing.
 use Rattle.refusal.specs.Refused.{refused}
-use Rattle.std.specs.Prelude.{Some, Err}
+use Rattle.std.specs.Prelude.{Some}
 use Prim.Native.Nat.{ℕ, ◌≤◌, ◌<◌}
-use mathlib.Core.Path.{◌≡◌, refl, subst}
+use mathlib.Core.Path.{◌≡◌, refl, sym, subst}
 use mathlib.Core.List.{List, map}
 use native.Mathlib.Omega.{arith}
 use lib.ListN.{length}
@@ -16,11 +16,11 @@ use Rattle.sheet_standing.specs.Standing.{first_with}
 use Rattle.sheet_standing.proofs.Firsts.{First, first_of_again}
 use Rattle.door_limits.specs.declared.Limits.{Limits}
 use Rattle.door_answers.specs.Answer.{Answer}
-use Rattle.sheet_outcome.specs.Outcome.{Weighed}
 use Rattle.demands.specs.Demands.{Exactly, Numbered, to_9, is_19, Settled, given, not_given}
 use Rattle.demands.specs.Lines as lines
 use Rattle.demands.specs.Lines.{Dashed, Asked, by_pressure, by_density, RefusesLine, no_volume, no_volume_weighed, no_mass, by_door, no_product}
 use Rattle.demands.specs.Twice.{at, Again, came, RefusesAt, lacks, is_again, alone, NumberedAlone, as_door, is_23, NumberedAt, as_alone, is_30}
+use Rattle.demands.proofs.Checks.{same_number}
 use Rattle.demands.proofs.Demands.{pressure_settles, density_settles}
 use Rattle.demands.proofs.Twice.{stands_again, refusals_at}
 
@@ -36,7 +36,7 @@ from_1 is_19 = is_19
 
 door_number : {n : ℕ} → Settled (refused n) → Numbered 1 n
 door_number (given x e) = let z : ◌≡◌ {A = ℕ} 0 1 = cc in absurd (omega arith)
-door_number {n} (not_given m e k) = let z : m ≡ n = cc in subst (Numbered 1) z (from_1 k)
+door_number {n} (not_given m e k) = let z : m ≡ n = same_number (sym e) in subst (Numbered 1) z (from_1 k)
 
 one_to_9 : (n : ℕ) → 1 ≤ n → n ≤ 9 → NumberedAlone n
 one_to_9 n h k = as_door (to_9 n h k)

@@ -26,7 +26,7 @@ use Rattle.door_pressure.proofs.Doors.{Reached, searchable, scaled_reached}
 use Rattle.door_pressure.proofs.Searches.{bits_below}
 use Rattle.demands.specs.Demands as demands
 use Rattle.demands.specs.Demands.{Fluid, InRangeP, in_box_p, PastP, Beside, lower, higher, Ranged, supercritical, RefusesP, out_of_range, melting_fails, in_critical_box, line_fails, on_line, vapour_fails, liquid_fails, no_crossing, probe_fails, state_fails, Answered, PressureRefusals, PressureAnswers, NoCrossingExactly}
-use Rattle.demands.proofs.Checks.{stops, passes, finds, stops_back, passes_back, melts, thawed_back}
+use Rattle.demands.proofs.Checks.{same_number, stops, passes, finds, stops_back, passes_back, melts, thawed_back}
 
 -- ---- the ends of a range have no minus sign, and are numbers that an f64 holds
 pub record Ends (from to : Float) : Type 0 where
@@ -168,7 +168,7 @@ module _ (E : Equation) (L : Limits) (lawful : Lawful E) where
   pressure_refusals t p n = (go (explained E L lawful t p), refuses_back E L lawful t p)
     where
       go : Explains E L lawful t p (pressure_door E L t p) → pressure_door E L t p ≡ refused n → RefusesP E L t p n
-      go (refuses m f w) e = let q : m ≡ n = cc in subst (RefusesP E L t p) q w
+      go (refuses m f w) e = let q : m ≡ n = same_number (sym f ∙ e) in subst (RefusesP E L t p) q w
       go (answers x f a) e = let z : ◌≡◌ {A = ℕ} 0 1 = cc in absurd (omega arith)
 
   pub pressure_answers : PressureAnswers E L
@@ -185,14 +185,14 @@ module _ (E : Equation) (L : Limits) (lawful : Lawful E) where
       (λ e. is_nowhere (sym (searches E L lawful t p past ranged) ∙ e), λ n. refuses_back E L lawful t p (no_crossing past ranged n))
     where
       of_state : (s : Stated) → answer_with s ≡ refused 9 → ⊥
-      of_state None e = let z : ◌≡◌ {A = ℕ} 7 9 = cc in omega arith
+      of_state None e = let z : ◌≡◌ {A = ℕ} 7 9 = same_number e in omega arith
       of_state (Some y) e = let z : ◌≡◌ {A = ℕ} 0 1 = cc in omega arith
 
       of_crossing : (c : Crossing) → halve (figure (E.pressure t)) p (to_bits binary64 from) (to_bits binary64 to) ≡ c
           → found (E.state t phase) c ≡ refused 9 → NoCrossing (figure (E.pressure t)) p (to_bits binary64 from) (to_bits binary64 to)
       of_crossing (Ok r) e g = absurd (of_state (E.state t phase (of_bits binary64 r)) g)
       of_crossing (Err Nowhere) e g = nowhere (figure (E.pressure t)) p (to_bits binary64 from) (to_bits binary64 to) (top E L lawful t p ranged) e
-      of_crossing (Err Broke) e g = let z : ◌≡◌ {A = ℕ} 7 9 = cc in absurd (omega arith)
+      of_crossing (Err Broke) e g = let z : ◌≡◌ {A = ℕ} 7 9 = same_number g in absurd (omega arith)
 
       is_nowhere : searched (E.pressure t) (E.state t phase) from to p ≡ refused 9
           → NoCrossing (figure (E.pressure t)) p (to_bits binary64 from) (to_bits binary64 to)

@@ -1,6 +1,6 @@
 -- A line on its sheet: each refusal exactly under its condition, 30 among them; and where no number stands twice, all as it was. Assumes nothing.
 use Rattle.refusal.specs.Refused as refusal
-use Rattle.std.specs.Prelude.{Float, Some, None, Ok, Err, Option}
+use Rattle.std.specs.Prelude.{Float, Some, None, Ok, Option}
 use Prim.Native.Nat.{ℕ, zero, suc, ◌<◌}
 use mathlib.Core.Path.{◌≡◌, refl, sym, ap, subst, ◌∙◌}
 use mathlib.Core.Bool.{Bool, true, false, cond, ◌||◌, true≢false}
@@ -15,7 +15,7 @@ use Rattle.sheet_text.specs.Field.{Field}
 use Rattle.sheet_mass.specs.Mass.{as_milligrams}
 use Rattle.sheet_mass.specs.declared.Milligrams.{Milligrams}
 use Rattle.sheet_line.specs.Record.{recorded_of}
-use Rattle.sheet_line.specs.Line.{temperature_of, reading_of, line_of, blank_line, Temperature}
+use Rattle.sheet_line.specs.Line.{temperature_of, reading_of, line_of, blank_line}
 use Rattle.sheet_line.specs.declared.cylinder.Kind.{Kind}
 use Rattle.sheet_line.specs.declared.cylinder.Cylinder.{Cylinder}
 use Rattle.sheet_line.specs.declared.line.Line.{Line}
@@ -23,7 +23,7 @@ use Rattle.sheet_read.specs.Form.{Bank}
 use Rattle.door_checks.specs.Check.{Check}
 use Rattle.sheet_standing.specs.Standing.{if_numbered, no_volume, no_reading, lacking, is_on, numbers, standing}
 use Rattle.sheet_standing.proofs.Named.{named, is_named}
-use Rattle.sheet_outcome.specs.Outcome.{admitted, Admitted, Weighed}
+use Rattle.sheet_outcome.specs.Outcome.{admitted, Weighed}
 use Rattle.sheet_outcome.specs.declared.Mark.{Mark}
 use Rattle.sheet_weigh.specs.Weighing.{weighed, if_passed, weighed_after}
 use Rattle.sheet_weigh.specs.Sheet.{marked}
@@ -32,6 +32,7 @@ use Rattle.sheet_score.specs.Score.{listed, report}
 use Rattle.demands.specs.Demands.{Exactly}
 use Rattle.demands.specs.Lines.{AtDoor, for_pressure, for_density, Dashed, in_number, in_temperature, in_value, in_volume}
 use Rattle.demands.specs.Twice.{at, Again, Twice, no_mark, came, RefusesAt, lacks, is_again, alone, WeighsAt, marked_before, report_before}
+use Rattle.demands.proofs.Checks.{same_number}
 use Rattle.demands.proofs.Lines.{not_weighed, dash_refused, line_refusals, line_answers}
 
 -- ---- 1: a field that the line requires is blank, as it is written and as it is read
@@ -145,7 +146,7 @@ module _ (cs : List Cylinder) (i : ℕ) where
   stands_ready : (Dashed (at cs i) → ⊥) → (Again cs i → ⊥) → stands ≡ Ok tt
   stands_ready h a = by_number h (Ok tt) (λ n e. go n e (is_on (numbers above) n) refl)
     where
-      go : (n : ℕ) → (at cs i).number ≡ Some n → (b : Bool) → is_on (numbers above) n ≡ b → cond b (refusal.refused 30) (Ok tt) ≡ Ok tt
+      go : (n : ℕ) → (at cs i).number ≡ Some n → (b : Bool) → is_on (numbers above) n ≡ b → ◌≡◌ {A = Check} (cond b (refusal.refused 30) (Ok tt)) (Ok tt)
       go n e true p = absurd (a (on_again n e p))
       go n e false p = refl
 
@@ -172,9 +173,6 @@ module _ (cs : List Cylinder) (i : ℕ) where
       by_field (Some n) e false p = by_on (not_dashed e p) n e (is_on (numbers above) n) refl
 
 -- ---- what came of it
-
-same_number : {m n : ℕ} → refusal.refused {A = Milligrams} m ≡ refusal.refused n → m ≡ n
-same_number e = cc
 
 pub no_mass : {A : Type 0} {n : ℕ} {mg : Milligrams} → refusal.refused n ≡ Ok mg → A
 no_mass e = let z : ◌≡◌ {A = ℕ} 0 1 = cc in absurd (omega arith)

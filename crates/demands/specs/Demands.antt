@@ -1,6 +1,6 @@
 -- RULES 10.1: what is demanded of the doors, over any equation and any limits: when each refusal is given, and what an answer means. Definitions only.
 use Rattle.refusal.specs.Refused.{refused}
-use Rattle.std.specs.Prelude.{ℕ, ◌+◌, ◌<◌, ◌≤◌, ◌≡◌, Bool, true, false, ◌&&◌, not, T, Float, Some, None, Ok, Err}
+use Rattle.std.specs.Prelude.{ℕ, ◌+◌, ◌<◌, ◌≤◌, ◌≡◌, Bool, true, false, ◌&&◌, not, T, Float, Some, None, Ok}
 use Rattle.std.specs.Float.{binary64}
 use Rattle.std.specs.Float.Ieee.{eq, lt, le, of_bits, to_bits}
 use Rattle.std.specs.Float.Ieee.Scale.{finite}

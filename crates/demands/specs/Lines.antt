@@ -1,7 +1,7 @@
 -- RULES 10.1: what is demanded of a cylinder's line by itself, as it is written: when each refusal is given, in the order of RULES 3.2 but for 30, and what its
 -- milligrams are. Definitions only.
 use Rattle.refusal.specs.Refused.{refused}
-use Rattle.std.specs.Prelude.{ℕ, ◌*◌, ◌≤◌, ◌<◌, ◌≡◌, Float, Some, None, Ok, Err}
+use Rattle.std.specs.Prelude.{ℕ, ◌*◌, ◌≤◌, ◌<◌, ◌≡◌, Float, Some, None, Ok}
 use Rattle.std.specs.Float.{binary64}
 use Rattle.std.specs.Float.Ieee.{div, mul}
 use Rattle.num_working.specs.Number.{whole}
@@ -14,7 +14,7 @@ use Rattle.door_limits.specs.declared.Limits.{Limits}
 use Rattle.door_answers.specs.Answer.{Answer}
 use Rattle.door_pressure.specs.PressureDoor.{pressure_door}
 use Rattle.door_density.specs.DensityDoor.{density_door}
-use Rattle.num_whole.specs.Whole.{whole_below, Below}
+use Rattle.num_whole.specs.Whole.{whole_below}
 
 -- a kind whose value is asked at a door, with a temperature; one that was weighed is asked at none
 pub data AtDoor : Kind → Type 0 where

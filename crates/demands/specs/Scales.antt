@@ -1,7 +1,7 @@
 -- RULES 3.2, 6.4, 6.7 and 10.1: what is demanded of a line's record, of a weighed line on its sheet and of the largest total, and what is as it was before a
 -- cylinder could be weighed. Definitions only.
 use Rattle.refusal.specs.Refused.{refused}
-use Rattle.std.specs.Prelude.{Float, ℕ, zero, suc, ◌+◌, ◌*◌, ◌≤◌, ◌<◌, ◌≡◌, Bool, true, false, cond, ◌||◌, List, [], ◌∷◌, ◌++◌, map, length, Some, None, Ok, Err, Option}
+use Rattle.std.specs.Prelude.{Float, ℕ, zero, suc, ◌+◌, ◌*◌, ◌≤◌, ◌<◌, ◌≡◌, Bool, true, false, cond, ◌||◌, List, [], ◌∷◌, ◌++◌, map, length, Some, None, Ok, Option}
 use Rattle.std.specs.Float.{binary64}
 use Rattle.std.specs.Float.Ieee.{div}
 use Rattle.num_working.specs.Number.{whole}
@@ -23,7 +23,7 @@ use Rattle.sheet_line.specs.declared.line.Reading.{Reading}
 use Rattle.sheet_line.specs.declared.line.Line.{Line}
 use Rattle.sheet_read.specs.Form.{Bank, Fair, text, in_form}
 use Rattle.sheet_standing.specs.Standing.{if_numbered, no_temperature, no_volume, is_on, numbers}
-use Rattle.sheet_outcome.specs.Outcome.{admitted, total, Summed, Weighed}
+use Rattle.sheet_outcome.specs.Outcome.{admitted, total, Weighed}
 use Rattle.sheet_outcome.specs.declared.Mark.{Mark}
 use Rattle.sheet_weigh.specs.Weighing.{if_passed, if_number, if_kelvin, is_volume, by_answer}
 use Rattle.sheet_weigh.specs.Sheet.{marked}

@@ -1,6 +1,6 @@
 -- RULES 10.1: what is demanded of a sheet: its report, for every byte string, in the order of RULES 3.4. Definitions only.
 use Rattle.refusal.specs.Refused.{refused}
-use Rattle.std.specs.Prelude.{Float, ℕ, ◌+◌, ◌≤◌, ◌<◌, ◌≡◌, List, [], ◌∷◌, ◌++◌, map, length, get_or, Some, None, Ok, Err}
+use Rattle.std.specs.Prelude.{Float, ℕ, ◌+◌, ◌≤◌, ◌<◌, ◌≡◌, List, [], ◌∷◌, ◌++◌, map, length, get_or, Some, None, Ok}
 use Rattle.std.specs.Borrow.{Bor, MutBor}
 use Rattle.door_limits.specs.declared.Limits.{Limits}
 use Rattle.sheet_text.specs.Field.{Field}
@@ -10,7 +10,6 @@ use Rattle.sheet_line.specs.declared.line.Line.{Line}
 use Rattle.sheet_read.specs.Form.{Bank, in_form}
 use Rattle.sheet_weigh.specs.Weighing.{weighed}
 use Rattle.sheet_weigh.specs.Sheet.{marked}
-use Rattle.sheet_outcome.specs.Outcome.{Weighed}
 use Rattle.sheet_outcome.specs.declared.Ending.{Ending}
 use Rattle.sheet_report.specs.Report.{lines_bytes, ending_bytes, Written}
 use Rattle.sheet_score.specs.Score.{sent_back}

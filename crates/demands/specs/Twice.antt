@@ -2,7 +2,6 @@
 -- before there was a refusal 30. Definitions only.
 use Rattle.std.specs.Prelude.{Float, ℕ, ◌<◌, ◌≡◌, true, List, map, length, get_or, Some, None, Ok, Option}
 use Rattle.door_limits.specs.declared.Limits.{Limits}
-use Rattle.sheet_text.specs.Field.{Field}
 use Rattle.sheet_mass.specs.Mass.{as_milligrams}
 use Rattle.sheet_line.specs.Line.{line_of}
 use Rattle.sheet_line.specs.declared.cylinder.Kind.{Kind}

@@ -37,6 +37,7 @@ fn product_of(rho: f64, v: u64) -> Option<u64>
     whole_below(rho * (v as f64))
 }
 
+#[tactic(auto, unfolding(crate::specs::Gauge::doubt_of))]
 fn doubt_of(s: Saturation, v: u64) -> Doubt
     requires { v ≤ 1_000_000 }
     ensures { result ≡ doubt_of s v }

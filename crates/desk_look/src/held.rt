@@ -101,6 +101,7 @@ pub fn is_heavy(l: Look) -> bool
     }
 }
 
+#[tactic(auto, unfolding(crate::specs::Held::margin))]
 pub fn margin_of(mg: u64, need: u64) -> Margin
     ensures { result ≡ margin mg need }
 {

@@ -1,34 +1,16 @@
--- What a probe of a search shows; and the bits of a number that has no minus sign. Assumes nothing.
-use Rattle.std.specs.Prelude.{Some}
+-- The bits of a number that has no minus sign. Assumes nothing.
 use Prim.Native.Nat.{ℕ, zero, suc, ◌+◌, ◌*◌, ◌/◌, ◌%◌, ◌^◌, ◌<◌}
 use mathlib.Core.Path.{◌≡◌, refl, sym, subst}
 use mathlib.Core.Bool.{Bool, true, false, cond, true≢false}
 use native.Mathlib.Omega.{arith}
 use borrow.Author.Tests.{ltb-true, ltb-false, leb-false}
 use lib.Dec.{T, ltb, leb, eqb}
-use lib.Ieee.{Float, nan, inf, fin, binary64, lt, fits, odd, of_fields, of_bits, to_bits}
+use lib.Ieee.{Float, nan, inf, fin, binary64, fits, odd, of_fields, of_bits, to_bits}
 use lib.Ieee.Bits.{of_bits-to_bits}
 use lib.Ieee.Exact.{HasValue, odd_sign}
 use Rattle.num_working.specs.Number.{nonneg}
-use Rattle.num_halving.specs.Halving.{NotAbove, Above, Worthy, worthy}
 use Rattle.num_working.proofs.Numbers.{infinity}
-use Rattle.equation.specs.declared.Curve.{Curve}
-use Rattle.equation.specs.Equation.{pressure_on}
-use Rattle.equation.proofs.Curves.{pressure_finite}
-use Rattle.door_pressure.specs.Search.{figure}
 
--- ---- what a probe shows
-module _ (curve : Curve) (p : Float) (b : ℕ) (x : Float) (e : pressure_on curve (of_bits binary64 b) ≡ Some x) where
-  pub is_above : lt p x ≡ true → Above (figure (pressure_on curve)) p b
-  is_above h = record { number = x; worked = e; bounded = pressure_finite curve (of_bits binary64 b) x e; stands = h }
-
-  pub is_not_above : lt p x ≡ false → NotAbove (figure (pressure_on curve)) p b
-  is_not_above h = record { number = x; worked = e; bounded = pressure_finite curve (of_bits binary64 b) x e; stands = h }
-
-pub is_worthy : (curve : Curve) (b : ℕ) (x : Float) → pressure_on curve (of_bits binary64 b) ≡ Some x → Worthy (figure (pressure_on curve)) b
-is_worthy curve b x e = worthy x e (pressure_finite curve (of_bits binary64 b) x e)
-
--- ---- bits
 not_minus : (x : Float) (a c : ℕ) → HasValue x true a c → T (nonneg x) → ⊥
 not_minus nan a c h n = n
 not_minus (inf s) a c h n = n

@@ -6,13 +6,14 @@ use mathlib.Core.Bool.{Bool, true, false, cond}
 use native.Mathlib.Omega.{arith}
 use mathlib.Core.List.{List, [], ◌∷◌, map}
 use lib.ListN.{get_or}
+use Rattle.std.specs.List.{sum, sum_by, zip}
+use Rattle.std.proofs.lemmas.List.Sums.{sum_by-cons}
 use lib.Ieee as Ieee
 use lib.Ieee.{Float, nan, inf, fin}
 use lib.Ieee.Scale.{finite}
 use Rattle.num_working.specs.Number.{whole}
 use Rattle.num_working.specs.Working.{checked, or_else, Worked}
 use Rattle.num_exponential.specs.Exponential.{exponential, steps, fell}
-use Rattle.num_exponential.specs.declared.decay.Twelve.{Twelve}
 use Rattle.num_formulas.specs.Formula.{Formula, num, one, ◌⊖◌, ◌⊗◌, ◌^^◌, minus, value, work}
 use Rattle.num_exponential.proofs.Falls.{says, says_nothing}
 use Rattle.num_formulas.proofs.Formulas.{once}
@@ -24,7 +25,7 @@ use Rattle.eos_rows.specs.declared.Gaussian.{Gaussian}
 use Rattle.eos_rows.specs.declared.NonAnalytic.{NonAnalytic}
 use Rattle.eos_non_analytic.specs.Parts.{psi_sum}
 use Rattle.eos_terms.specs.Term.{decay, polynomial_term, exponential_term, bell_sum, bell, gaussian_term, exponents}
-use Rattle.eos_terms.specs.Fallen.{argument_fell, row_sums, row_arguments, count, fallen_at, fallen_terms, arguments_of, terms, rows_of, fallen_rows}
+use Rattle.eos_terms.specs.Fallen.{argument_fell, row_sums, row_arguments, count, fallen_at, fallen_terms, arguments_of, terms, rows_of, served, fallen_rows}
 
 -- what the exponential of −x said
 abbrev said : Float → Bool
@@ -71,20 +72,20 @@ times : (b : Bool) (n : ℕ) → cond b n 0 ≡ n * unit b
 times true n = omega arith
 times false n = omega arith
 
-by_rows : (x : Twelve) {a b c d e f g h i j k l : Bool}
-    → a ≡ said x.a
-    → b ≡ said x.b
-    → c ≡ said x.c
-    → d ≡ said x.d
-    → e ≡ said x.e
-    → f ≡ said x.f
-    → g ≡ said x.g
-    → h ≡ said x.h
-    → i ≡ said x.i
-    → j ≡ said x.j
-    → k ≡ said x.k
-    → l ≡ said x.l
-    → fallen_rows x
+by_rows : (xa xb xc xd xe xf xg xh xi xj xk xl : Float) {a b c d e f g h i j k l : Bool}
+    → a ≡ said xa
+    → b ≡ said xb
+    → c ≡ said xc
+    → d ≡ said xd
+    → e ≡ said xe
+    → f ≡ said xf
+    → g ≡ said xg
+    → h ≡ said xh
+    → i ≡ said xi
+    → j ≡ said xj
+    → k ≡ said xk
+    → l ≡ said xl
+    → fallen_rows (xa ∷ xb ∷ xc ∷ xd ∷ xe ∷ xf ∷ xg ∷ xh ∷ xi ∷ xj ∷ xk ∷ xl ∷ [])
     ≡ (unit a + (unit a + (unit a + (unit a + (unit a + (unit a + (unit a + (unit a + (unit a +
     (unit b + (unit b + (unit b + (unit b + (unit b + (unit b + (unit b +
     (unit c + (unit c + (unit c +
@@ -92,12 +93,12 @@ by_rows : (x : Twelve) {a b c d e f g h i j k l : Bool}
     (unit g + (unit h + (unit h + (unit i + (unit j +
     (unit k + (unit k + (unit l + 0)))))))))))))))))))))))))))))))))))
 unfolding fallen_rows rows_of
-by_rows x p1 p2 p3 p4 p5 p6 p7 p8 p9 p10 p11 p12 = rw (p1, p2, p3, p4, p5, p6, p7, p8, p9, p10, p11, p12) (omega (arith, times (said x.a) 9, times (said x.b) 7, times (said x.c) 3, times (said x.d) 6, times (said x.h) 2, times (said x.k) 2))
+by_rows xa xb xc xd xe xf xg xh xi xj xk xl p1 p2 p3 p4 p5 p6 p7 p8 p9 p10 p11 p12 = rw (p1, p2, p3, p4, p5, p6, p7, p8, p9, p10, p11, p12) (omega (arith, times (said xa) 9, times (said xb) 7, times (said xc) 3, times (said xd) 6, times (said xh) 2, times (said xk) 2))
 
 pub counted : (iso : Isotherm) (delta : Float) → fallen_rows (exponents iso delta) ≡ fallen_terms iso delta
 unfolding exponents fallen_terms row_sums count exponentials gaussians non_analytics value
 counted iso delta =
-    by_rows (exponents iso delta)
+    by_rows _ _ _ _ _ _ _ _ _ _ _ _
     (fell_is _) (fell_is _) (fell_is _) (fell_is _) (fell_is _) (fell_is _)
     (fell_is _) (fell_is _) (fell_is _) (fell_is _) (fell_is _) (fell_is _)
 
@@ -184,24 +185,15 @@ unfolding fallen_terms row_sums polynomials exponentials gaussians non_analytics
 of_terms iso delta = refl
 
 -- ---- so never more than 35
-of_twelve : (x : Twelve) → fallen_rows x ≤ 35
-unfolding fallen_rows rows_of
-of_twelve x =
-    omega (
-      arith,
-      some (said x.a) 9,
-      some (said x.b) 7,
-      some (said x.c) 3,
-      some (said x.d) 6,
-      some (said x.e) 1,
-      some (said x.f) 1,
-      some (said x.g) 1,
-      some (said x.h) 2,
-      some (said x.i) 1,
-      some (said x.j) 1,
-      some (said x.k) 2,
-      some (said x.l) 1,
-    )
+rows_at_most : (x : List Float) (n : List ℕ) → sum_by (λ (p : Float × ℕ). rows_of p.0 p.1) (zip x n) ≤ sum n
+unfolding rows_of
+rows_at_most [] n = omega arith
+rows_at_most (x ∷ xs) [] = omega arith
+rows_at_most (x ∷ xs) (n ∷ ns) = omega (arith, sum_by-cons, some (said x) n, rows_at_most xs ns)
+
+of_twelve : (x : List Float) → fallen_rows x ≤ 35
+unfolding fallen_rows
+of_twelve x = rows_at_most x served
 
 pub few : (t rho : Float) → fallen_at t rho ≤ 35
 few t rho =

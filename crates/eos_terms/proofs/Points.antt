@@ -1,10 +1,10 @@
 -- What a point holds, by the density that it was worked at. Assumes nothing.
 use mathlib.Core.Path.{◌≡◌, refl, sym, ap, ◌∙◌}
+use mathlib.Core.List.{map}
 use lib.ListN.{get_or}
 use lib.Ieee.{Float, nan}
 use Rattle.num_powers.specs.Power.{power, powers}
 use Rattle.num_exponential.specs.Decay as Decay
-use Rattle.num_exponential.specs.Decay.{each}
 use Rattle.num_formulas.specs.Formula.{value}
 use Rattle.eos_rows.specs.Row.{gaussians, non_analytics, row40, row42}
 use Rattle.eos_isotherm.specs.declared.Isotherm.{Isotherm}
@@ -40,6 +40,6 @@ unfolding point
 own iso delta p e = let d = ap (λ (q : Point). q.delta) e in (e ∙ ap (point iso) (sym d), d)
 
 -- the point at a density, by the twelve exponentials of its arguments
-pub point_is : (iso : Isotherm) (delta : Float) → point_by delta (powers 10 delta) (each Decay.decay (exponents iso delta)) ≡ point iso delta
-unfolding point_by each Decay.decay exponents point decay decays bells bell psis gaussians non_analytics powers power value
+pub point_is : (iso : Isotherm) (delta : Float) → point_by delta (powers 10 delta) (map Decay.decay (exponents iso delta)) ≡ point iso delta
+unfolding point_by Decay.decay exponents point decay decays bells bell psis gaussians non_analytics powers power value
 point_is iso delta = refl

@@ -1,10 +1,10 @@
 -- RULES 4.9 (docs/ARRANGEMENT.md, section 12): how many terms of the residual part fell away. Definitions only.
 use Rattle.std.specs.Prelude.{ℕ, ◌+◌, ◌-◌, Bool, false, cond, List, [], ◌∷◌, ◌++◌, map, get_or, Float}
+use Rattle.std.specs.List.{sum_by, zip}
 use Rattle.std.specs.Float.Ieee as Ieee
 use Rattle.std.specs.Float.{nan}
 use Rattle.num_working.specs.Working.{or_else}
 use Rattle.num_exponential.specs.Exponential.{exponential, fell}
-use Rattle.num_exponential.specs.declared.decay.Twelve.{Twelve}
 use Rattle.num_formulas.specs.Formula.{Formula, num, one, ◌⊕◌, ◌⊖◌, ◌⊗◌, ◌⊘◌, ◌^^◌, minus, size, e^, root, value, work}
 use Rattle.eos_constants.specs.Reduced as Reduced
 use Rattle.eos_rows.specs.Row.{Polynomial, Exponential, polynomials, exponentials, gaussians, non_analytics}
@@ -78,9 +78,8 @@ at_density told iso delta = record { point = point iso delta; fallen = cond told
 unfoldable pub rows_of : Float → ℕ → ℕ
 rows_of x rows = cond (fell (exponential (Ieee.neg x))) rows 0
 
-unfoldable pub fallen_rows : Twelve → ℕ
-fallen_rows x =
-    (rows_of x.a 9 + rows_of x.b 7 + rows_of x.c 3 + rows_of x.d 6 + rows_of x.e 1 + rows_of x.f 1)
-    + (rows_of x.g 1 + rows_of x.h 2 + rows_of x.i 1 + rows_of x.j 1)
-    + rows_of x.k 2
-    + rows_of x.l 1
+abbrev pub served : List ℕ
+served = 9 ∷ 7 ∷ 3 ∷ 6 ∷ 1 ∷ 1 ∷ 1 ∷ 2 ∷ 1 ∷ 1 ∷ 2 ∷ 1 ∷ []
+
+unfoldable pub fallen_rows : List Float → ℕ
+fallen_rows x = sum_by (λ (p : Float × ℕ). rows_of p.0 p.1) (zip x served)

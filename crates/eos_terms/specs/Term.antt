@@ -3,7 +3,6 @@ use Rattle.std.specs.Prelude.{ℕ, suc, List, [], ◌∷◌, map, get_or, Float}
 use Rattle.std.specs.Float.{nan}
 use Rattle.num_working.specs.Number.{whole}
 use Rattle.num_powers.specs.Power.{power, powers}
-use Rattle.num_exponential.specs.declared.decay.Twelve.{Twelve}
 use Rattle.num_formulas.specs.Formula.{Formula, num, ◌⊕◌, ◌⊖◌, ◌⊗◌, ◌⊘◌, ◌^^◌, minus, e^, value}
 use Rattle.eos_brackets.specs.Derivative.{Derivative}
 use Rattle.eos_brackets.specs.Bracket as Bracket
@@ -78,28 +77,30 @@ module _ (iso : Isotherm) (delta : Float) where
   abbrev pub psi_exponent : NonAnalytic → Float
   psi_exponent r = value (psi_sum r (around delta).X (num iso.psi))
 
-  unfoldable pub exponents : Twelve
-  exponents = record {
-    a = power delta 1;
-    b = power delta 2;
-    c = power delta 3;
-    d = power delta 4;
-    e = power delta 5;
-    f = power delta 6;
-    g = bell_exponent 0 (get_or gaussians 0 row39);
-    h = bell_exponent 1 (get_or gaussians 1 row39);
-    i = bell_exponent 2 (get_or gaussians 3 row39);
-    j = bell_exponent 3 (get_or gaussians 4 row39);
-    k = psi_exponent (get_or non_analytics 0 row42);
-    l = psi_exponent (get_or non_analytics 2 row42);
-  }
+  unfoldable pub exponents : List Float
+  exponents =
+      power delta 1
+      ∷ power delta 2
+      ∷ power delta 3
+      ∷ power delta 4
+      ∷ power delta 5
+      ∷ power delta 6
+      ∷ bell_exponent 0 (get_or gaussians 0 row39)
+      ∷ bell_exponent 1 (get_or gaussians 1 row39)
+      ∷ bell_exponent 2 (get_or gaussians 3 row39)
+      ∷ bell_exponent 3 (get_or gaussians 4 row39)
+      ∷ psi_exponent (get_or non_analytics 0 row42)
+      ∷ psi_exponent (get_or non_analytics 2 row42)
+      ∷ []
 
 -- the point by its twelve exponentials
-unfoldable pub point_by : Float → List Float → Twelve → Point
-point_by delta powers e = record {
-  delta = delta;
-  powers = powers;
-  decays = e.a ∷ e.b ∷ e.c ∷ e.d ∷ e.e ∷ e.f ∷ [];
-  bells = e.g ∷ e.h ∷ e.h ∷ e.i ∷ e.j ∷ [];
-  psis = e.k ∷ e.l ∷ [];
-}
+unfoldable pub point_by : Float → List Float → List Float → Point
+point_by delta powers e =
+    let at : ℕ → Float = λ i. get_or e i nan in
+    record {
+      delta = delta;
+      powers = powers;
+      decays = at 0 ∷ at 1 ∷ at 2 ∷ at 3 ∷ at 4 ∷ at 5 ∷ [];
+      bells = at 6 ∷ at 7 ∷ at 7 ∷ at 8 ∷ at 9 ∷ [];
+      psis = at 10 ∷ at 11 ∷ [];
+    }

@@ -10,7 +10,7 @@ use crate::fallen::rows_told;
 use eos_isotherm::Isotherm;
 use eos_powers::powers_to_10;
 use eos_rows::{Gaussian, NonAnalytic, gaussian_row, non_analytic_row};
-use num_exponential::decay::{Twelve, twelve_decays};
+use num_exponential::decay::twelve_decays;
 
 // The powers of δ, e^(−δᶜ) for c from 1 to 6, the exponentials of rows 35 to 39, and Ψ of rows 40 and 41 and of row 42.
 #[derive(Clone, Copy)]
@@ -44,36 +44,37 @@ fn psi_exponent(row: NonAnalytic, delta: f64, z: f64) -> f64
 }
 
 // The arguments of the twelve exponentials but for their minus sign. Rows 36 and 37 have one bell, rows 40 and 41 one Ψ.
-fn exponents(iso: Isotherm, delta: f64, powers: [f64; 11]) -> Twelve
+fn exponents(iso: Isotherm, delta: f64, powers: [f64; 11]) -> [f64; 12]
     requires { powers ≡ Power.powers 10 delta }
     ensures { result ≡ exponents iso delta }
 {
     let bell = iso.bell;
-    Twelve {
-        a: powers[1],
-        b: powers[2],
-        c: powers[3],
-        d: powers[4],
-        e: powers[5],
-        f: powers[6],
-        g: bell_exponent(gaussian_row(0), delta, bell[0]),
-        h: bell_exponent(gaussian_row(1), delta, bell[1]),
-        i: bell_exponent(gaussian_row(3), delta, bell[2]),
-        j: bell_exponent(gaussian_row(4), delta, bell[3]),
-        k: psi_exponent(non_analytic_row(0), delta, iso.psi),
-        l: psi_exponent(non_analytic_row(2), delta, iso.psi),
-    }
+    [
+        powers[1],
+        powers[2],
+        powers[3],
+        powers[4],
+        powers[5],
+        powers[6],
+        bell_exponent(gaussian_row(0), delta, bell[0]),
+        bell_exponent(gaussian_row(1), delta, bell[1]),
+        bell_exponent(gaussian_row(3), delta, bell[2]),
+        bell_exponent(gaussian_row(4), delta, bell[3]),
+        psi_exponent(non_analytic_row(0), delta, iso.psi),
+        psi_exponent(non_analytic_row(2), delta, iso.psi),
+    ]
 }
 
-fn point_by(delta: f64, powers: [f64; 11], e: Twelve) -> Point
+#[tactic(auto, unfolding(crate::specs::Term::point_by))]
+fn point_by(delta: f64, powers: [f64; 11], e: [f64; 12]) -> Point
     ensures { result ≡ point_by delta powers e }
 {
     Point {
         delta,
         powers,
-        decays: [e.a, e.b, e.c, e.d, e.e, e.f],
-        bells: [e.g, e.h, e.h, e.i, e.j],
-        psis: [e.k, e.l],
+        decays: [e[0], e[1], e[2], e[3], e[4], e[5]],
+        bells: [e[6], e[7], e[7], e[8], e[9]],
+        psis: [e[10], e[11]],
     }
 }
 

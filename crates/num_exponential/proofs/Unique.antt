@@ -3,7 +3,7 @@ use mathlib.Core.Bool.{Bool}
 use Rattle.num_working.specs.Working.{Worked}
 use Rattle.num_working.proofs.Unique.{OneAnswer, by_equation}
 use Rattle.num_exponential.specs.Exponential.{Raised}
-use Rattle.num_exponential.specs.declared.decay.Twelve.{Twelve}
+use Rattle.std.specs.Prelude.{List, Float}
 use Rattle.num_exponential.proofs.decay.falls.Reads as falls
 use Rattle.num_exponential.proofs.decay.twelve_decays.Reads as twelve_decays
 use Rattle.num_exponential.proofs.exponential.answer_alone.Reads as answer_alone
@@ -18,5 +18,5 @@ answer_alone_once a r s x y = by_equation
 pub falls_once : OneAnswer Bool (falls.Post tt)
 falls_once a r s x y = by_equation
 
-pub twelve_decays_once : OneAnswer Twelve (twelve_decays.Post tt)
+pub twelve_decays_once : OneAnswer (List Float) (twelve_decays.Post tt)
 twelve_decays_once a r s x y = by_equation

@@ -1,10 +1,9 @@
 -- What code inside works twelve exponentials by: the series and the squarings of RULES 4.4 again, in plain f64, step by step. No public promise cites it.
 -- Definitions only.
-use Rattle.std.specs.Prelude.{ℕ, zero, suc, Float}
+use Rattle.std.specs.Prelude.{ℕ, zero, suc, List, [], ◌∷◌, Float}
 use Rattle.std.specs.Float.Ieee as Ieee
 use Rattle.std.specs.Float.{binary64}
 use Rattle.num_working.specs.Number.{whole}
-use Rattle.num_exponential.specs.declared.decay.Twelve.{Twelve}
 
 -- s becomes 1 − (y/k)·s, with q·h for y/k
 unfoldable pub turn : Float → Float → Float → Float
@@ -20,19 +19,8 @@ unfoldable pub squarings : ℕ → Float → Float
 squarings zero s = s
 squarings (suc n) s = squarings n (Ieee.mul binary64 s s)
 
--- twelve pairs at once
-unfoldable pub pairs : (Float → Float → Float) → Twelve → Twelve → Twelve
-pairs f x y = record {
-  a = f x.a y.a;
-  b = f x.b y.b;
-  c = f x.c y.c;
-  d = f x.d y.d;
-  e = f x.e y.e;
-  f = f x.f y.f;
-  g = f x.g y.g;
-  h = f x.h y.h;
-  i = f x.i y.i;
-  j = f x.j y.j;
-  k = f x.k y.k;
-  l = f x.l y.l;
-}
+-- f of each pair
+unfoldable pub pairs : (Float → Float → Float) → List Float → List Float → List Float
+pairs f [] ys = []
+pairs f (x ∷ xs) [] = []
+pairs f (x ∷ xs) (y ∷ ys) = f x y ∷ pairs f xs ys

@@ -1,6 +1,11 @@
-// RULES 4.5. Where a figure passes its target, the bits at which it is not above while at the next it is, or why that is
-// not known. Each search has its own loop and cites the shared laws (proofs/Halvings.antt).
+// RULES 4.5: where a figure passes its target, by halving: the bits at which it is not above while at the next it is, or why
+// that is not known. Nothing is taken of the figure's shape (specs/Halving.antt; proofs/Halvings.antt).
 #![tactic(auto)]
+
+ghost use Rattle.std.specs.Prelude.{◌≡◌, ℕ, ◌<◌, true, Float, Some};
+ghost use Rattle.std.specs.Float.Ieee.Scale.{finite};
+ghost use Rattle.num_working.specs.Working.{Worked};
+ghost use Rattle.num_halving.specs.Halving.{NotAbove, Above, halve};
 
 #[derive(Clone, Copy)]
 pub enum Missed {
@@ -8,4 +13,55 @@ pub enum Missed {
     Nowhere,
     // a figure could not be worked
     Broke,
+}
+
+// A figure that is worked at the bits of numbers without a minus sign. Where it is worked, it is finite.
+pub trait Probed {
+    ghost figure: { Self → ℕ → Worked };
+
+    ghost sound: { (s : Self) (b : ℕ) (x : Float) → figure s b ≡ Some x → finite x ≡ true };
+
+    fn at(&self, bits: u64) -> Option<f64>
+        requires { bits < 0x7ff0_0000_0000_0000 }
+        ensures { result ≡ figure self.now bits };
+}
+
+// From where the figure is not above t to where it is above.
+fn narrow<P: Probed>(probed: &P, t: f64, from: u64, to: u64) -> Result<u64, Missed>
+    requires from_lt_to { from < to }
+    requires to_bound { to < 0x7ff0_0000_0000_0000 }
+    requires not_above { NotAbove (P.figure probed.now) t from }
+    requires above { Above (P.figure probed.now) t to }
+    ensures { result ≡ halve (P.figure probed.now) t from to }
+{
+    let mut lo = from;
+    let mut hi = to;
+    while lo + 1 < hi {
+        let mid = lo + (hi - lo) / 2;
+        let x = probed.at(mid).ok_or(Missed::Broke)?;
+        if t < x {
+            hi = mid;
+        } else {
+            lo = mid;
+        }
+    }
+    Ok(lo)
+}
+
+pub fn halve<P: Probed>(probed: &P, t: f64, from: u64, to: u64) -> Result<u64, Missed>
+    requires { to < 0x7ff0_0000_0000_0000 }
+    ensures { result ≡ halve (P.figure probed.now) t from to }
+{
+    if to <= from {
+        return Err(Missed::Nowhere);
+    }
+    let low = probed.at(from).ok_or(Missed::Broke)?;
+    let high = probed.at(to).ok_or(Missed::Broke)?;
+    if t < low {
+        return Err(Missed::Nowhere);
+    }
+    if t < high {
+        return narrow(probed, t, from, to);
+    }
+    Err(Missed::Nowhere)
 }

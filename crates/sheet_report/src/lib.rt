@@ -72,11 +72,11 @@ fn put_ending(out: &mut [u8], e: Ending) -> usize
 fn line_len(i: u64, w: Result<Milligrams, Refusal>) -> usize
     ensures { (result ≡ length (line_bytes i w)) × (result ≤ 46) }
 {
-    let n = number_len(i);
-    match w {
-        Ok(mg) => n + number_len(mg.0) + 6,
-        Err(refusal) => n + number_len(u64::from(refusal.0)) + 6,
-    }
+    let number = match w {
+        Ok(mg) => mg.0,
+        Err(refusal) => u64::from(refusal.0),
+    };
+    number_len(i) + number_len(number) + 6
 }
 
 #[tactic(auto, using(crate::proofs::Reports::sizes))]

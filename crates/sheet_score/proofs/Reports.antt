@@ -3,10 +3,11 @@ use Rattle.std.specs.Prelude.{Float, Ok, Err, Option, Some, None}
 use mathlib.Core.Path.{◌≡◌, refl}
 use mathlib.Core.Bool.{true}
 use mathlib.Core.List.{List, [], map}
-use Prim.Native.Nat.{ℕ, ◌≤◌}
+use Prim.Native.Nat.{◌≤◌}
 use native.Mathlib.Omega.{arith}
 use lib.ListN.{length, take, length-map}
 use Rattle.door_limits.specs.declared.Limits.{Limits}
+use Rattle.refusal.specs.declared.Refusal.{Refusal}
 use Rattle.sheet_line.specs.Line.{line_of, blank_line}
 use Rattle.sheet_line.specs.declared.line.Line.{Line}
 use Rattle.sheet_read.specs.Form.{Bank}
@@ -22,9 +23,9 @@ use Rattle.sheet_report.specs.Report.{lines_bytes, report_bytes}
 use Rattle.sheet_score.specs.Score.{sent_back, listed, report}
 
 -- a sheet that is sent back has the one line
-sent_back_lem : (number : ℕ) (ms : List Mark) → report_bytes (finished (Err number) ms) ≡ sent_back number
+sent_back_lem : (refusal : Refusal) (ms : List Mark) → report_bytes (finished (Err refusal) ms) ≡ sent_back refusal.0
 unfolding report_bytes lines_bytes marks_for
-sent_back_lem number ms = refl
+sent_back_lem refusal ms = refl
 
 module _ (L : Limits) where
   module _ (b : Bank) where
@@ -39,12 +40,12 @@ module _ (L : Limits) where
     by_admission : (a : Admitted) → admitted true (length b.cylinders) b.need ≡ a
         → report_bytes (finished a (marked L (take (length b.cylinders) (padded blank_line 32 lines)))) ≡ listed a (marked L lines)
     unfolding report_bytes
-    by_admission (Err number) e = sent_back_lem number (marked L lines)
+    by_admission (Err refusal) e = sent_back_lem refusal (marked L lines)
     by_admission (Ok mg) e =
         let h = few true (length b.cylinders) b.need mg e in
         rw (lines_back h, marks_of_lem L lines (omega (arith, length-map b.cylinders line_of)))
 
   pub reported : (o : Option Bank) → report_bytes (outcome L (sheet_read o)) ≡ report L o
-  unfolding report outcome sheet_read sheet_of admitted
-  reported None = sent_back_lem 14 (marked L (take 0 (padded blank_line 32 (map line_of []))))
+  unfolding report outcome sheet_of admitted
+  reported None = sent_back_lem (record { 0 = 14 }) []
   reported (Some b) = by_admission b (admitted true (length b.cylinders) b.need) refl

@@ -11,11 +11,11 @@ use Rattle.sheet_report.specs.Report.{lines_bytes, ending_bytes}
 
 -- `SENT BACK` and a number: with 10, 11, 12 or 14 the only line of the report
 abbrev pub sent_back : ℕ → List ℕ
-sent_back number = ending_bytes (Ending.SentBack number)
+sent_back number = ending_bytes (Ending.SentBack (record { 0 = number }))
 
 -- a line for each cylinder, and then the ending
 abbrev pub listed : Admitted → List Mark → List ℕ
-listed (Err number) ms = sent_back number
+listed (Err refusal) ms = sent_back refusal.0
 listed (Ok mg) ms = lines_bytes 1 ms ++ ending_bytes (ending mg (total ms))
 
 -- of a text, from what it says

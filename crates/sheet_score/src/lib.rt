@@ -7,8 +7,9 @@ ghost use Rattle.sheet_read.specs.Form.{in_form};
 ghost use Rattle.sheet_score.specs.Score.{report};
 
 use door_limits::Limits;
+use refusal::Refusal;
 use sheet_read::read_sheet;
-use sheet_report::{write_report};
+use sheet_report::write_report;
 use sheet_weigh::weigh_sheet;
 
 pub fn score(limits: Limits, text: &[u8], out: &mut [u8]) -> Result<usize, Refusal>

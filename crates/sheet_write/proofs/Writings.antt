@@ -6,8 +6,8 @@ use Prim.Native.Nat.{ℕ, ◌+◌, ◌-◌, ◌%◌, ◌≤◌, ◌<◌}
 use native.Mathlib.Numerals.{add-one}
 use native.Mathlib.Omega.{arith}
 use lib.Dec.{ltb}
-use lib.ListN.{length, take, drop, set, length-append, length-drop}
-use lib.Seq.{drop-cons, set-append_seam, take-append_seam, drop-append_seam, drop-drop, drop-length, take_all}
+use lib.ListN.{length, take, drop, set, get_or, length-append, length-drop}
+use lib.Seq.{drop-cons, set-append_seam, take-append_seam, drop-append_seam, drop-drop, drop-length, take-suc, take_all}
 use borrow.Author.Tests.{lt-ltb, le-ltb}
 use Rattle.sheet_text.specs.Decimal.{decimal}
 use Rattle.sheet_text.proofs.Decimals.{decimal_small}
@@ -34,6 +34,20 @@ more {o} {out} {k} {bs} v w h =
       count = simp length-append (omega (arith, w.count));
       bytes = rw (w.count, w.bytes) (overlaid_set o bs v (omega (arith, w.count)));
     }
+
+pub next_byte : {o out : List ℕ} {i : ℕ} (text : List ℕ) → Wrote o out i (take i text) → i < length text → length text ≤ length o
+    → Wrote o (set out i (get_or text i 0)) (i + 1) (take (i + 1) text)
+next_byte {o} {out} {i} text w h g =
+    let e : take (i + 1) text ≡ take i text ++ (get_or text i 0 ∷ []) = rw (add-one, take-suc text i 0 h) in
+    rw e (more (get_or text i 0) w (omega arith))
+
+pub all_bytes : {o out : List ℕ} {i : ℕ} (text : List ℕ) → Wrote o out i (take i text) → length text ≤ i → i ≤ length text → Wrote o out (length text) text
+all_bytes {o} {out} {i} text w h g =
+    let e : i ≡ length text = omega arith in
+    rw e at (rw (take_all i text h) at w)
+
+-- what a loop over a text's bytes cites
+pub ruleset bytes_after = (nothing, all_bytes)
 
 pub one_digit : (o : List ℕ) (n : ℕ) → n < 10 → 0 < length o → Wrote o (set o 0 (48 + n)) 1 (decimal n)
 one_digit o n h g =

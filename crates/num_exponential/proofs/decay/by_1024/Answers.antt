@@ -1,10 +1,10 @@
 -- Each quotient is the definition's. Assumes nothing.
-use mathlib.Core.Path.{refl}
-use lib.Ieee.{of_bits, of_int, round}
+use Rattle.std.proofs.Common.{rules}
+use lib.Ieee.{Float, binary64, div, of_bits, of_int, round}
 use Rattle.num_working.specs.Number.{whole}
-use Rattle.num_exponential.specs.Decay.{each}
+use Rattle.num_exponential.proofs.Lanes.{is_map}
 use Rattle.num_exponential.proofs.decay.by_1024.Goals as goal
 
 pub returns : goal.returns
-unfolding each whole of_bits of_int round
-returns c = refl
+unfolding whole of_bits of_int round
+returns c = is_map (λ (v : Float). div binary64 v (whole 1024)) c.args.x c.each.result c.each.ensures.long (λ k n. let e = c.each.ensures.at k n in search rules)

@@ -1,7 +1,8 @@
 -- Each number is the definition's. Assumes nothing.
-use Rattle.num_exponential.specs.Decay.{each}
+use Rattle.std.proofs.Common.{rules}
+use Rattle.num_exponential.specs.Decay.{decay}
+use Rattle.num_exponential.proofs.Lanes.{is_map}
 use Rattle.num_exponential.proofs.decay.one_by_one.Goals as goal
 
 pub returns : goal.returns
-unfolding each
-returns c = cc
+returns c = is_map decay c.args.x c.each.result c.each.ensures.long (λ k n. let e = c.each.ensures.at k n in search rules)

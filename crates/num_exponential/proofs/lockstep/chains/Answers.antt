@@ -1,13 +1,14 @@
 -- Each step is the definition's, on twelve numbers that it treats alike, with each quotient in one of two forms (`stepped`). Assumes nothing.
-use mathlib.Core.Path.{refl, ◌∙◌}
+use mathlib.Core.Path.{◌≡◌, ◌∙◌}
+use mathlib.Core.List.{List}
 use Prim.Native.Nat.{ℕ}
-use lib.Ieee.{binary64, div, of_bits, of_int, round}
+use native.Mathlib.Omega.{arith}
+use lib.ListN.{length, replicate}
+use lib.Ieee.{Float, binary64, div, of_bits, of_int, round}
 use Rattle.num_working.specs.Number.{fraction, whole}
-use Rattle.num_exponential.specs.declared.decay.Twelve.{Twelve}
-use Rattle.num_exponential.specs.Decay.{each}
 use Rattle.num_exponential.specs.Lockstep.{turn}
 use Rattle.num_laws.specs.Quotient.{just_above, divisor, just_below, normal}
-use Rattle.num_exponential.proofs.Lanes.{Of, itself, same_each, turned}
+use Rattle.num_exponential.proofs.Lanes.{Of, all_one, itself, same_map, turned}
 use Rattle.num_exponential.proofs.Steps.{seven, upper, lower, stepped}
 use Rattle.num_exponential.proofs.lockstep.chains.Goals as goal
 use Rattle.num_exponential.proofs.lockstep.chains.Goals.{After-parts-thirteenth, After-step, After-step-s-7, Start}
@@ -16,7 +17,7 @@ use Rattle.num_exponential.proofs.lockstep.chains.Goals.{After-parts-thirteenth,
 abbrev begun : After-parts-thirteenth → Start
 begun c = c.before.before.before.before.before.before
 
-abbrev Quotient : ℕ → After-parts-thirteenth → Twelve → Type 0
+abbrev Quotient : ℕ → After-parts-thirteenth → List Float → Type 0
 Quotient k c q = Of (λ v. div binary64 v (whole k)) (begun c).args.y q
 
 third : (c : After-parts-thirteenth) → Quotient 3 c c.parts-third.result
@@ -51,10 +52,13 @@ abbrev halfway : After-step → After-step-s-7
 halfway c = c.before.before.before.before.before.before.before
 
 first_half : (c : After-step-s-7) → Of upper (begun (parted c)).args.y c.step-s-7.result
-unfolding upper seven turn each fraction whole of_bits of_int round
+unfolding upper seven turn fraction whole of_bits of_int round
 first_half c =
     let q = parted c in
-    let s0 : Of (λ v. whole 1) (begun q).args.y _ = record { is = refl } in
+    let y = (begun q).args.y in
+    let w = (begun q).well_formed in
+    let long : length y ≡ 12 = omega arith in
+    let s0 : Of (λ v. whole 1) y (replicate 12 (whole 1)) = rw long at (all_one (whole 1) y) in
     let s1 = turned (fraction 1 2) c.step-s.ensures (seventh q) s0 in
     let s2 = turned (fraction 1 1) c.step-s-2.ensures (thirteenth q) s1 in
     let s3 = turned (fraction 1 4) c.step-s-3.ensures (third q) s2 in
@@ -105,4 +109,4 @@ pub returns : goal.returns
 returns c =
     let at = (goal.at.returns c).After-step in
     let s = begun (parted (halfway at)) in
-    (second_half at).is ∙ same_each normal _ _ s.args.y stepped s.requires
+    (second_half at).is ∙ same_map normal _ _ s.args.y stepped s.requires

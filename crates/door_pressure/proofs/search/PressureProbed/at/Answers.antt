@@ -1,0 +1,6 @@
+-- Bits below those of the infinity are no NaN's. Assumes nothing.
+use Rattle.num_working.proofs.Numbers.{no_nan}
+use Rattle.door_pressure.proofs.search.PressureProbed.at.Goals as goal
+
+pub float_from_bits-bits : goal.float_from_bits-bits
+float_from_bits-bits c = no_nan _ c.requires

@@ -14,7 +14,7 @@ use lib.Ieee.{Float, binary64, add, mul}
 use Rattle.num_working.specs.Working.{checked, ◌+ᵂ◌, Worked}
 use Rattle.num_working.proofs.Workings.{checked_add}
 use Rattle.eos_terms.specs.Term.{numbered}
-use Rattle.eos_brackets.specs.Derivative.{Derivative, Delta, DeltaDelta, Tau, TauTau, DeltaTau, of, times, grown, asked}
+use Rattle.eos_brackets.specs.Derivative.{Derivative, of, times, grown, asked}
 use Rattle.eos_brackets.specs.declared.Five.{Five}
 use Rattle.eos_brackets.proofs.Derivatives.{of_five, of_grown}
 use Rattle.eos_residual.specs.Sum.{onto, total, Meet}

@@ -1,11 +1,8 @@
 -- Three times nine rows are all 27. Assumes nothing.
-use mathlib.Core.Path.{◌≡◌, refl, sym, ap, ◌∙◌}
+use mathlib.Core.Path.{◌∙◌}
 use native.Mathlib.Omega.{arith}
-use lib.ListN.{drop, drop_of_length-le}
-use Rattle.num_working.specs.Working.{checked, Worked}
 use Rattle.eos_brackets.specs.Derivative.{of}
-use mathlib.Core.List.{List}
-use Rattle.eos_residual.specs.Sum.{onto, exponential_figures}
+use Rattle.eos_residual.specs.Sum.{exponential_figures}
 use Rattle.eos_residual.proofs.Sums.{due_none}
 use Rattle.eos_residual.proofs.Figures.{exponential_length}
 use Rattle.eos_residual.proofs.sum.exponential_rows.Goals as goal

@@ -1,6 +1,5 @@
 -- Each turn adds the next row's figures; what is left to add gives the sums that are asked for. Assumes nothing.
 use mathlib.Core.Path.{refl}
-use Prim.Native.Nat.{◌<◌}
 use native.Mathlib.Omega.{arith}
 use Rattle.num_working.specs.Number.{whole}
 use Rattle.eos_terms.proofs.Points.{its_powers, its_bells}

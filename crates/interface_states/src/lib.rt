@@ -33,6 +33,7 @@ fn put_place(t: f64, p: f64, figures: &mut [f64]) -> u32
     put_state(from_pressure(document_01(), t, p), figures)
 }
 
+// 15 and 260 are numbers of the C interface (include/makhroeng.h).
 pub fn put_states(ts: &[f64], ps: &[f64], answers: &mut [u32], figures: &mut [f64]) -> u32
     ensures { StatesIn ts.now ps.now answers.old answers.new figures.old figures.new result }
 {

@@ -1,5 +1,5 @@
 -- What a line's explanation takes is what the report has of the line. Assumes nothing.
-use Rattle.std.specs.Prelude.{Float, Ok}
+use Rattle.std.specs.Prelude.{Float, Ok, Some, true}
 use Rattle.refusal.specs.Refused.{refused}
 use mathlib.Core.Path.{◌≡◌, refl, sym, ap, ◌∙◌}
 use mathlib.Core.List.{List}
@@ -9,7 +9,7 @@ use lib.ListN.{length, take, get_or}
 use lib.Seq.{get_or-take, take-take, length-take-le}
 use Rattle.door_limits.specs.declared.Limits.{Limits}
 use Rattle.sheet_line.specs.declared.line.Line.{Line}
-use Rattle.sheet_read.specs.declared.SheetRead.{SheetRead}
+use Rattle.sheet_read.specs.declared.Sheet.{Sheet}
 use Rattle.sheet_outcome.specs.Outcome.{admitted, Weighed, Admitted}
 use Rattle.sheet_outcome.specs.declared.Mark.{Mark}
 use Rattle.sheet_outcome.proofs.Admissions.{few}
@@ -32,15 +32,15 @@ module _ (L : Limits) where
       let back = ap (λ (ms : List Mark). get_or ms i none) (marks_of_lem L ls h) in
       ap (λ (x : Mark). x.weighed) (sym there ∙ back ∙ marked_at L ls i none d k)
 
-  module _ (r : SheetRead) (mg : ℕ) (e : admitted r.ok r.sheet.count r.sheet.need ≡ Ok mg)
-      (size : length r.sheet.lines ≡ 32) where
+  -- of a text that is in the form
+  module _ (s : Sheet) (mg : ℕ) (e : admitted true s.count s.need ≡ Ok mg) (size : length s.lines ≡ 32) where
     -- of a sheet that is worked, the line after i others: what came of it after those
-    pub marked_as : (i : ℕ) (d : Line Float) → i < r.sheet.count
-        → mark_at (outcome L r).marks i ≡ weighed_after L (numbers (take i r.sheet.lines)) (get_or r.sheet.lines i d)
+    pub marked_as : (i : ℕ) (d : Line Float) → i < s.count
+        → mark_at (outcome L (Some s)).marks i ≡ weighed_after L (numbers (take i s.lines)) (get_or s.lines i d)
     unfolding outcome
     marked_as i d k =
-        let n = r.sheet.count in
-        let ls = r.sheet.lines in
+        let n = s.count in
+        let ls = s.lines in
         let most : n ≤ 32 = few _ _ _ mg e in
         let long : length (take n ls) ≡ n = length-take-le n ls (omega arith) in
         rw (e)
@@ -48,6 +48,6 @@ module _ (L : Limits) where
         ∙ rw (take-take i n ls (omega arith), get_or-take n ls i d k) refl)
 
     -- THE EXPLANATION OF A LINE IS THAT OF ITS REPORT
-    pub explained : (i : ℕ) (d : Line Float) → i < r.sheet.count
-        → weighs (look L (mark_at (outcome L r).marks i) (get_or r.sheet.lines i d)) ≡ mark_at (outcome L r).marks i
-    explained i d k = rw (marked_as i d k) (same_as_report L (numbers (take i r.sheet.lines)) (get_or r.sheet.lines i d))
+    pub explained : (i : ℕ) (d : Line Float) → i < s.count
+        → weighs (look L (mark_at (outcome L (Some s)).marks i) (get_or s.lines i d)) ≡ mark_at (outcome L (Some s)).marks i
+    explained i d k = rw (marked_as i d k) (same_as_report L (numbers (take i s.lines)) (get_or s.lines i d))

@@ -157,27 +157,34 @@ impl<'a> Explained<'a> {
         self.each(none, |w, l| w.with(l))
     }
 
+    fn need(&self) -> Option<u64> {
+        self.sheet?.need
+    }
+
+    fn say_held(&self, p: Paper, mg: u64) -> Paper {
+        match self.need() {
+            Some(need) => say_margin(p, mg, need, self.warned()),
+            None => p,
+        }
+    }
+
     fn say_sent_back(&self, p: Paper, n: Refusal) -> Paper {
-        let p = p.say(b"Sent back by ").say_refusal(n);
-        if n.0 == 14 {
-            say_where(p, self.text)
-        } else {
-            p
+        match n {
+            Refusal(13) => p
+                .say(b"Needed ")
+                .say_figure(self.need().map(kilograms_up))
+                .say(b" kg. Sent back by ")
+                .say_refusal(n),
+            Refusal(14) => say_where(p.say(b"Sent back by ").say_refusal(n), self.text),
+            _ => p.say(b"Sent back by ").say_refusal(n),
         }
     }
 
     fn say_ending(&self, p: Paper) -> Paper {
-        match (self.outcome.ending, self.sheet.and_then(|s| s.need)) {
-            (Ending::Covered(mg) | Ending::Short(mg), Some(need)) => {
-                say_margin(p, mg.0, need, self.warned())
-            }
-            (Ending::Covered(_) | Ending::Short(_), None) => p,
-            (Ending::SentBack(Refusal(13)), need) => p
-                .say(b"Needed ")
-                .say_figure(need.map(kilograms_up))
-                .say(b" kg. Sent back by ")
-                .say_refusal(Refusal(13)),
-            (Ending::SentBack(n), _) => self.say_sent_back(p, n),
+        match self.outcome.ending {
+            Ending::Covered(mg) => self.say_held(p, mg.0),
+            Ending::Short(mg) => self.say_held(p, mg.0),
+            Ending::SentBack(n) => self.say_sent_back(p, n),
         }
     }
 }

@@ -14,7 +14,8 @@ pub fn answer_with(s: Option<State>) -> Result<State, Refusal>
     s.ok_or(Refusal(7))
 }
 
-// The number of a refusal, to be handed on; 0 of a state.
+// The number of a refusal; 0 of a state. A public function, `refusal_number`, which stays: what is refused is handed on
+// by `?`.
 pub fn refusal_number(a: Result<State, Refusal>) -> u8
     ensures { result ≡ refusal_number a }
 {

@@ -1,5 +1,5 @@
 // RULES 5.2: the density door, the state at a temperature and a density. Each step of the definition has a function of
-// the same shape.
+// the same shape and with the same parameters, but for those that only refuse, which from_density takes by `?`.
 #![tactic(auto)]
 
 ghost use Rattle.std.specs.Prelude.{◌≡◌};

@@ -1,5 +1,5 @@
 // RULES 5.1: the pressure door, the state at a temperature and a pressure. Each step of the definition has a function
-// of the same shape.
+// of the same shape and with the same parameters, but for those that only refuse, which from_pressure takes by `?`.
 #![tactic(auto)]
 
 mod search;
@@ -34,6 +34,7 @@ fn as_vapour(t: f64, p: f64) -> Result<State, Refusal>
     search_at(t, Phase::Vapour, ends.from, to, p)
 }
 
+// As as_vapour from the other end: one function of both would take the phase, the factor, the density and which end it is.
 #[tactic(auto, unfolding(crate::specs::PressureDoor::liquid))]
 fn as_liquid(t: f64, p: f64) -> Result<State, Refusal>
     ensures { result ≡ liquid of1996 t p }

@@ -86,6 +86,7 @@ pub extern "C" fn makhroeng_saturation(temperature: f64, figures: &mut [f64]) ->
     put_saturated(saturated_at(document_01(), temperature), figures)
 }
 
+// What is refused is 0 here, by the C interface.
 #[unsafe(no_mangle)]
 pub extern "C" fn makhroeng_report(text: &[u8], out: &mut [u8]) -> u64
     ensures { ReportedIn out.old out.new (report document01 (in_form text.now)) result }

@@ -107,6 +107,7 @@ fn put_three(s: Saturation, figures: &mut [f64])
     figures[..3].copy_from_slice(&[s.pressure, s.vapour, s.liquid]);
 }
 
+// As put_answer: one function of both would take the numbers, how many they are and the number for C, and say less.
 pub fn put_saturated(s: Result<Saturation, Refusal>, figures: &mut [f64]) -> u32
     ensures { SaturatedIn figures.old figures.new s result }
 {

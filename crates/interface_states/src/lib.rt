@@ -33,12 +33,14 @@ fn put_place(t: f64, p: f64, figures: &mut [f64]) -> u32
     put_state(from_pressure(document_01(), t, p), figures)
 }
 
+// 15 and 260 are numbers of the C interface (include/makhroeng.h).
 pub fn put_states(ts: &[f64], ps: &[f64], answers: &mut [u32], figures: &mut [f64]) -> u32
     ensures { StatesIn ts.now ps.now answers.old answers.new figures.old figures.new result }
 {
     if !lengths_fit(ts.len(), ps.len(), answers.len(), figures.len()) {
         return 15;
     }
+    // By index: over chunks of the figures, zipped, the proof didn't close, since of what `iter_mut` lends on nothing is known afterwards.
     for i in 0..ts.len() {
         let at = 10 * i;
         answers[i] = put_place(ts[i], ps[i], &mut figures[at..at + 10]);

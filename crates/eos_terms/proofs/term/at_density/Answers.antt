@@ -16,7 +16,7 @@ returns c =
     c.point_by.ensures ∙ rw (c.twelve_decays.ensures, c.exponents-x.ensures, c.powers_to_10-powers.ensures) (point_is a.iso a.delta) in
     let count : fallen_rows c.exponents-x.result ≡ fallen_terms a.iso a.delta = ap fallen_rows c.exponents-x.ensures ∙ counted a.iso a.delta in
     let told : c.if-told.fallen ≡ cond a.told (fallen_terms a.iso a.delta) 0 = elim c.if-told.branch [
-      then-told w ↦ rw w.if-told.true (w.fallen-is ∙ w.fallen_rows-fallen.ensures ∙ count)
+      | then-told w ↦ rw w.if-told.true (w.fallen-is ∙ w.fallen_rows-fallen.ensures ∙ count)
       | else-told w ↦ rw w.if-told.false w.fallen-is
     ] in
     λ i. record { point = placed i; fallen = told i }

@@ -1,13 +1,15 @@
 -- A sum grows by its row's figure, tested; and what the rows are made of, by the numbers that they share. Assumes nothing.
 use mathlib.Core.Path.{◌≡◌, refl, ap, ◌∙◌}
+use mathlib.Core.Bool.{Bool}
+use lib.Dec.{T}
 use lib.Ieee.{Float}
 use Rattle.num_working.specs.Working.{checked, ◌+ᵂ◌, Worked}
 use Rattle.num_working.proofs.Workings.{checked_add}
-use Rattle.num_formulas.specs.Formula.{num, ◌⊕◌, ◌⊗◌, value}
+use Rattle.num_formulas.specs.Formula.{num, ◌⊗◌, value}
 use Rattle.num_formulas.proofs.Formulas.{once}
-use Rattle.eos_brackets.specs.Derivative.{Derivative, Delta, DeltaDelta, Tau, TauTau, DeltaTau, of, five}
+use Rattle.eos_brackets.specs.Derivative.{Derivative, Delta, DeltaDelta, Tau, TauTau, DeltaTau, of, grown, asked}
 use Rattle.eos_brackets.specs.declared.Five.{Five}
-use Rattle.eos_brackets.proofs.Derivatives.{of_five}
+use Rattle.eos_brackets.proofs.Derivatives.{of_grown}
 use Rattle.eos_rows.specs.declared.NonAnalytic.{NonAnalytic}
 use Rattle.eos_isotherm.specs.declared.Isotherm.{Isotherm}
 use Rattle.eos_non_analytic.specs.Parts.{Around, Parts, around, parts, psi, near, edge, critical, held_near, held_edge, critical_by}
@@ -32,25 +34,22 @@ critical_by_lem iso delta = refl
 
 -- ---- from what code has of a row: of each of the five sums alike
 module _ (iso : Isotherm) (delta : Float) (w : NonAnalytic) (x : Near) (y : Edge) (z : Float) where
-  abbrev sum : Float → Derivative → Float
-  sum s k = value (num s ⊕ non_analytic_term w delta (num z) ⊗ non_analytic_bracket w (held_near x) (held_edge y) delta iso.tau k)
+  abbrev term : Float
+  term = value (non_analytic_term w delta (num z))
 
-  abbrev pub Added : Derivative → Float → Float → Type 0
-  Added k s v = v ≡ sum s k
+  abbrev bracket : Derivative → Float
+  bracket k = value (non_analytic_bracket w (held_near x) (held_edge y) delta iso.tau k)
 
-  abbrev pub AllAdded : Five → Five → Type 0
-  AllAdded s v = v ≡ five (λ k. sum (of s k) k)
+  abbrev pub Grown : Bool → Five → Five → Type 0
+  Grown all s v = v ≡ grown all s term bracket
 
-  pub each_added : (k : Derivative) (s v : Five) → AllAdded s v → Added k (of s k) (of v k)
-  each_added k s v e = ap (λ (u : Five). of u k) e ∙ of_five (λ j. sum (of s j) j) k
-
-  pub figure_added : (k : Derivative) (row : NonAnalytic) (s v : Float)
+  pub figure_added : (all : Bool) (k : Derivative) (row : NonAnalytic) (s v : Five) → T (asked all k)
       → w ≡ row → x ≡ near (around delta) → y ≡ edge (parts row (around delta) iso.tau) → z ≡ value (psi row (around delta) iso.psi)
-      → Added k s v → checked v ≡ checked s +ᵂ non_analytic_figure iso delta k row
+      → Grown all s v → checked (of v k) ≡ checked (of s k) +ᵂ non_analytic_figure iso delta k row
   unfolding value
-  figure_added k row s v a b c d e =
+  figure_added all k row s v h a b c d e =
       let n = around delta in
       let p = parts row n iso.tau in
-      rw (e, a, b, c, d, held row n p delta iso.tau k)
-      (checked_add s _ ∙ ap (λ (u : Worked). checked s +ᵂ u)
+      rw (e, of_grown all s term bracket k h, a, b, c, d, held row n p delta iso.tau k)
+      (checked_add (of s k) _ ∙ ap (λ (u : Worked). checked (of s k) +ᵂ u)
       (once (non_analytic_term row delta (psi row n iso.psi) ⊗ non_analytic_bracket row n p delta iso.tau k)))

@@ -1,8 +1,8 @@
 // The figures of rows 40 to 42, the term (n·δ)·Ψ times the bracket of each derivative (004, Table 32), added to the
 // sums so far: all five, or the first, which a pressure needs.
 ghost use Rattle.std.specs.Prelude.{◌≡◌};
-ghost use Rattle.num_formulas.specs.Formula.{num, ◌⊕◌, ◌⊗◌, value};
-ghost use Rattle.eos_brackets.specs.Derivative.{Delta, of, five};
+ghost use Rattle.num_formulas.specs.Formula.{num, value};
+ghost use Rattle.eos_brackets.specs.Derivative.{five, grown};
 ghost use Rattle.eos_non_analytic.specs.Parts.{held_near, held_edge};
 ghost use Rattle.eos_non_analytic.specs.Figures.{m, brackets_by, non_analytic_term, non_analytic_bracket};
 
@@ -18,17 +18,8 @@ fn m_of(row: NonAnalytic, n: Near, edge: Edge) -> f64
     row.ka * edge.theta * (20.0 / 3.0) * n.v + 2.0 * row.kb * row.a * edge.low
 }
 
-// The first bracket alone.
-fn slope_bracket(row: NonAnalytic, n: Near, edge: Edge, delta: f64, tau: f64) -> f64
-    ensures { result ≡ value (non_analytic_bracket row (held_near n) (held_edge edge) delta tau Delta) }
-{
-    let delta_d = n.e * m_of(row, n, edge);
-    let l = delta * (row.b * edge.p1 * delta_d);
-    let k = delta * -(2.0 * row.kc * n.e);
-    edge.p0 * (1.0 + k) + l
-}
-
 // The five brackets by m and P₂: what they share is worked once.
+#[inline(always)]
 fn brackets_by(row: NonAnalytic, n: Near, edge: Edge, m: f64, p2: f64, delta: f64, tau: f64) -> Five
     ensures { result ≡ five (λ k. value (brackets_by row (held_near n) (held_edge edge) (num m) (num p2) delta tau k)) }
 {
@@ -65,6 +56,7 @@ fn brackets_by(row: NonAnalytic, n: Near, edge: Edge, m: f64, p2: f64, delta: f6
 }
 
 // P₂ is worked only where a second derivative is.
+#[inline(always)]
 fn brackets(row: NonAnalytic, n: Near, edge: Edge, delta: f64, tau: f64) -> Five
     ensures { result ≡ five (λ k. value (non_analytic_bracket row (held_near n) (held_edge edge) delta tau k)) }
 {
@@ -73,8 +65,8 @@ fn brackets(row: NonAnalytic, n: Near, edge: Edge, delta: f64, tau: f64) -> Five
     brackets_by(row, n, edge, m, p2, delta, tau)
 }
 
-// The sums so far, and a row's figures added. psi is its Ψ.
-pub fn add_figures(
+// The sums so far, and a row's figures added: of all five, or of the first alone. psi is its Ψ.
+pub fn add<const ALL: bool>(
     s: Five,
     row: NonAnalytic,
     n: Near,
@@ -83,28 +75,12 @@ pub fn add_figures(
     delta: f64,
     tau: f64,
 ) -> Five
-    ensures { result ≡ five (λ k. value (num (of s k) ⊕ non_analytic_term row delta (num psi) ⊗ non_analytic_bracket row (held_near n) (held_edge edge) delta tau k)) }
+    ensures { result ≡ grown ALL s (value (non_analytic_term row delta (num psi))) (λ k. value (non_analytic_bracket row (held_near n) (held_edge edge) delta tau k)) }
 {
     grow(
-        true,
+        ALL,
         s,
         row.n * delta * psi,
         brackets(row, n, edge, delta, tau),
     )
-}
-
-// The first sum so far, which a pressure needs, and the row's figure of it. Apart from the five, so that it stays short
-// where it is worked.
-pub fn add_slope(
-    s: f64,
-    row: NonAnalytic,
-    n: Near,
-    edge: Edge,
-    psi: f64,
-    delta: f64,
-    tau: f64,
-) -> f64
-    ensures { result ≡ value (num s ⊕ non_analytic_term row delta (num psi) ⊗ non_analytic_bracket row (held_near n) (held_edge edge) delta tau Delta) }
-{
-    s + row.n * delta * psi * slope_bracket(row, n, edge, delta, tau)
 }

@@ -21,11 +21,7 @@ pub fn pressure_of(t: f64, rho: f64, a: f64) -> f64
 pub fn pressure_on(t: f64, iso: Isotherm, rho: f64) -> Option<f64>
     ensures { result ≡ pressure_on t iso rho }
 {
-    let Some(delta) = checked(delta_at(rho)) else {
-        return None;
-    };
-    let Some(a) = slope_at(iso, delta) else {
-        return None;
-    };
+    let delta = checked(delta_at(rho))?;
+    let a = slope_at(iso, delta)?;
     checked(pressure_of(t, rho, a))
 }

@@ -1,20 +1,20 @@
 -- Sums row by row: what a loop's turn adds, in plain f64 that is tested at the end, and how kinds of rows follow one another. Assumes nothing.
 use Rattle.std.specs.Prelude.{None}
 use mathlib.Core.Path.{◌≡◌, refl, sym, ap, ◌∙◌}
-use mathlib.Core.Bool.{Bool, false}
+use mathlib.Core.Bool.{Bool, not}
 use mathlib.Core.List.{List, [], ◌∷◌, ◌++◌}
 use Prim.Native.Nat.{ℕ, zero, suc, ◌+◌, ◌<◌, ◌≤◌}
 use native.Mathlib.Nat.{not-suc-le-zero, le_of_suc-le-suc}
 use native.Mathlib.Numerals.{add-one}
 use native.Mathlib.Omega.{arith}
-use lib.Dec.{T}
+use lib.Dec.{T, eqb}
 use lib.ListN.{length, get_or, drop, drop_of_length-le}
 use lib.Seq.{drop-cons}
 use lib.Ieee.{Float, binary64, add, mul}
 use Rattle.num_working.specs.Working.{checked, ◌+ᵂ◌, Worked}
 use Rattle.num_working.proofs.Workings.{checked_add}
 use Rattle.eos_terms.specs.Term.{numbered}
-use Rattle.eos_brackets.specs.Derivative.{Derivative, Delta, DeltaDelta, Tau, TauTau, DeltaTau, of, times, grown, asked}
+use Rattle.eos_brackets.specs.Derivative.{Derivative, of, times, grown, asked}
 use Rattle.eos_brackets.specs.declared.Five.{Five}
 use Rattle.eos_brackets.proofs.Derivatives.{of_five, of_grown}
 use Rattle.eos_residual.specs.Sum.{onto, total, Meet}
@@ -64,6 +64,10 @@ get_d_numbered f j (r ∷ rs) (suc i) d e h =
     get_d_numbered f (suc j) rs i d e (le_of_suc-le-suc h) ∙ ap (λ (n : ℕ). f n (get_or rs i d)) p
 
 -- ---- the same for each sum that is asked for
+-- a const parameter that is a truth value, by the number that stands for it
+abbrev pub flag : ℕ → Bool
+flag n = not (eqb n 0)
+
 -- what a row's term and brackets have to be
 abbrev pub At : (Derivative → List Worked) → ℕ → Float → (Derivative → Float) → Type 0
 At figures i term bracket = (k : Derivative) → (i < length (figures k)) × (checked (mul binary64 term (bracket k)) ≡ get_or (figures k) i None)
@@ -87,15 +91,3 @@ module _ (all : Bool) (figures : Derivative → List Worked) where
   dues_first v term bracket e h k t =
       rw (e, of_five (λ j. mul binary64 term (bracket j)) k)
       (due_first (figures k) (mul binary64 term (bracket k)) (h k).0 (h k).1)
-
--- ---- where the first sum alone is asked for, it alone has to be met
-abbrev pub WithFirst : Five → Float → Five → Type 0
-WithFirst s d v = v ≡ record { d = d; dd = s.dd; t = s.t; tt = s.tt; dt = s.dt }
-
-module _ {all : Bool} (s : Five) {v : Five} {d : Float} (goal : Derivative → Worked) where
-  pub first_alone : all ≡ false → WithFirst s d v → checked d ≡ goal Delta → Meet all v goal
-  first_alone a w e Delta h = rw w e
-  first_alone a w e DeltaDelta h = absurd (rw a at h)
-  first_alone a w e Tau h = absurd (rw a at h)
-  first_alone a w e TauTau h = absurd (rw a at h)
-  first_alone a w e DeltaTau h = absurd (rw a at h)

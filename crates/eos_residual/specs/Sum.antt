@@ -1,5 +1,5 @@
 -- RULES 4.8 (docs/ARRANGEMENT.md, section 7): the sums of the residual part, from the first row on in the table's order. Definitions only.
-use Rattle.std.specs.Prelude.{ℕ, ◌-◌, ◌≡◌, Bool, T, List, [], ◌∷◌, ◌++◌, get_or, Float, Some, None, Option}
+use Rattle.std.specs.Prelude.{ℕ, ◌+◌, ◌-◌, drop, ◌≡◌, Bool, T, List, [], ◌∷◌, ◌++◌, get_or, Float, Some, None, Option}
 use Rattle.std.specs.Float.{nan}
 use Rattle.num_working.specs.Working.{checked, or_else, ◌+ᵂ◌, Worked}
 use Rattle.num_formulas.specs.Formula.{num, ◌⊗◌, ◌^^◌, work}
@@ -60,6 +60,11 @@ residual iso delta k = total (figures iso delta k)
 -- sums in plain f64: each that is asked for, tested, is what it has to be
 abbrev pub Meet : Bool → Five → (Derivative → Worked) → Type 0
 Meet all s goal = (k : Derivative) → T (asked all k) → checked (of s k) ≡ goal k
+
+-- what nine rows, from the one at a place on, make of the sums so far: with the rows behind them, each sum that is asked for comes to the same
+abbrev pub Nine : Bool → ℕ → Five → Five → (Derivative → List Worked) → Type 0
+Nine all first start s figures =
+    (k : Derivative) → T (asked all k) → onto (checked (of s k)) (drop (first + 9) (figures k)) ≡ onto (checked (of start k)) (drop first (figures k))
 
 -- the five together
 unfoldable pub all_five : (Derivative → Worked) → Sums

@@ -1,8 +1,7 @@
 // RULES 4.8: the sums of the residual part over all 42 rows in the table's order: all five, or the first, which a
 // pressure needs. Each row's term is worked once for all that are asked for, in plain f64, and each sum is tested once,
 // at its end. What hangs on the temperature comes with the isotherm.
-ghost use Rattle.std.specs.Prelude.{◌≡◌, true, cond, ◌&&◌};
-ghost use Rattle.std.specs.Float.Ieee.Scale.{finite};
+ghost use Rattle.std.specs.Prelude.{◌≡◌, ◌+◌, ◌≤◌, cond};
 ghost use Rattle.num_working.specs.Working.{checked};
 ghost use Rattle.num_formulas.specs.Formula.{value};
 ghost use Rattle.eos_brackets.specs.Derivative.{Delta, of};
@@ -10,18 +9,18 @@ ghost use Rattle.eos_non_analytic.specs.Parts.{critical};
 ghost use Rattle.eos_non_analytic.specs.Figures.{non_analytic_figures};
 ghost use Rattle.eos_terms.specs.Term.{in_quarters, point};
 ghost use Rattle.eos_terms.specs.Fallen.{fallen_terms};
-ghost use Rattle.eos_residual.specs.Sum.{onto, total, Meet, polynomial_figures, exponential_figures, gaussian_figures, residual, all_five, residual_part};
+ghost use Rattle.eos_residual.specs.Sum.{onto, total, Meet, Nine, polynomial_figures, exponential_figures, gaussian_figures, residual, all_five, residual_part};
 
 use eos_brackets::{
     Five, exponential_brackets, first_bracket, gaussian_brackets, grow, polynomial_brackets, times,
 };
 use eos_isotherm::Isotherm;
-use eos_non_analytic::figures::{add_figures, add_slope};
+use eos_non_analytic::figures::add;
 use eos_non_analytic::parts::{Critical, at_critical, near_critical};
 use eos_rows::columns::{coefficients, decay_powers, delta_powers, tau_quarters};
 use eos_rows::{gaussian_row, non_analytic_row};
 use eos_terms::term::{Point, at_density};
-use num_working::{checked, is_finite};
+use num_working::checked;
 
 // The sums that are asked for, in plain f64; and where all five are, how many terms fell away.
 #[derive(Clone, Copy)]
@@ -55,24 +54,22 @@ fn polynomial_sums(all: bool, iso: Isotherm, p: Point) -> Five
     let xs = p.powers;
     let ys = iso.powers;
     let d = ds[0];
-    let at = d as usize;
     let first = polynomial_brackets(d as f64, in_quarters(qs[0]));
-    let mut s = times(ns[0] * xs[at] * ys[0], first);
-    let mut i = 1;
-    while i < 7 {
+    let mut s = times(ns[0] * xs[d as usize] * ys[0], first);
+    for i in 1..7 {
         let d = ds[i];
-        let at = d as usize;
         let brackets = polynomial_brackets(d as f64, in_quarters(qs[i]));
-        s = grow(all, s, ns[i] * xs[at] * ys[i], brackets);
-        i += 1;
+        s = grow(all, s, ns[i] * xs[d as usize] * ys[i], brackets);
     }
     s
 }
 
-// Rows 8 to 34 onto the sums so far, of all five.
-fn exponential_five(start: Five, iso: Isotherm, p: Point) -> Five
-    requires { p ≡ point iso p.delta }
-    ensures { Meet true result (λ k. onto (checked (of start k)) (exponential_figures iso p.delta k)) }
+// Nine of rows 8 to 34, from the one at place FIRST on, onto the sums so far. A loop of so few turns the compiler lays out
+// whole, and then each entry of a column stands where it is used, and none on the stack (docs/DECISIONS.md).
+fn nine_rows<const ALL: bool, const FIRST: usize>(start: Five, iso: Isotherm, p: Point) -> Five
+    requires p_value { p ≡ point iso p.delta }
+    requires within { FIRST + 9 ≤ 27 }
+    ensures { Nine ALL FIRST start result (exponential_figures iso p.delta) }
 {
     let ns = coefficients();
     let ds = delta_powers();
@@ -82,72 +79,37 @@ fn exponential_five(start: Five, iso: Isotherm, p: Point) -> Five
     let es = p.decays;
     let ys = iso.powers;
     let mut s = start;
-    let mut i = 0;
-    while i < 27 {
+    for i in FIRST..FIRST + 9 {
         let d = ds[7 + i];
         let c = cs[i];
-        let at = d as usize;
         let z = c as usize;
-        let term = ns[7 + i] * xs[at] * ys[7 + i] * es[z - 1];
+        let term = ns[7 + i] * xs[d as usize] * ys[7 + i] * es[z - 1];
         let t = in_quarters(qs[7 + i]);
         let brackets = exponential_brackets(d as f64, t, c as f64, xs[z]);
-        s = grow(true, s, term, brackets);
-        i += 1;
+        s = grow(ALL, s, term, brackets);
     }
     s
 }
 
-// Of the first alone. Nine rows at a time: a loop of so few turns the compiler lays out whole, and then each entry of a
-// column stands where it is used, and none on the stack (docs/DECISIONS.md).
-fn exponential_slope(start: f64, iso: Isotherm, p: Point) -> f64
+// Rows 8 to 34.
+fn exponential_rows<const ALL: bool>(start: Five, iso: Isotherm, p: Point) -> Five
     requires { p ≡ point iso p.delta }
-    ensures { checked result ≡ onto (checked start) (exponential_figures iso p.delta Delta) }
+    ensures { Meet ALL result (λ k. onto (checked (of start k)) (exponential_figures iso p.delta k)) }
 {
-    let ns = coefficients();
-    let ds = delta_powers();
-    let cs = decay_powers();
-    let xs = p.powers;
-    let es = p.decays;
-    let ys = iso.powers;
-    let mut s = start;
-    let mut i = 0;
-    while i < 27 {
-        let end = i + 9;
-        while i < end {
-            let d = ds[7 + i];
-            let c = cs[i];
-            let at = d as usize;
-            let z = c as usize;
-            let term = ns[7 + i] * xs[at] * ys[7 + i] * es[z - 1];
-            s = s + term * first_bracket(d as f64, c as f64, xs[z]);
-            i += 1;
-        }
-    }
-    s
+    let s16 = nine_rows::<ALL, 0>(start, iso, p);
+    let s25 = nine_rows::<ALL, 9>(s16, iso, p);
+    nine_rows::<ALL, 18>(s25, iso, p)
 }
 
-// The first sum anew, and the others as they are.
-fn with_first(s: Five, d: f64) -> Five
-    ensures { result ≡ record { d = d; dd = s.dd; t = s.t; tt = s.tt; dt = s.dt } }
-{
-    Five {
-        d,
-        dd: s.dd,
-        t: s.t,
-        tt: s.tt,
-        dt: s.dt,
-    }
-}
-
-// Of those that are asked for.
 fn exponential_sums(all: bool, start: Five, iso: Isotherm, p: Point) -> Five
     requires { p ≡ point iso p.delta }
     ensures { Meet all result (λ k. onto (checked (of start k)) (exponential_figures iso p.delta k)) }
 {
     if all {
-        return exponential_five(start, iso, p);
+        exponential_rows::<true>(start, iso, p)
+    } else {
+        exponential_rows::<false>(start, iso, p)
     }
-    with_first(start, exponential_slope(start.d, iso, p))
 }
 
 // Rows 35 to 39.
@@ -159,10 +121,8 @@ fn gaussian_sums(all: bool, start: Five, iso: Isotherm, p: Point) -> Five
     let bs = p.bells;
     let ys = iso.powers;
     let mut s = start;
-    let mut i = 0;
-    while i < 5 {
+    for i in 0..5 {
         let r = gaussian_row(i);
-        let at = r.d as usize;
         let brackets = gaussian_brackets(
             r.d as f64,
             in_quarters(r.q),
@@ -173,54 +133,45 @@ fn gaussian_sums(all: bool, start: Five, iso: Isotherm, p: Point) -> Five
             p.delta,
             iso.tau,
         );
-        s = grow(all, s, r.n * xs[at] * ys[34 + i] * bs[i], brackets);
-        i += 1;
+        s = grow(
+            all,
+            s,
+            r.n * xs[r.d as usize] * ys[34 + i] * bs[i],
+            brackets,
+        );
     }
     s
 }
 
-// Rows 40 to 42, of all five sums.
-fn non_analytic_five(start: Five, iso: Isotherm, p: Point, c: Critical) -> Five
+// Rows 40 to 42.
+fn non_analytic_rows<const ALL: bool>(start: Five, iso: Isotherm, p: Point, c: Critical) -> Five
     requires p_value { p ≡ point iso p.delta }
     requires c_value { c ≡ critical iso p.delta }
-    ensures { Meet true result (λ k. onto (checked (of start k)) (non_analytic_figures iso p.delta k)) }
+    ensures { Meet ALL result (λ k. onto (checked (of start k)) (non_analytic_figures iso p.delta k)) }
 {
     let d = p.delta;
     let t = iso.tau;
     let z = p.psis;
-    let s40 = add_figures(start, non_analytic_row(0), c.near, c.first, z[0], d, t);
-    let s41 = add_figures(s40, non_analytic_row(1), c.near, c.second, z[0], d, t);
-    add_figures(s41, non_analytic_row(2), c.near, c.third, z[1], d, t)
+    let s40 = add::<ALL>(start, non_analytic_row(0), c.near, c.first, z[0], d, t);
+    let s41 = add::<ALL>(s40, non_analytic_row(1), c.near, c.second, z[0], d, t);
+    add::<ALL>(s41, non_analytic_row(2), c.near, c.third, z[1], d, t)
 }
 
-// Of the first alone.
-fn non_analytic_slope(start: f64, iso: Isotherm, p: Point, c: Critical) -> f64
-    requires p_value { p ≡ point iso p.delta }
-    requires c_value { c ≡ critical iso p.delta }
-    ensures { checked result ≡ onto (checked start) (non_analytic_figures iso p.delta Delta) }
-{
-    let d = p.delta;
-    let t = iso.tau;
-    let z = p.psis;
-    let s40 = add_slope(start, non_analytic_row(0), c.near, c.first, z[0], d, t);
-    let s41 = add_slope(s40, non_analytic_row(1), c.near, c.second, z[0], d, t);
-    add_slope(s41, non_analytic_row(2), c.near, c.third, z[1], d, t)
-}
-
-// Of those that are asked for.
 fn non_analytic_sums(all: bool, start: Five, iso: Isotherm, p: Point, c: Critical) -> Five
     requires p_value { p ≡ point iso p.delta }
     requires c_value { c ≡ critical iso p.delta }
     ensures { Meet all result (λ k. onto (checked (of start k)) (non_analytic_figures iso p.delta k)) }
 {
     if all {
-        return non_analytic_five(start, iso, p, c);
+        non_analytic_rows::<true>(start, iso, p, c)
+    } else {
+        non_analytic_rows::<false>(start, iso, p, c)
     }
-    with_first(start, non_analytic_slope(start.d, iso, p, c))
 }
 
 // All 42, in plain f64. Rows 40 to 42 wait longest for their roots, and their second roots for their first: so the first
-// are begun before the exponentials, and the second before the sums.
+// are begun before the exponentials, and the second before the sums. `all` is a parameter and no const one: with two
+// functions of this each would call what is worked once for all rows, and it would be laid out in neither.
 fn sums_at(all: bool, iso: Isotherm, delta: f64) -> Added
     ensures { Meet all result.five (λ k. residual iso delta k) × (result.fallen ≡ cond all (fallen_terms iso delta) 0) }
 {
@@ -243,27 +194,17 @@ pub fn slope_at(iso: Isotherm, delta: f64) -> Option<f64>
     checked(sums_at(false, iso, delta).five.d)
 }
 
-fn also_finite(x: f64, others: bool) -> bool
-    ensures { result ≡ (finite x && others) }
-{
-    if is_finite(x) { others } else { false }
-}
-
-fn all_finite(s: Five) -> bool
-    ensures { result ≡ (finite s.d && (finite s.dd && (finite s.t && (finite s.tt && finite s.dt)))) }
-{
-    let r = is_finite(s.dt);
-    let r = also_finite(s.tt, r);
-    let r = also_finite(s.t, r);
-    let r = also_finite(s.dd, r);
-    also_finite(s.d, r)
-}
-
 // Each of the five, tested.
 fn all_five(s: Five) -> Option<Five>
     ensures { result ≡ all_five (λ k. checked (of s k)) }
 {
-    if all_finite(s) { Some(s) } else { None }
+    Some(Five {
+        d: checked(s.d)?,
+        dd: checked(s.dd)?,
+        t: checked(s.t)?,
+        tt: checked(s.tt)?,
+        dt: checked(s.dt)?,
+    })
 }
 
 // All that a state needs. What the exponentials say is passed on.

@@ -95,18 +95,3 @@ state_on t iso phase rho = or_else (work (delta rho)) None (λ δ. then_sums (fi
 -- T, p, ρ, u, h, cᵥ, cₚ, w
 abbrev pub eight : State → List Float
 eight x = x.t ∷ x.p ∷ x.rho ∷ x.u ∷ x.h ∷ x.cv ∷ x.cp ∷ x.w ∷ []
-
--- ---- what code inside asks for: Table 3 in plain f64, tested nowhere
-unfoldable pub plainly : Phase → ℕ → Float → Float → Five → Float → Float → State
-plainly phase fallen t rho sums i1 i2 = record {
-  t = t;
-  p = value (pressure_formula t rho sums.d);
-  rho = rho;
-  u = value (energy t sums i1);
-  h = value (enthalpy t sums i1);
-  cv = value (heat_v sums i2);
-  cp = value (heat_p sums i2);
-  w = value (sound t sums i2);
-  phase = phase;
-  fallen = fallen;
-}

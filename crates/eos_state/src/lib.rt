@@ -1,12 +1,11 @@
 // RULES 4.9: the state on an isotherm at a density (004, Table 3; docs/ARRANGEMENT.md, sections 9 and 12), eight numbers,
 // a phase and how many terms fell away, or a failure.
-#![tactic(auto)]
+#![tactic(auto, unfolding(num_formulas::specs::Formula::value))]
 
-ghost use Rattle.std.specs.Prelude.{◌≡◌, ◌&&◌};
-ghost use Rattle.std.specs.Float.Ieee.Scale.{finite};
-ghost use Rattle.num_working.specs.Working.{checked};
+ghost use Rattle.std.specs.Prelude.{◌≡◌};
 ghost use Rattle.num_formulas.specs.Formula.{value};
-ghost use Rattle.eos_state.specs.State.{heat_p, sound, plainly, stated, state_of, state_ideal, state_on};
+ghost use Rattle.eos_pressure.specs.Pressure.{pressure_formula};
+ghost use Rattle.eos_state.specs.State.{s, z, g, k, thermal, energy, enthalpy, heat_v, heat_p, sound, state_of, state_on};
 
 use eos_brackets::Five;
 use eos_constants::{delta_at, span_wagner};
@@ -15,7 +14,7 @@ use eos_isotherm::Isotherm;
 use eos_pressure::pressure_of;
 use eos_residual::sum::residual_part;
 use num_roots::root::{Exponent, root};
-use num_working::{checked, is_finite, over, plain};
+use num_working::{checked, over, plain};
 
 #[derive(Clone, Copy)]
 pub enum Phase {
@@ -39,120 +38,119 @@ pub struct State {
     pub fallen: u32,
 }
 
-// cₚ in plain f64, with z, g and k as docs/ARRANGEMENT.md, section 9, has them.
-fn heat_p(sums: Five, i2: f64) -> f64
-    ensures { result ≡ value (heat_p sums i2) }
-{
-    let z = i2 + sums.tt;
-    let g = 1.0 + sums.d - sums.dt;
-    let k = 1.0 + 2.0 * sums.d + sums.dd;
-    span_wagner().gas * (-z + over(g * g, k))
-}
-
-// The sound speed in plain f64.
-fn sound_speed(t: f64, sums: Five, i2: f64) -> f64
-    ensures { result ≡ value (sound t sums i2) }
-{
-    let z = i2 + sums.tt;
-    let g = 1.0 + sums.d - sums.dt;
-    let k = 1.0 + 2.0 * sums.d + sums.dd;
-    let square = span_wagner().gas * t * (k - over(g * g, z));
-    plain(root(square, Exponent { m: 1, k: 2 }))
-}
-
-// Table 3 in plain f64.
-fn table_3(phase: Phase, fallen: u32, t: f64, rho: f64, sums: Five, i1: f64, i2: f64) -> State
-    ensures { result ≡ plainly phase fallen t rho sums i1 i2 }
-{
-    let p = pressure_of(t, rho, sums.d);
-    let cp = heat_p(sums, i2);
-    let w = sound_speed(t, sums, i2);
-    let gas = span_wagner().gas;
-    let s = i1 + sums.t;
-    State {
-        t,
-        p,
-        rho,
-        u: gas * t * s,
-        h: gas * t * (1.0 + s + sums.d),
-        cv: gas * -(i2 + sums.tt),
-        cp,
-        w,
-        phase,
-        fallen,
-    }
-}
-
-fn are_finite(x: f64, y: f64, z: f64) -> bool
-    ensures { result ≡ (finite x && (finite y && finite z)) }
-{
-    if is_finite(x) {
-        if is_finite(y) { is_finite(z) } else { false }
-    } else {
-        false
-    }
-}
-
-// A state whose every number is finite.
-fn tested(x: State) -> Option<State>
-    ensures { result ≡ stated x.phase x.fallen x.t x.rho (checked x.p) (checked x.u) (checked x.h) (checked x.cv) (checked x.cp) (checked x.w) }
-{
-    if are_finite(x.p, x.u, x.h) {
-        if are_finite(x.cv, x.cp, x.w) {
-            return Some(x);
-        }
-    }
-    None
-}
-
-fn state_of(
-    phase: Phase,
-    fallen: u32,
+// What Table 3 is worked from, in plain f64: T, ρ, the residual part's sums, and i1 = τφ°_τ and i2 = τ²φ°_ττ of the ideal
+// part. z, g, k and R·T are as docs/ARRANGEMENT.md, section 9, has them.
+#[derive(Clone, Copy)]
+struct Parts {
     t: f64,
     rho: f64,
     sums: Five,
     i1: f64,
     i2: f64,
-) -> Option<State>
-    ensures { result ≡ state_of phase fallen t rho sums i1 i2 }
-{
-    tested(table_3(phase, fallen, t, rho, sums, i1, i2))
 }
 
-// With the ideal part at the isotherm's τ.
-fn state_ideal(
-    phase: Phase,
-    fallen: u32,
-    t: f64,
-    iso: Isotherm,
-    rho: f64,
-    sums: Five,
-) -> Option<State>
-    ensures { result ≡ state_ideal phase fallen t iso rho sums }
-{
-    let i = ideal_part(iso.tau);
-    let first = i.first;
-    let second = i.second;
-    let Some(i1) = first else {
-        return None;
-    };
-    let Some(i2) = second else {
-        return None;
-    };
-    state_of(phase, fallen, t, rho, sums, i1, i2)
+impl Parts {
+    fn s(self) -> f64
+        ensures { result ≡ value (s self.sums self.i1) }
+    {
+        self.i1 + self.sums.t
+    }
+
+    fn z(self) -> f64
+        ensures { result ≡ value (z self.sums self.i2) }
+    {
+        self.i2 + self.sums.tt
+    }
+
+    fn g(self) -> f64
+        ensures { result ≡ value (g self.sums) }
+    {
+        1.0 + self.sums.d - self.sums.dt
+    }
+
+    fn k(self) -> f64
+        ensures { result ≡ value (k self.sums) }
+    {
+        1.0 + 2.0 * self.sums.d + self.sums.dd
+    }
+
+    fn thermal(self) -> f64
+        ensures { result ≡ value (thermal self.t) }
+    {
+        span_wagner().gas * self.t
+    }
+
+    fn pressure(self) -> f64
+        ensures { result ≡ value (pressure_formula self.t self.rho self.sums.d) }
+    {
+        pressure_of(self.t, self.rho, self.sums.d)
+    }
+
+    fn energy(self) -> f64
+        ensures { result ≡ value (energy self.t self.sums self.i1) }
+    {
+        self.thermal() * self.s()
+    }
+
+    fn enthalpy(self) -> f64
+        ensures { result ≡ value (enthalpy self.t self.sums self.i1) }
+    {
+        self.thermal() * (1.0 + self.s() + self.sums.d)
+    }
+
+    fn heat_v(self) -> f64
+        ensures { result ≡ value (heat_v self.sums self.i2) }
+    {
+        span_wagner().gas * -self.z()
+    }
+
+    fn heat_p(self) -> f64
+        ensures { result ≡ value (heat_p self.sums self.i2) }
+    {
+        let g = self.g();
+        span_wagner().gas * (-self.z() + over(g * g, self.k()))
+    }
+
+    fn sound_speed(self) -> f64
+        ensures { result ≡ value (sound self.t self.sums self.i2) }
+    {
+        let g = self.g();
+        let square = self.thermal() * (self.k() - over(g * g, self.z()));
+        plain(root(square, Exponent { m: 1, k: 2 }))
+    }
+
+    // Each number tested.
+    fn state(self, phase: Phase, fallen: u32) -> Option<State>
+        ensures { result ≡ state_of phase fallen self.t self.rho self.sums self.i1 self.i2 }
+    {
+        Some(State {
+            t: self.t,
+            p: checked(self.pressure())?,
+            rho: self.rho,
+            u: checked(self.energy())?,
+            h: checked(self.enthalpy())?,
+            cv: checked(self.heat_v())?,
+            cp: checked(self.heat_p())?,
+            w: checked(self.sound_speed())?,
+            phase,
+            fallen,
+        })
+    }
 }
 
 pub fn state_on(t: f64, iso: Isotherm, phase: Phase, rho: f64) -> Option<State>
     ensures { result ≡ state_on t iso phase rho }
 {
-    let Some(delta) = checked(delta_at(rho)) else {
-        return None;
+    let delta = checked(delta_at(rho))?;
+    let residual = residual_part(iso, delta);
+    let sums = residual.sums?;
+    let ideal = ideal_part(iso.tau);
+    let parts = Parts {
+        t,
+        rho,
+        sums,
+        i1: ideal.first?,
+        i2: ideal.second?,
     };
-    let r = residual_part(iso, delta);
-    let fallen = r.fallen;
-    let summed = r.sums;
-    let Some(sums) = summed else {
-        return None;
-    };
-    state_ideal(phase, fallen, t, iso, rho, sums)
+    parts.state(phase, residual.fallen)
 }

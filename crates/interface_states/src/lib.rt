@@ -40,6 +40,7 @@ pub fn put_states(ts: &[f64], ps: &[f64], answers: &mut [u32], figures: &mut [f6
     if !lengths_fit(ts.len(), ps.len(), answers.len(), figures.len()) {
         return 15;
     }
+    // By index: over chunks of the figures, zipped, the proof didn't close, since of what `iter_mut` lends on nothing is known afterwards.
     for i in 0..ts.len() {
         let at = 10 * i;
         answers[i] = put_place(ts[i], ps[i], &mut figures[at..at + 10]);

@@ -1,2 +1,3 @@
 pub mod Halvings
 pub mod Probes
+pub mod Unique

@@ -10,7 +10,7 @@ use eos_densities::{liquid_density, vapour_density};
 use eos_ideal::ideal_part;
 use eos_isotherm::at_temperature;
 use eos_melting::melting_pressure;
-use eos_non_analytic::figures::add_figures;
+use eos_non_analytic::figures::add;
 use eos_non_analytic::parts::{at_critical, near_critical};
 use eos_rows::non_analytic_row;
 use eos_saturation::vapour_pressure;
@@ -238,7 +238,7 @@ fn non_analytic(t: f64, rho: f64) {
         dt: -0.0,
     };
     let psis = at_density(false, iso, delta).point.psis;
-    let r40 = add_figures(
+    let r40 = add::<true>(
         none,
         non_analytic_row(0),
         c.near,
@@ -247,7 +247,7 @@ fn non_analytic(t: f64, rho: f64) {
         delta,
         tau,
     );
-    let r41 = add_figures(
+    let r41 = add::<true>(
         none,
         non_analytic_row(1),
         c.near,
@@ -256,7 +256,7 @@ fn non_analytic(t: f64, rho: f64) {
         delta,
         tau,
     );
-    let r42 = add_figures(
+    let r42 = add::<true>(
         none,
         non_analytic_row(2),
         c.near,

@@ -30,3 +30,5 @@ module _ (s : List ℕ) (at : ℕ) where
     pub kind_other : (get_or s at 0 ≡ 80 → ⊥) → (get_or s at 0 ≡ 68 → ⊥) → (get_or s at 0 ≡ 87 → ⊥) → kind (drop at s) ≡ None
     unfolding kind
     kind_other n m w = rw (front s at h, ne_eqb _ _ n, ne_eqb _ _ m, ne_eqb _ _ w)
+
+pub ruleset kind_steps = (kind_end, kind_pressure, kind_density, kind_weighed, kind_other)

@@ -22,7 +22,7 @@ pub struct Cylinder {
     pub volume: Option<u64>,
 }
 
-#[tactic(auto, using(crate::proofs::Cylinders::kind_end, crate::proofs::Cylinders::kind_pressure, crate::proofs::Cylinders::kind_density, crate::proofs::Cylinders::kind_weighed, crate::proofs::Cylinders::kind_other))]
+#[tactic(auto, using(crate::proofs::Cylinders::kind_steps))]
 fn read_kind(s: &[u8], at: usize) -> Option<(Kind, usize)>
     ensures { Reads s.now at (kind (drop at s.now)) result }
 {

@@ -12,15 +12,16 @@ use crate::record::record_of;
 use sheet_mass::Grams;
 
 // A value with its kind; a blank has none. N is the sheet's whole numbers, or f64 for figures.
-#[derive(Clone, Copy)]
+#[derive(Clone, Copy, Default)]
 pub enum Reading<N> {
+    #[default]
     Blank,
     Pressure(N),
     Density(N),
     Weighed(Grams),
 }
 
-#[derive(Clone, Copy)]
+#[derive(Clone, Copy, Default)]
 pub struct Line<N> {
     pub number: Option<u64>,
     pub temperature: Option<N>,

@@ -44,3 +44,5 @@ module _ (ms : List Mark) (s i : ℕ) (e : total ms ≡ onto s (total (drop i ms
     pub one_more : (mg : Milligrams) → (get_or ms i d).weighed ≡ Ok mg → total ms ≡ onto (s + mg.0) (total (drop (i + 1) ms))
     unfolding total
     one_more mg r = e ∙ rw (drop-cons ms i d h, r, add-one) (onto_plus s mg (total (drop (suc i) ms)))
+
+pub ruleset turns = (onto_none, at_end, one_refused, one_more)

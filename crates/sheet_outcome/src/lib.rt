@@ -14,7 +14,7 @@ pub struct Mark {
     pub weighed: Result<Milligrams, Refusal>,
 }
 
-// The first `count` marks are the sheet's lines.
+// The first `count` marks are the sheet's lines. No heap (RULES 11): an array and its count.
 #[derive(Clone, Copy)]
 pub struct Marks {
     pub marks: [Mark; 32],

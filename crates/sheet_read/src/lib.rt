@@ -3,14 +3,13 @@
 #![tactic(auto)]
 
 ghost use Rattle.std.specs.Prelude.{◌≡◌, ◌≤◌, length, drop};
-ghost use Rattle.sheet_line.specs.Line.{blank_line};
 ghost use Rattle.sheet_read.specs.Form.{cylinders, with_need, in_form};
 ghost use Rattle.sheet_read.specs.Sheet.{sheet_read};
 
-use sheet_line::line::{Line, Reading, read_line};
+use sheet_line::line::{Line, read_line};
 use sheet_text::read_field_after;
 
-// The first 32 lines, and how many there are.
+// The first 32 lines, and how many there are. No heap (RULES 11): an array, and a count that tells more than 32.
 #[derive(Clone, Copy)]
 pub struct Sheet {
     pub need: Option<u64>,
@@ -18,26 +17,16 @@ pub struct Sheet {
     pub count: usize,
 }
 
-// Where a sheet has no line.
-fn blank_line() -> Line<f64>
-    ensures { result ≡ blank_line }
-{
-    Line {
-        number: None,
-        temperature: None,
-        reading: Reading::Blank,
-        volume: None,
-    }
-}
-
 // Lines beyond 32 are read for their form, and counted.
+#[tactic(auto, unfolding(crate::specs::Padded::padded), using(crate::proofs::Turns::first))]
 fn read_lines(s: &[u8], from: usize, need: Option<u64>) -> Option<Sheet>
     requires { from ≤ length s.now }
     ensures { result ≡ sheet_read (with_need need (cylinders (length s.now) (drop from s.now))) }
 {
-    let mut lines = [blank_line(); 32];
+    let mut lines = [Line::default(); 32];
     let mut count: usize = 0;
     let mut at = from;
+    // No iterator: where the next line begins is what read_line answers.
     while at < s.len() {
         let (line, next) = read_line(s, at)?;
         if count < 32 {

@@ -72,3 +72,9 @@ module _ (end : ℕ) (u : List ℕ) where
     pub to_some : {u₂ : List ℕ} → byte end u₁ ≡ Some (tt, u₂) → field_to end u ≡ Some (f, u₂)
     unfolding field_to
     to_some e = rw (e₁, e)
+
+-- a field, by what stands at the place
+pub ruleset field_steps = (field_end, field_blank, field_bad, field_digits, after_end, after_stop, after_zero, after_large, after_more)
+
+-- a field and the byte that ends it
+pub ruleset to_steps = (to_none, to_open, to_some)

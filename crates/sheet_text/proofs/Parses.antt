@@ -80,3 +80,6 @@ pub byte_says : (b : ℕ) (u : List ℕ) → Says (λ (_ : Unit {0}). b ∷ []) 
 unfolding byte
 byte_says b [] = tt
 byte_says b (x ∷ rest) = by_test (Says (λ (_ : Unit {0}). b ∷ []) (x ∷ rest)) (eqb x b) _ _ (λ e. ap (λ (y : ℕ). y ∷ rest) (eqb-true x b e)) (λ _. tt)
+
+-- a byte, by what stands at the place
+pub ruleset byte_steps = (byte_end, byte_at, byte_other)

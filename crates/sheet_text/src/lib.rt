@@ -14,7 +14,7 @@ fn digit_of(b: u8) -> u64
     u64::from(b - b'0')
 }
 
-#[tactic(auto, using(crate::proofs::Fields::field_end, crate::proofs::Fields::field_blank, crate::proofs::Fields::field_bad, crate::proofs::Fields::field_digits, crate::proofs::Fields::after_end, crate::proofs::Fields::after_stop, crate::proofs::Fields::after_zero, crate::proofs::Fields::after_large, crate::proofs::Fields::after_more))]
+#[tactic(auto, using(crate::proofs::Fields::field_steps))]
 fn read_field(s: &[u8], at: usize) -> Option<(Option<u64>, usize)>
     ensures { Reads s.now at (field (drop at s.now)) result }
 {
@@ -44,7 +44,7 @@ fn read_field(s: &[u8], at: usize) -> Option<(Option<u64>, usize)>
 }
 
 // Past the one byte b.
-#[tactic(auto, using(crate::proofs::Parses::byte_end, crate::proofs::Parses::byte_at, crate::proofs::Parses::byte_other))]
+#[tactic(auto, using(crate::proofs::Parses::byte_steps))]
 pub fn skip(s: &[u8], at: usize, b: u8) -> Option<usize>
     ensures { PlaceIs s.now at (byte b (drop at s.now)) result }
 {
@@ -55,7 +55,7 @@ pub fn skip(s: &[u8], at: usize, b: u8) -> Option<usize>
 }
 
 // A field and the byte that ends it.
-#[tactic(auto, using(crate::proofs::Fields::to_none, crate::proofs::Fields::to_open, crate::proofs::Fields::to_some))]
+#[tactic(auto, using(crate::proofs::Fields::to_steps))]
 pub fn read_field_to(s: &[u8], at: usize, end: u8) -> Option<(Option<u64>, usize)>
     ensures { Reads s.now at (field_to end (drop at s.now)) result }
 {

@@ -92,7 +92,7 @@ fn weigh_after(limits: Limits, numbers: &[u64], l: Line<f64>) -> Result<Milligra
     weigh(limits, l)
 }
 
-// Each line's milligrams or refusal; known counts the cylinder numbers that were read.
+// Each line's milligrams or refusal; known counts the cylinder numbers that were read. The index is a place in two arrays.
 #[tactic(auto, using(crate::proofs::Knowns::known_most, crate::proofs::Knowns::known_room))]
 fn weigh_all(limits: Limits, s: Sheet) -> Marks
     requires { s.count ≤ 32 }
@@ -119,7 +119,7 @@ fn weigh_all(limits: Limits, s: Sheet) -> Marks
     }
 }
 
-#[tactic(auto, using(sheet_outcome::proofs::Totals::onto_none, sheet_outcome::proofs::Totals::at_end, sheet_outcome::proofs::Totals::one_refused, sheet_outcome::proofs::Totals::one_more))]
+#[tactic(auto, using(sheet_outcome::proofs::Totals::turns))]
 fn total(m: Marks) -> Option<Milligrams>
     requires count_bound { m.count ≤ 32 }
     requires light { Light (marks_of m) }

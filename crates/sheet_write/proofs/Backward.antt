@@ -33,6 +33,9 @@ none_yet o n at e = record { digits = []; split = rw append-nil; place = e; byte
 pub at_most : {o xs : List ℕ} {n at left : ℕ} → Behind o n xs at left → at ≤ length (decimal n)
 at_most b = rw (b.split, length-append) (omega (arith, b.place))
 
+-- how many digits are left, and where
+pub ruleset sizes = (length_small, length_pair, length_pairs, at_most)
+
 -- the last two digits of those that are left
 pub two_more : {o xs : List ℕ} {n at left : ℕ} → Behind o n xs at left → 100 ≤ left
     → Behind o n (set (set xs (at - 2 + 1) (48 + left % 100 % 10)) (at - 2) (48 + left % 100 / 10)) (at - 2) (left / 100)

@@ -44,6 +44,7 @@ pub fn number_len(n: u64) -> usize
 }
 
 // The two digits of r, a number below 100, at a place of out: in the table they stand at 2 r.
+#[tactic(auto, using(crate::proofs::Pairs::two_hundred))]
 fn put_pair(out: &mut [u8], at: usize, table: &[u8], r: u64)
     requires { (table.now ≡ pairs) × (r < 100) × (at + 1 < length out.old) }
     ensures { out.new ≡ set (set out.old (at + 1) (48 + r % 10)) at (48 + r / 10) }
@@ -57,6 +58,7 @@ fn put_pair(out: &mut [u8], at: usize, table: &[u8], r: u64)
 
 // The digits of n from the back, two a division; where their number is odd, the first stands alone.
 // The number left ends the loop and no place does: chunks of two from the back would ask in each turn whether one is short.
+#[tactic(auto, using(crate::proofs::Backward::sizes))]
 fn put_pairs(out: &mut [u8], table: &[u8], n: u64) -> usize
     requires { (table.now ≡ pairs) × (length (decimal n) ≤ length out.old) }
     ensures { Wrote out.old out.new result (decimal n) }

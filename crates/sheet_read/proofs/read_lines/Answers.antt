@@ -2,14 +2,9 @@
 use mathlib.Core.Path.{◌∙◌}
 use borrow.Author.Rules.{rules}
 use Rattle.sheet_line.proofs.Lines.{of_cylinder}
-use Rattle.sheet_read.specs.Padded.{padded}
-use Rattle.sheet_read.proofs.Turns.{first, done, held_more, held_full, bad, more}
+use Rattle.sheet_read.proofs.Turns.{done, held_more, held_full, bad, more}
 use Rattle.sheet_read.proofs.read_lines.Goals as goal
 use Rattle.sheet_read.proofs.read_lines.Goals.{then-count-lt32, else-count-lt32}
-
-pub loop-at-init : goal.loop-at-init
-unfolding padded
-loop-at-init c = rw c.blank_line-lines.ensures (first _ _ c.requires)
 
 pub returns-in_err-line : goal.returns-in_err-line
 returns-in_err-line c = rw (bad _ _ _ _ _ c.loop-at.invariant c.loop-at-test.true c.in_err-line.ensures) (search rules)

@@ -1,16 +1,9 @@
 -- At each turn the last two digits of those that are left are written before the others, until one or two are left. Assumes nothing.
-use mathlib.Core.Path.{refl}
 use native.Mathlib.Omega.{arith}
 use lib.ListN.{length-set}
-use Rattle.sheet_text.proofs.Decimals.{length_small, length_pair, length_pairs}
-use Rattle.sheet_write.proofs.Backward.{none_yet, at_most, two_more, first, first_two}
+use Rattle.sheet_text.proofs.Decimals.{length_pair, length_pairs}
+use Rattle.sheet_write.proofs.Backward.{at_most, two_more, first, first_two}
 use Rattle.sheet_write.proofs.put_pairs.Goals as goal
-
-pub loop-left-init : goal.loop-left-init
-loop-left-init c = (refl, none_yet _ _ _ c.number_len-len.ensures.0)
-
-pub overflow_sub-at : goal.overflow_sub-at
-overflow_sub-at c = let l = c.loop-left in omega (arith, l.invariant.1.place, length_pairs l.left c.loop-left-test.true)
 
 pub put_pair-requires : goal.put_pair-requires
 put_pair-requires c =
@@ -22,11 +15,6 @@ pub loop-left-preserved : goal.loop-left-preserved
 loop-left-preserved c =
     let e = c.put_pair.ensures in
     rw (e, length-set, length-set) (c.loop-left.invariant.0, two_more c.loop-left.invariant.1 c.loop-left-test.true)
-
-pub bounds-out-0 : goal.bounds-out-0
-bounds-out-0 c =
-    let l = c.loop-left in
-    omega (arith, l.invariant.1.place, length_small l.left c.if-left-lt10.true, at_most l.invariant.1)
 
 pub put_pair-requires-else-left-lt10 : goal.put_pair-requires-else-left-lt10
 put_pair-requires-else-left-lt10 c =

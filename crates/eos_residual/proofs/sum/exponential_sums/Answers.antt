@@ -1,16 +1,8 @@
--- Of the first alone no other is asked for. Assumes nothing.
-use Rattle.num_working.specs.Working.{checked}
-use Rattle.eos_brackets.specs.Derivative.{of}
-use Rattle.eos_brackets.proofs.Derivatives.{all_asked}
-use Rattle.eos_residual.specs.Sum.{onto, exponential_figures}
-use Rattle.eos_residual.proofs.Sums.{first_alone}
+-- Each that is asked for is among those of the function that is called. Assumes nothing.
 use Rattle.eos_residual.proofs.sum.exponential_sums.Goals as goal
 
 pub returns-then-all : goal.returns-then-all
-returns-then-all c = λ k h. c.exponential_five.ensures k (all_asked k)
+returns-then-all c = λ k h. c.exponential_rows.ensures k (rw c.if-all.true at h)
 
-pub returns : goal.returns
-returns c =
-    let a = c.args in
-    first_alone a.start (λ k. onto (checked (of a.start k)) (exponential_figures a.iso a.p.delta k))
-    c.if-all.false c.with_first.ensures c.exponential_slope.ensures
+pub returns-else-all : goal.returns-else-all
+returns-else-all c = λ k h. c.exponential_rows-else-all.ensures k (rw c.if-all.false at h)

@@ -1,5 +1,4 @@
 -- Each turn adds the next row's figures; what is left to add gives the sums that are asked for. Assumes nothing.
-use Prim.Native.Nat.{◌-◌, ◌≤◌}
 use Rattle.num_working.specs.Working.{checked}
 use Rattle.eos_brackets.specs.Derivative.{of}
 use Rattle.eos_residual.specs.Sum.{onto, gaussian_figures}
@@ -7,8 +6,5 @@ use Rattle.eos_residual.proofs.Sums.{Dues}
 use Rattle.eos_residual.proofs.sum.gaussian_sums.Given as goal
 
 abbrev pub invariant-loop-i : goal.invariant-loop-i
-invariant-loop-i l = (l.i ≤ 5)
-    × Dues l.all (gaussian_figures l.iso l.p.delta) (λ k. onto (checked (of l.initial.s k)) (gaussian_figures l.iso l.p.delta k)) l.i l.s
-
-abbrev pub decreases-loop-i : goal.decreases-loop-i
-decreases-loop-i l = 5 - l.i
+invariant-loop-i l =
+    Dues l.all (gaussian_figures l.iso l.p.delta) (λ k. onto (checked (of l.fn.start k)) (gaussian_figures l.iso l.p.delta k)) l.i l.s

@@ -1,6 +1,5 @@
 -- Each turn adds the next row's figures; what is left to add gives the sums that are asked for. Assumes nothing.
 use mathlib.Core.Path.{◌≡◌}
-use Prim.Native.Nat.{◌-◌, ◌≤◌}
 use lib.Ieee.{Float}
 use Rattle.num_powers.specs.Power.{powers}
 use Rattle.eos_isotherm.specs.declared.Isotherm.{Isotherm}
@@ -9,8 +8,5 @@ use Rattle.eos_residual.proofs.Sums.{Dues}
 use Rattle.eos_residual.proofs.sum.polynomial_sums.Given as goal
 
 abbrev pub invariant-loop-i : goal.invariant-loop-i
-invariant-loop-i l = (l.i ≤ 7) × ((iso : Isotherm) (delta : Float) → iso.powers ≡ l.ys → powers 10 delta ≡ l.xs
-    → Dues l.all (polynomial_figures iso delta) (λ k. total (polynomial_figures iso delta k)) l.i l.s)
-
-abbrev pub decreases-loop-i : goal.decreases-loop-i
-decreases-loop-i l = 7 - l.i
+invariant-loop-i l = (iso : Isotherm) (delta : Float) → iso.powers ≡ l.ys → powers 10 delta ≡ l.xs
+    → Dues l.all (polynomial_figures iso delta) (λ k. total (polynomial_figures iso delta k)) l.i l.s

@@ -3,9 +3,8 @@ use mathlib.Core.Path.{refl}
 use lib.Ieee.{of_bits, of_int}
 use Rattle.num_working.specs.Number.{whole}
 use Rattle.num_formulas.specs.Formula.{value}
-use Rattle.eos_state.proofs.sound_speed.Goals as goal
+use Rattle.eos_state.proofs.Parts.g.Goals as goal
 
 pub returns : goal.returns
 unfolding value of_bits of_int whole
-returns c =
-    rw (c.plain.ensures, c.root.ensures, c.over.ensures, c.span_wagner.ensures) refl
+returns c = refl

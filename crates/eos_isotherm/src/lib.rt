@@ -33,9 +33,10 @@ fn quarters_at(column: [u8; 34], i: usize) -> u8
     ensures { result ≡ get_or quarters i 0 }
 {
     if i < 34 {
-        return column[i];
+        column[i]
+    } else {
+        gaussian_row(i - 34).q
     }
-    gaussian_row(i - 34).q
 }
 
 // τᵗ of rows 1 to 39: always the one product of a whole power of τ and one of its quarter root.
@@ -45,14 +46,12 @@ fn tau_powers(tau: f64, quarter: f64) -> [f64; 39]
     let t = powers_to_28(tau);
     let q = powers_to_3(quarter);
     let column = tau_quarters();
-    let mut a = [0.0; 39];
-    let mut i = 0;
-    while i < 39 {
+    let mut powers = [0.0; 39];
+    for (i, power) in powers.iter_mut().enumerate() {
         let j = quarters_at(column, i) as usize;
-        a[i] = t[j / 4] * q[j % 4];
-        i += 1;
+        *power = t[j / 4] * q[j % 4];
     }
-    a
+    powers
 }
 
 fn half_of(x: f64) -> f64
@@ -62,6 +61,7 @@ fn half_of(x: f64) -> f64
 }
 
 // β·(τ−γ)² of a row of 35 to 39.
+#[tactic(auto, unfolding(num_formulas::specs::Formula::value, crate::specs::Isotherm::bell_tau))]
 fn bell_of(row: Gaussian, tau: f64) -> f64
     ensures { result ≡ value (bell_tau tau row) }
 {
@@ -72,6 +72,7 @@ fn bell_of(row: Gaussian, tau: f64) -> f64
 fn four_bells(tau: f64) -> [f64; 4]
     ensures { result ≡ four_bells tau }
 {
+    // `[0, 1, 3, 4].map(..)` was tried, and its proof didn't close.
     [
         bell_of(gaussian_row(0), tau),
         bell_of(gaussian_row(1), tau),
@@ -91,13 +92,10 @@ pub fn at_temperature(t: f64) -> Isotherm
     ensures { result ≡ isotherm t }
 {
     let tau = tau_at(t);
-    let powers = tau_powers(tau, half_of(half_of(tau)));
-    let bell = four_bells(tau);
-    let psi = psi_of(non_analytic_row(0), tau);
     Isotherm {
         tau,
-        powers,
-        bell,
-        psi,
+        powers: tau_powers(tau, half_of(half_of(tau))),
+        bell: four_bells(tau),
+        psi: psi_of(non_analytic_row(0), tau),
     }
 }

@@ -6,7 +6,7 @@ ghost use Rattle.eos_non_analytic.specs.Parts.{around, psi_sum};
 ghost use Rattle.eos_terms.specs.Term.{bell_sum, exponents, point_by};
 ghost use Rattle.eos_terms.specs.Fallen.{at_density};
 
-use crate::fallen::rows_told;
+use crate::fallen::fallen_rows;
 use eos_isotherm::Isotherm;
 use eos_powers::powers_to_10;
 use eos_rows::{Gaussian, NonAnalytic, gaussian_row, non_analytic_row};
@@ -30,6 +30,7 @@ pub struct Told {
 }
 
 // α·(δ−ε)² + z of a row of 35 to 39, with z for β·(τ−γ)².
+#[tactic(auto, unfolding(num_formulas::specs::Formula::value))]
 fn bell_exponent(row: Gaussian, delta: f64, z: f64) -> f64
     ensures { result ≡ value (bell_sum (num delta) (num z) row) }
 {
@@ -84,7 +85,7 @@ pub fn at_density(told: bool, iso: Isotherm, delta: f64) -> Told
 {
     let powers = powers_to_10(delta);
     let x = exponents(iso, delta, powers);
-    let fallen = rows_told(told, x);
+    let fallen = if told { fallen_rows(x) } else { 0 };
     Told {
         point: point_by(delta, powers, twelve_decays(x)),
         fallen,

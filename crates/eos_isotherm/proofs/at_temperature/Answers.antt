@@ -9,10 +9,10 @@ pub returns : goal.returns
 unfolding isotherm quarter_of non_analytics value
 returns c =
     rw (
-      c.psi_of-psi.ensures,
+      c.psi_of.ensures,
       c.non_analytic_row.ensures,
-      c.four_bells-bell.ensures,
-      c.tau_powers-powers.ensures,
+      c.four_bells.ensures,
+      c.tau_powers.ensures,
       c.half_of-2.ensures,
       c.half_of.ensures,
       c.tau_at-tau.ensures,

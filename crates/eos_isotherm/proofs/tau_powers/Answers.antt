@@ -22,7 +22,7 @@ low c = rw c.quarters_at-j.ensures (small c.loop-i.i)
 pub loop-i-init : goal.loop-i-init
 loop-i-init c =
     let a = c.args in
-    (omega arith, record { long = sym (long a.tau a.quarter); same = refl })
+    record { long = sym (long a.tau a.quarter); same = refl }
 
 pub bounds-t-j : goal.bounds-t-j
 bounds-t-j c = let l = low c in omega arith
@@ -37,9 +37,9 @@ loop-i-preserved c =
     rw (c.powers_to_3-q.ensures, c.powers_to_28-t.ensures)
     (power_there a.tau a.quarter i j (omega arith) c.quarters_at-j.ensures) in
     let h : i < length (tau_powers a.tau a.quarter) = rw (long a.tau a.quarter) (omega arith) in
-    (omega arith, fill_more (tau_powers a.tau a.quarter) i c.loop-i.a x nan h c.loop-i.invariant.1 v)
+    fill_more (tau_powers a.tau a.quarter) i c.loop-i.power-items x nan h c.loop-i.invariant v
 
 pub returns : goal.returns
 returns c =
     let a = c.args in
-    fill_all (tau_powers a.tau a.quarter) c.loop-i.i c.loop-i.a (rw (long a.tau a.quarter) (omega arith)) c.loop-i.invariant.1
+    fill_all (tau_powers a.tau a.quarter) c.loop-i.i c.loop-i.power-items (rw (long a.tau a.quarter) (omega arith)) c.loop-i.invariant

@@ -14,5 +14,5 @@ returns-in_default c =
 
 pub returns : goal.returns
 returns c =
-    let e = rw (c.document_01.ensures, c.in-Bytes.is) at c.score.ensures in
+    let e = rw (c.document_01.ensures, c.in-Ok.is) at c.score.ensures in
     record { wrote = e.0; fits = inside e.0 e.1 }

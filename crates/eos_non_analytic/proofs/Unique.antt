@@ -17,6 +17,13 @@ near_critical_once a r s x y = by_equation
 pub at_critical_once : OneAnswer Critical (at_critical.Post tt)
 at_critical_once a r s x y = by_equation
 
--- of all five, and of the first alone
 pub add_once : (all : ℕ) (flag : Fits w8 all) (l : Lfts 1) → OneAnswer Five (add.Post all flag l)
 add_once all flag l a r s x y = by_equation
+
+-- of all five
+pub add_figures_once : (flag : Fits w8 1) (l : Lfts 1) → OneAnswer Five (add.Post 1 flag l)
+add_figures_once = add_once 1
+
+-- of the first alone
+pub add_slope_once : (flag : Fits w8 0) (l : Lfts 1) → OneAnswer Five (add.Post 0 flag l)
+add_slope_once = add_once 0

@@ -62,6 +62,7 @@ pub fn near_critical(delta: f64) -> Near
     }
 }
 
+// Not the library's abs: |−0| is −0 here (docs/DECISIONS.md).
 fn size_of(x: f64) -> f64
     ensures { result ≡ absolute x }
 {

@@ -12,7 +12,7 @@ ghost use Rattle.eos_terms.specs.Fallen.{fallen_terms};
 ghost use Rattle.eos_residual.specs.Sum.{onto, total, Meet, Nine, polynomial_figures, exponential_figures, gaussian_figures, residual, all_five, residual_part};
 
 use eos_brackets::{
-    Five, exponential_brackets, first_bracket, gaussian_brackets, grow, polynomial_brackets, times,
+    Five, exponential_brackets, gaussian_brackets, grow, polynomial_brackets, times,
 };
 use eos_isotherm::Isotherm;
 use eos_non_analytic::figures::add;

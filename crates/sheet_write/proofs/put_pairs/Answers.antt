@@ -9,7 +9,7 @@ pub put_pair-requires : goal.put_pair-requires
 put_pair-requires c =
     let l = c.loop-left in
     let p = l.invariant.1.place in
-    (c.requires.0, omega arith, omega (arith, p, length_pairs l.left c.loop-left-test.true, at_most l.invariant.1))
+    (omega arith, omega (arith, p, length_pairs l.left c.loop-left-test.true, at_most l.invariant.1))
 
 pub loop-left-preserved : goal.loop-left-preserved
 loop-left-preserved c =
@@ -20,13 +20,13 @@ pub put_pair-requires-else-left-lt10 : goal.put_pair-requires-else-left-lt10
 put_pair-requires-else-left-lt10 c =
     let l = c.loop-left in
     let p = length_pair l.left c.if-left-lt10.false c.loop-left-test.false in
-    (c.requires.0, c.loop-left-test.false, omega (arith, p, l.invariant.1.place, at_most l.invariant.1))
+    (c.loop-left-test.false, omega (arith, p, l.invariant.1.place, at_most l.invariant.1))
 
 pub returns-then-left-lt10 : goal.returns-then-left-lt10
 returns-then-left-lt10 c =
-    rw c.number_len-len.ensures.0 (first c.loop-left.invariant.1 c.if-left-lt10.true c.requires.1)
+    rw c.number_len-len.ensures.0 (first c.loop-left.invariant.1 c.if-left-lt10.true c.requires)
 
 pub returns-else-left-lt10 : goal.returns-else-left-lt10
 returns-else-left-lt10 c =
     rw (c.put_pair-else-left-lt10.ensures, c.number_len-len.ensures.0)
-    (first_two c.loop-left.invariant.1 c.if-left-lt10.false c.loop-left-test.false c.requires.1)
+    (first_two c.loop-left.invariant.1 c.if-left-lt10.false c.loop-left-test.false c.requires)

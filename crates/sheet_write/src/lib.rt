@@ -34,7 +34,7 @@ pub fn number_len(n: u64) -> usize
     ensures { (result ≡ length (decimal n)) × (result ≤ 20) }
 {
     if n < 10 {
-        return 1;
+        return 1; // of 0 too
     }
     if n < 100 {
         return 2;
@@ -67,13 +67,17 @@ fn put_pair(out: &mut [u8], at: usize, r: u64)
     out[at] = tens;
 }
 
-// The digits of n from the back, two a division; where their number is odd, the first stands alone.
+// The digits of n. A digit stands alone; more are written from the back, two a division, and where their number is odd the first stands alone.
 // The number left ends the loop and no place does: chunks of two from the back would ask in each turn whether one is short.
 #[tactic(auto, using(crate::proofs::Backward::sizes))]
-fn put_pairs(out: &mut [u8], n: u64) -> usize
+pub fn put_number(out: &mut [u8], n: u64) -> usize
     requires { length (decimal n) ≤ length out.old }
     ensures { Wrote out.old out.new result (decimal n) }
 {
+    if n < 10 {
+        out[0] = b'0' + n as u8;
+        return 1;
+    }
     let len = number_len(n);
     let mut at = len;
     let mut left = n;
@@ -88,16 +92,4 @@ fn put_pairs(out: &mut [u8], n: u64) -> usize
         put_pair(out, 0, left);
     }
     len
-}
-
-// The digits of n.
-pub fn put_number(out: &mut [u8], n: u64) -> usize
-    requires { length (decimal n) ≤ length out.old }
-    ensures { Wrote out.old out.new result (decimal n) }
-{
-    if n >= 10 {
-        return put_pairs(out, n);
-    }
-    out[0] = b'0' + n as u8;
-    1
 }

@@ -1,7 +1,8 @@
--- A digit stands alone. Of more, at each turn the last two digits of those that are left are written before the others, until one or two are left. Assumes nothing.
+-- A digit stands alone. Of more, at each turn the last two digits of those that are left are written before the others, until one or two are left.
+-- Assumes nothing.
 use native.Mathlib.Omega.{arith}
 use lib.ListN.{length-set}
-use Rattle.sheet_text.proofs.Decimals.{length_small, length_pair, length_pairs}
+use Rattle.sheet_text.proofs.Decimals.{length_small, length_pairs}
 use Rattle.sheet_write.proofs.Backward.{at_most, two_more, first, first_two}
 use Rattle.sheet_write.proofs.Writings.{one_digit}
 use Rattle.sheet_write.proofs.put_number.Goals as goal
@@ -19,12 +20,6 @@ pub loop-left-preserved : goal.loop-left-preserved
 loop-left-preserved c =
     let e = c.put_pair.ensures in
     rw (e, length-set, length-set) (c.loop-left.invariant.0, two_more c.loop-left.invariant.1 c.loop-left-test.true)
-
-pub put_pair-requires-else-left-lt10 : goal.put_pair-requires-else-left-lt10
-put_pair-requires-else-left-lt10 c =
-    let l = c.loop-left in
-    let p = length_pair l.left c.if-left-lt10.false c.loop-left-test.false in
-    (c.loop-left-test.false, omega (arith, p, l.invariant.1.place, at_most l.invariant.1))
 
 pub returns-then-left-lt10 : goal.returns-then-left-lt10
 returns-then-left-lt10 c =

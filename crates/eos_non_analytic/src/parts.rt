@@ -86,7 +86,7 @@ fn shared_by(row: NonAnalytic, n: Near, tau: f64) -> Shared
     Shared { theta, delta, low }
 }
 
-// A row by its root Δᵇ.
+// A row by its root Δᵇ. Field by field: `Shared` and `Edge` are two types, and `..base` takes one.
 fn edge_at(s: Shared, p0: f64) -> Edge
     ensures { result ≡ record { theta = s.theta; delta = s.delta; p0 = p0; p1 = over p0 s.delta; low = s.low } }
 {

@@ -5,9 +5,10 @@ ghost use Rattle.std.specs.Prelude.{◌≡◌, ◌+◌, ◌≤◌, cond};
 ghost use Rattle.num_working.specs.Working.{checked};
 ghost use Rattle.num_formulas.specs.Formula.{value};
 ghost use Rattle.eos_brackets.specs.Derivative.{Delta, of};
-ghost use Rattle.eos_non_analytic.specs.Parts.{critical};
+ghost use Rattle.eos_non_analytic.specs.Parts as Parts;
 ghost use Rattle.eos_non_analytic.specs.Figures.{non_analytic_figures};
-ghost use Rattle.eos_terms.specs.Term.{in_quarters, point};
+ghost use Rattle.eos_terms.specs.Term as Term;
+ghost use Rattle.eos_terms.specs.Term.{in_quarters};
 ghost use Rattle.eos_terms.specs.Fallen.{fallen_terms};
 ghost use Rattle.eos_residual.specs.Sum.{onto, total, Meet, Nine, polynomial_figures, exponential_figures, gaussian_figures, residual, all_five, residual_part};
 
@@ -43,129 +44,137 @@ fn in_quarters(q: u8) -> f64
     q as f64 / 4.0
 }
 
-// Rows 1 to 7, from the first.
-fn polynomial_sums(all: bool, iso: Isotherm, p: Point) -> Five
-    requires { p ≡ point iso p.delta }
-    ensures { Meet all result (λ k. total (polynomial_figures iso p.delta k)) }
-{
-    let ns = coefficients();
-    let ds = delta_powers();
-    let qs = tau_quarters();
-    let xs = p.powers;
-    let ys = iso.powers;
-    let d = ds[0];
-    let first = polynomial_brackets(d as f64, in_quarters(qs[0]));
-    let mut s = times(ns[0] * xs[d as usize] * ys[0], first);
-    for i in 1..7 {
-        let d = ds[i];
-        let brackets = polynomial_brackets(d as f64, in_quarters(qs[i]));
-        s = grow(all, s, ns[i] * xs[d as usize] * ys[i], brackets);
+// What all rows are worked from, at a density on an isotherm. Lent to each of its methods, it is copied for none.
+#[derive(Clone, Copy)]
+struct Terms {
+    iso: Isotherm,
+    point: Point,
+    critical: Critical,
+    ghost pointed: { point ≡ Term.point iso point.delta },
+    ghost near: { critical ≡ Parts.critical iso point.delta },
+}
+
+impl Terms {
+    // Rows 1 to 7, from the first.
+    // `all`: tried by a const parameter from `sums_at` down, and a pressure took 4 to 8 % more.
+    fn polynomial_sums(&self, all: bool) -> Five
+        ensures { Meet all result (λ k. total (polynomial_figures self.now.iso self.now.point.delta k)) }
+    {
+        let ns = coefficients();
+        let ds = delta_powers();
+        let qs = tau_quarters();
+        let xs = self.point.powers;
+        let ys = self.iso.powers;
+        let d = ds[0];
+        let first = polynomial_brackets(d as f64, in_quarters(qs[0]));
+        let mut s = times(ns[0] * xs[d as usize] * ys[0], first);
+        for i in 1..7 {
+            let d = ds[i];
+            let brackets = polynomial_brackets(d as f64, in_quarters(qs[i]));
+            s = grow(all, s, ns[i] * xs[d as usize] * ys[i], brackets);
+        }
+        s
     }
-    s
-}
 
-// Nine of rows 8 to 34, from the one at place FIRST on, onto the sums so far. A loop of so few turns the compiler lays out
-// whole, and then each entry of a column stands where it is used, and none on the stack (docs/DECISIONS.md).
-fn nine_rows<const ALL: bool, const FIRST: usize>(start: Five, iso: Isotherm, p: Point) -> Five
-    requires p_value { p ≡ point iso p.delta }
-    requires within { FIRST + 9 ≤ 27 }
-    ensures { Nine ALL FIRST start result (exponential_figures iso p.delta) }
-{
-    let ns = coefficients();
-    let ds = delta_powers();
-    let qs = tau_quarters();
-    let cs = decay_powers();
-    let xs = p.powers;
-    let es = p.decays;
-    let ys = iso.powers;
-    let mut s = start;
-    for i in FIRST..FIRST + 9 {
-        let d = ds[7 + i];
-        let c = cs[i];
-        let z = c as usize;
-        let term = ns[7 + i] * xs[d as usize] * ys[7 + i] * es[z - 1];
-        let t = in_quarters(qs[7 + i]);
-        let brackets = exponential_brackets(d as f64, t, c as f64, xs[z]);
-        s = grow(ALL, s, term, brackets);
+    // Nine of rows 8 to 34, from the one at place FIRST on, onto the sums so far. A loop of so few turns the compiler lays out
+    // whole, and then each entry of a column stands where it is used, and none on the stack (docs/DECISIONS.md).
+    fn nine_rows<const ALL: bool, const FIRST: usize>(&self, start: Five) -> Five
+        requires { FIRST + 9 ≤ 27 }
+        ensures { Nine ALL FIRST start result (exponential_figures self.now.iso self.now.point.delta) }
+    {
+        let ns = coefficients();
+        let ds = delta_powers();
+        let qs = tau_quarters();
+        let cs = decay_powers();
+        let xs = self.point.powers;
+        let es = self.point.decays;
+        let ys = self.iso.powers;
+        let mut s = start;
+        for i in FIRST..FIRST + 9 {
+            let d = ds[7 + i];
+            let c = cs[i];
+            let z = c as usize;
+            let term = ns[7 + i] * xs[d as usize] * ys[7 + i] * es[z - 1];
+            let t = in_quarters(qs[7 + i]);
+            let brackets = exponential_brackets(d as f64, t, c as f64, xs[z]);
+            s = grow(ALL, s, term, brackets);
+        }
+        s
     }
-    s
-}
 
-// Rows 8 to 34.
-fn exponential_rows<const ALL: bool>(start: Five, iso: Isotherm, p: Point) -> Five
-    requires { p ≡ point iso p.delta }
-    ensures { Meet ALL result (λ k. onto (checked (of start k)) (exponential_figures iso p.delta k)) }
-{
-    let s16 = nine_rows::<ALL, 0>(start, iso, p);
-    let s25 = nine_rows::<ALL, 9>(s16, iso, p);
-    nine_rows::<ALL, 18>(s25, iso, p)
-}
-
-fn exponential_sums(all: bool, start: Five, iso: Isotherm, p: Point) -> Five
-    requires { p ≡ point iso p.delta }
-    ensures { Meet all result (λ k. onto (checked (of start k)) (exponential_figures iso p.delta k)) }
-{
-    if all {
-        exponential_rows::<true>(start, iso, p)
-    } else {
-        exponential_rows::<false>(start, iso, p)
+    // Rows 8 to 34.
+    fn exponential_rows<const ALL: bool>(&self, start: Five) -> Five
+        ensures { Meet ALL result (λ k. onto (checked (of start k)) (exponential_figures self.now.iso self.now.point.delta k)) }
+    {
+        let s16 = self.nine_rows::<ALL, 0>(start);
+        let s25 = self.nine_rows::<ALL, 9>(s16);
+        self.nine_rows::<ALL, 18>(s25)
     }
-}
 
-// Rows 35 to 39.
-fn gaussian_sums(all: bool, start: Five, iso: Isotherm, p: Point) -> Five
-    requires { p ≡ point iso p.delta }
-    ensures { Meet all result (λ k. onto (checked (of start k)) (gaussian_figures iso p.delta k)) }
-{
-    let xs = p.powers;
-    let bs = p.bells;
-    let ys = iso.powers;
-    let mut s = start;
-    for i in 0..5 {
-        let r = gaussian_row(i);
-        let brackets = gaussian_brackets(
-            r.d as f64,
-            in_quarters(r.q),
-            r.alpha,
-            r.beta,
-            r.gamma,
-            r.epsilon,
-            p.delta,
-            iso.tau,
-        );
-        s = grow(
-            all,
-            s,
-            r.n * xs[r.d as usize] * ys[34 + i] * bs[i],
-            brackets,
-        );
+    // `all` chooses here: tried by a const parameter from `sums_at` down, and a pressure took 4 to 8 % more.
+    fn exponential_sums(&self, all: bool, start: Five) -> Five
+        ensures { Meet all result (λ k. onto (checked (of start k)) (exponential_figures self.now.iso self.now.point.delta k)) }
+    {
+        if all {
+            self.exponential_rows::<true>(start)
+        } else {
+            self.exponential_rows::<false>(start)
+        }
     }
-    s
-}
 
-// Rows 40 to 42.
-fn non_analytic_rows<const ALL: bool>(start: Five, iso: Isotherm, p: Point, c: Critical) -> Five
-    requires p_value { p ≡ point iso p.delta }
-    requires c_value { c ≡ critical iso p.delta }
-    ensures { Meet ALL result (λ k. onto (checked (of start k)) (non_analytic_figures iso p.delta k)) }
-{
-    let d = p.delta;
-    let t = iso.tau;
-    let z = p.psis;
-    let s40 = add::<ALL>(start, non_analytic_row(0), c.near, c.first, z[0], d, t);
-    let s41 = add::<ALL>(s40, non_analytic_row(1), c.near, c.second, z[0], d, t);
-    add::<ALL>(s41, non_analytic_row(2), c.near, c.third, z[1], d, t)
-}
+    // Rows 35 to 39.
+    // `all`: tried by a const parameter from `sums_at` down, and a pressure took 4 to 8 % more.
+    fn gaussian_sums(&self, all: bool, start: Five) -> Five
+        ensures { Meet all result (λ k. onto (checked (of start k)) (gaussian_figures self.now.iso self.now.point.delta k)) }
+    {
+        let xs = self.point.powers;
+        let bs = self.point.bells;
+        let ys = self.iso.powers;
+        let mut s = start;
+        for i in 0..5 {
+            let r = gaussian_row(i);
+            let brackets = gaussian_brackets(
+                r.d as f64,
+                in_quarters(r.q),
+                r.alpha,
+                r.beta,
+                r.gamma,
+                r.epsilon,
+                self.point.delta,
+                self.iso.tau,
+            );
+            s = grow(
+                all,
+                s,
+                r.n * xs[r.d as usize] * ys[34 + i] * bs[i],
+                brackets,
+            );
+        }
+        s
+    }
 
-fn non_analytic_sums(all: bool, start: Five, iso: Isotherm, p: Point, c: Critical) -> Five
-    requires p_value { p ≡ point iso p.delta }
-    requires c_value { c ≡ critical iso p.delta }
-    ensures { Meet all result (λ k. onto (checked (of start k)) (non_analytic_figures iso p.delta k)) }
-{
-    if all {
-        non_analytic_rows::<true>(start, iso, p, c)
-    } else {
-        non_analytic_rows::<false>(start, iso, p, c)
+    // Rows 40 to 42.
+    fn non_analytic_rows<const ALL: bool>(&self, start: Five) -> Five
+        ensures { Meet ALL result (λ k. onto (checked (of start k)) (non_analytic_figures self.now.iso self.now.point.delta k)) }
+    {
+        let d = self.point.delta;
+        let t = self.iso.tau;
+        let z = self.point.psis;
+        let c = self.critical;
+        let s40 = add::<ALL>(start, non_analytic_row(0), c.near, c.first, z[0], d, t);
+        let s41 = add::<ALL>(s40, non_analytic_row(1), c.near, c.second, z[0], d, t);
+        add::<ALL>(s41, non_analytic_row(2), c.near, c.third, z[1], d, t)
+    }
+
+    // `all` chooses here: tried by a const parameter from `sums_at` down, and a pressure took 4 to 8 % more.
+    fn non_analytic_sums(&self, all: bool, start: Five) -> Five
+        ensures { Meet all result (λ k. onto (checked (of start k)) (non_analytic_figures self.now.iso self.now.point.delta k)) }
+    {
+        if all {
+            self.non_analytic_rows::<true>(start)
+        } else {
+            self.non_analytic_rows::<false>(start)
+        }
     }
 }
 
@@ -177,12 +186,16 @@ fn sums_at(all: bool, iso: Isotherm, delta: f64) -> Added
 {
     let near = near_critical(delta);
     let t = at_density(all, iso, delta);
-    let c = at_critical(near, iso.tau);
-    let s7 = polynomial_sums(all, iso, t.point);
-    let s34 = exponential_sums(all, s7, iso, t.point);
-    let s39 = gaussian_sums(all, s34, iso, t.point);
+    let terms = Terms {
+        iso,
+        point: t.point,
+        critical: at_critical(near, iso.tau),
+    };
+    let s7 = terms.polynomial_sums(all);
+    let s34 = terms.exponential_sums(all, s7);
+    let s39 = terms.gaussian_sums(all, s34);
     Added {
-        five: non_analytic_sums(all, s39, iso, t.point, c),
+        five: terms.non_analytic_sums(all, s39),
         fallen: t.fallen,
     }
 }

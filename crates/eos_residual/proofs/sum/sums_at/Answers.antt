@@ -24,21 +24,12 @@ placed c = ap (λ (t : Told). t.point) c.at_density-t.ensures
 its : (c : After-at_density-t) → c.at_density-t.result.point ≡ point c.args.iso c.at_density-t.result.point.delta
 its c = (own _ c.args.delta _ (placed c)).0
 
-pub polynomial_sums-s7-requires : goal.polynomial_sums-s7-requires
-polynomial_sums-s7-requires c = its (goal.at.polynomial_sums-s7-requires c).After-at_density-t
-
-pub exponential_sums-s34-requires : goal.exponential_sums-s34-requires
-exponential_sums-s34-requires c = its (goal.at.exponential_sums-s34-requires c).After-at_density-t
-
-pub gaussian_sums-s39-requires : goal.gaussian_sums-s39-requires
-gaussian_sums-s39-requires c = its (goal.at.gaussian_sums-s39-requires c).After-at_density-t
-
-pub non_analytic_sums-requires : goal.non_analytic_sums-requires
-non_analytic_sums-requires c =
+pub invariant_of-terms : goal.invariant_of-terms
+invariant_of-terms c =
     let a = c.args in
-    let t = (goal.at.non_analytic_sums-requires c).After-at_density-t in record {
-      p_value = its t;
-      c_value = c.at_critical-c.ensures
+    let t = (goal.at.invariant_of-terms c).After-at_density-t in record {
+      pointed = its t;
+      near = c.at_critical.ensures
           ∙ ap (λ (x : Near). critical_by x a.iso.tau) c.near_critical-near.ensures
           ∙ critical_by_lem a.iso a.delta
           ∙ ap (critical a.iso) (sym (own a.iso a.delta _ (placed t)).1);

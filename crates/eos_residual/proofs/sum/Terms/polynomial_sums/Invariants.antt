@@ -5,7 +5,7 @@ use Rattle.num_powers.specs.Power.{powers}
 use Rattle.eos_isotherm.specs.declared.Isotherm.{Isotherm}
 use Rattle.eos_residual.specs.Sum.{total, polynomial_figures}
 use Rattle.eos_residual.proofs.Sums.{Dues}
-use Rattle.eos_residual.proofs.sum.polynomial_sums.Given as goal
+use Rattle.eos_residual.proofs.sum.Terms.polynomial_sums.Given as goal
 
 abbrev pub invariant-loop-i : goal.invariant-loop-i
 invariant-loop-i l = (iso : Isotherm) (delta : Float) → iso.powers ≡ l.ys → powers 10 delta ≡ l.xs

@@ -6,7 +6,7 @@ use Rattle.eos_terms.proofs.Points.{its_powers}
 use Rattle.eos_residual.specs.Sum.{polynomial_figures}
 use Rattle.eos_residual.proofs.Sums.{dues_first, dues_more, dues_none}
 use Rattle.eos_residual.proofs.Figures.{delta_by, polynomial_length, polynomial_placed}
-use Rattle.eos_residual.proofs.sum.polynomial_sums.Goals as goal
+use Rattle.eos_residual.proofs.sum.Terms.polynomial_sums.Goals as goal
 
 pub loop-i-init : goal.loop-i-init
 unfolding whole
@@ -26,8 +26,8 @@ loop-i-preserved c = λ iso delta y x.
 pub returns : goal.returns
 returns c =
     let a = c.args in
-    dues_none _ _ _ c.loop-i.i _ (c.loop-i.invariant a.iso a.p.delta refl (its_powers a.iso a.p c.requires))
-    (polynomial_length a.iso a.p.delta) (omega arith)
+    dues_none _ _ _ c.loop-i.i _ (c.loop-i.invariant a.self.now.iso a.self.now.point.delta refl (its_powers a.self.now.iso a.self.now.point a.self.now.pointed))
+    (polynomial_length a.self.now.iso a.self.now.point.delta) (omega arith)
 
 pub bounds-xs-d : goal.bounds-xs-d
 bounds-xs-d c = delta_by c.delta_powers-ds.ensures 0

@@ -3,7 +3,7 @@ use mathlib.Core.Path.{refl}
 use lib.Ieee.{of_bits, of_int, round, div}
 use Rattle.num_working.specs.Number.{fraction, whole}
 use Rattle.num_formulas.specs.Formula.{value}
-use Rattle.eos_non_analytic.proofs.figures.m_of.Goals as goal
+use Rattle.eos_non_analytic.proofs.figures.Placed.m.Goals as goal
 
 pub returns : goal.returns
 unfolding value fraction whole of_bits of_int round div

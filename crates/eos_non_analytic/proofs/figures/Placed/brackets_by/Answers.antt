@@ -5,7 +5,7 @@ use Rattle.num_working.specs.Number.{fraction, whole}
 use Rattle.num_powers.specs.Power.{power}
 use Rattle.num_formulas.specs.Formula.{value}
 use Rattle.eos_non_analytic.specs.Figures.{brackets_by}
-use Rattle.eos_non_analytic.proofs.figures.brackets_by.Goals as goal
+use Rattle.eos_non_analytic.proofs.figures.Placed.brackets_by.Goals as goal
 
 pub returns : goal.returns
 unfolding brackets_by power value fraction whole of_bits of_int round div

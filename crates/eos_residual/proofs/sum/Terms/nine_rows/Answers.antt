@@ -6,7 +6,7 @@ use Rattle.num_working.specs.Number.{whole}
 use Rattle.eos_terms.proofs.Points.{its_powers, its_decays}
 use Rattle.eos_residual.proofs.Sums.{dues_more}
 use Rattle.eos_residual.proofs.Figures.{placed_by, exponential_placed}
-use Rattle.eos_residual.proofs.sum.nine_rows.Goals as goal
+use Rattle.eos_residual.proofs.sum.Terms.nine_rows.Goals as goal
 
 pub loop-i-preserved : goal.loop-i-preserved
 unfolding whole
@@ -41,4 +41,4 @@ pub returns : goal.returns
 returns g c =
     let a = c.args in
     let e : c.loop-i.i ≡ g.row.FIRST + 9 = omega arith in
-    λ k h. rw e at (c.loop-i.invariant a.iso a.p.delta refl (its_powers a.iso a.p c.requires.p_value) (its_decays a.iso a.p c.requires.p_value) k h)
+    λ k h. rw e at (c.loop-i.invariant a.self.now.iso a.self.now.point.delta refl (its_powers a.self.now.iso a.self.now.point a.self.now.pointed) (its_decays a.self.now.iso a.self.now.point a.self.now.pointed) k h)

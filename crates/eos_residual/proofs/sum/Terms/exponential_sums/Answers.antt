@@ -1,5 +1,5 @@
 -- Each that is asked for is among those of the function that is called. Assumes nothing.
-use Rattle.eos_residual.proofs.sum.exponential_sums.Goals as goal
+use Rattle.eos_residual.proofs.sum.Terms.exponential_sums.Goals as goal
 
 pub returns-then-all : goal.returns-then-all
 returns-then-all c = λ k h. c.exponential_rows.ensures k (rw c.if-all.true at h)

@@ -9,7 +9,7 @@ use Rattle.eos_isotherm.specs.declared.Isotherm.{Isotherm}
 use Rattle.eos_terms.specs.Term.{decays}
 use Rattle.eos_residual.specs.Sum.{onto, exponential_figures}
 use Rattle.eos_residual.proofs.Sums.{Dues, flag}
-use Rattle.eos_residual.proofs.sum.nine_rows.Given as goal
+use Rattle.eos_residual.proofs.sum.Terms.nine_rows.Given as goal
 
 abbrev pub invariant-loop-i : goal.invariant-loop-i
 invariant-loop-i g l = (iso : Isotherm) (delta : Float) → iso.powers ≡ l.ys → powers 10 delta ≡ l.xs → decays delta ≡ l.es

@@ -27,7 +27,7 @@ fn mark_at(m: &Marks, i: usize) -> Result<Milligrams, Refusal>
     ensures { result ≡ mark_at m.now i }
 {
     match m.marks.get(i) {
-        Some(mark) => mark.weighed,
+        Some(mark) => *mark,
         None => Err(Refusal(0)),
     }
 }

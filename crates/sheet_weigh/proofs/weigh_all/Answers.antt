@@ -29,7 +29,7 @@ loop-i-preserved c =
     let i = c.loop-i.i in
     let size : length ls ≡ 32 = search (rules, unmapped) in
     let k = c.loop-i.invariant.1 in
-    let w = rw (known_taken k (omega arith)) at c.weigh_after-weighed.ensures in
+    let w = rw (known_taken k (omega arith)) at c.weigh_after.ensures in
     let after : Known ls (i + 1) c.match-l.numbers c.match-l.known =
     elim c.match-l.branch [
       | in-Some w ↦ rw (w.numbers-is, w.known-is) (one_known k blank_line (omega arith) _ (omega arith) w.in-Some.is)

@@ -49,16 +49,15 @@ pub data Tally (ms : List Weighed) : Summed → Type 0 where
   refused : (i n : ℕ) → i < length ms → get_or ms i no_mark ≡ refusal.refused n → Tally ms None
   summed : (mgs : List ℕ) → ms ≡ massed mgs → Tally ms (Some (as_milligrams (sum mgs)))
 
-one_mark : (m : Weighed) (ms : List Weighed) (w : Weighed) → m ≡ w → (t : Summed) → Tally ms t → Tally (m ∷ ms) (plus w t)
-one_mark m ms (Err n) e t r = refused 0 n.0 (omega arith) e
-one_mark m ms (Ok mg) e t (refused i n h r) = refused (suc i) n (omega arith) r
-one_mark m ms (Ok mg) e t (summed mgs a) =
-    summed (mg.0 ∷ mgs) (ap (λ (w : Weighed). w ∷ ms) e ∙ ap (λ (l : List Weighed). Ok mg ∷ l) a)
+one_mark : (m : Weighed) (ms : List Weighed) (t : Summed) → Tally ms t → Tally (m ∷ ms) (plus m t)
+one_mark (Err n) ms t r = refused 0 n.0 (omega arith) refl
+one_mark (Ok mg) ms t (refused i n h r) = refused (suc i) n (omega arith) r
+one_mark (Ok mg) ms t (summed mgs a) = summed (mg.0 ∷ mgs) (ap (λ (l : List Weighed). Ok mg ∷ l) a)
 
 pub tally : (ms : List Weighed) → Tally ms (total ms)
 unfolding total
 tally [] = summed [] refl
-tally (m ∷ ms) = one_mark m ms m refl (total ms) (tally ms)
+tally (m ∷ ms) = one_mark m ms (total ms) (tally ms)
 
 pub refused_total : (ms : List Weighed) (i n : ℕ) → i < length ms → get_or ms i no_mark ≡ refusal.refused n → total ms ≡ None
 unfolding total

@@ -23,7 +23,7 @@ use Rattle.sheet_read.specs.Form.{Bank}
 use Rattle.door_checks.specs.Check.{Check}
 use Rattle.sheet_standing.specs.Standing.{if_numbered, no_volume, no_reading, lacking, is_on, numbers, standing}
 use Rattle.sheet_standing.proofs.Named.{named, is_named}
-use Rattle.sheet_outcome.specs.Outcome.{admitted, Weighed}
+use Rattle.sheet_outcome.specs.Outcome.{admitted}
 use Rattle.sheet_weigh.specs.Weighing.{weighed, if_passed, weighed_after}
 use Rattle.sheet_weigh.specs.Sheet.{marked}
 use Rattle.sheet_weigh.proofs.Markings.{marked_length, marked_at}

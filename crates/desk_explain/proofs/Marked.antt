@@ -10,7 +10,7 @@ use lib.Seq.{get_or-take, take-take, length-take-le}
 use Rattle.door_limits.specs.declared.Limits.{Limits}
 use Rattle.sheet_line.specs.declared.line.Line.{Line}
 use Rattle.sheet_read.specs.declared.Sheet.{Sheet}
-use Rattle.sheet_outcome.specs.Outcome.{admitted, Weighed, Admitted}
+use Rattle.sheet_outcome.specs.Outcome.{admitted, Weighed}
 use Rattle.sheet_outcome.proofs.Admissions.{few}
 use Rattle.sheet_standing.specs.Standing.{numbers}
 use Rattle.sheet_weigh.specs.Weighing.{weighed_after}

@@ -138,6 +138,7 @@ impl<'a> Explained<'a> {
         };
         let mut at = from;
         let mut i = 1;
+        // A turn passes a line and not a byte, so that it goes over no range.
         while let Some((told, next)) = self.line_at(at, i) {
             made = with(made, told);
             at = next;

@@ -24,6 +24,7 @@ fn lines<F: Fn(Row, &mut Tally)>(text: &[u8], compare: F) -> Tally
 {
     let mut tally = Tally::none();
     let mut line = line_after(text, 0);
+    // A turn passes a line and not a byte, so that it goes over no range.
     while line < text.len() {
         compare(Row { text, line }, &mut tally);
         line = line_after(text, line);

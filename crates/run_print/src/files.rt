@@ -8,6 +8,7 @@ pub fn read_full<R: Read>(from: &mut R, space: &mut [u8]) -> usize
     ensures { IsPrefixLen result space.new }
 {
     let mut n = 0;
+    // A turn passes the bytes of one read and not one byte, so that it goes over no range.
     while n < space.len() {
         match from.read(&mut space[n..]) {
             Ok(0) => return n,

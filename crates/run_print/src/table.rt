@@ -33,6 +33,7 @@ fn cut(text: &[u8], mark: u8) -> (&[u8], &[u8])
 // Whether a word stands among words that spaces part.
 fn names(words: &[u8], word: &[u8]) -> bool {
     let mut rest = words;
+    // The library's `split` would cut at a space in quotes too.
     while !rest.is_empty() {
         let (first, more) = cut(rest, b' ');
         if first == word {

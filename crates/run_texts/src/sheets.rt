@@ -19,6 +19,7 @@ pub fn each<F: Fn(&[u8], &[u8])>(list: &[u8], show: F)
     requires { F.IsAlwaysCallable show }
 {
     let mut at = 0;
+    // A turn passes a sheet and not a byte, so that it goes over no range.
     while at < list.len() {
         let Places { end, start, next } = titled(list, at);
         show(&list[at..end], &list[start..next]);

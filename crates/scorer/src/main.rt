@@ -21,6 +21,7 @@ fn read_text<R: std::io::Read>(from: &mut R, space: &mut [u8]) -> Result<usize, 
     ensures { ReadInto space.new result }
 {
     let mut n = 0;
+    // A turn passes the bytes of one read and not one byte, so that it goes over no range.
     while n < space.len() {
         match from.read(&mut space[n..])? {
             0 => break,

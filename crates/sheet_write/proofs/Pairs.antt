@@ -4,8 +4,9 @@ use mathlib.Core.List.{List}
 use Prim.Native.Nat.{ℕ, zero, suc, ◌+◌, ◌*◌, ◌/◌, ◌%◌, ◌<◌}
 use native.Mathlib.Nat.{add-zero, zero-add}
 use native.Mathlib.Omega.{arith}
-use lib.ListN.{length, get_or}
+use lib.ListN.{get_or}
 use Rattle.sheet_write.specs.Pairs.{pairs, pairs_from}
+use Rattle.sheet_write.specs.declared.TheConstants.{PAIRS}
 
 -- the two digits of v stand in t at 2 r
 abbrev pub Stand : List ℕ → ℕ → ℕ → Type 0
@@ -25,6 +26,7 @@ pub stand : (t : List ℕ) (r : ℕ) → t ≡ pairs → r < 100 → Stand t r r
 unfolding pairs
 stand t r e h = rw e (rw zero-add at (stand_from 100 0 r h))
 
-pub two_hundred : (t : List ℕ) → t ≡ pairs → length t ≡ 200
+-- the test of the whole table: its two hundred bytes are those of `pairs`, computed
+pub table : PAIRS ≡ pairs
 unfolding pairs pairs_from
-two_hundred t e = rw e refl
+table = refl

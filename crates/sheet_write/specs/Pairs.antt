@@ -1,4 +1,4 @@
--- What code inside asks for, and no public promise speaks of: the table that numbers are written by, the two digits of 0, of 1, and so on to 99.
+-- What no public promise speaks of: the table that numbers are written by, the two digits of 0, of 1, and so on to 99.
 -- Definitions only.
 use Rattle.std.specs.Prelude.{ℕ, zero, suc, ◌+◌, ◌/◌, ◌%◌, List, [], ◌∷◌}
 

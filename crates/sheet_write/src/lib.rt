@@ -4,7 +4,6 @@
 
 ghost use Rattle.std.specs.Prelude.{◌≡◌, ◌+◌, ◌/◌, ◌%◌, ◌<◌, ◌≤◌, length, set};
 ghost use Rattle.sheet_text.specs.Decimal.{decimal};
-ghost use Rattle.sheet_write.specs.Pairs.{pairs};
 ghost use Rattle.sheet_write.specs.Writing.{Wrote, Fitted};
 
 // The bytes of text.
@@ -35,7 +34,7 @@ pub fn number_len(n: u64) -> usize
     ensures { (result ≡ length (decimal n)) × (result ≤ 20) }
 {
     if n < 10 {
-        return 1;
+        return 1; // of 0 too
     }
     if n < 100 {
         return 2;
@@ -43,72 +42,55 @@ pub fn number_len(n: u64) -> usize
     number_len(n / 100) + 2
 }
 
-// The two digits of r, a number below 100, at a place of out: in the table they stand at 2 r.
-#[tactic(auto, using(crate::proofs::Pairs::two_hundred))]
-fn put_pair(out: &mut [u8], at: usize, table: &[u8], r: u64)
-    requires { (table.now ≡ pairs) × (r < 100) × (at + 1 < length out.old) }
+// The two digits of 0, of 1, and so on to 99: those of r stand at 2 r. Read where it lies.
+static PAIRS: [u8; 200] = *b"\
+    00010203040506070809\
+    10111213141516171819\
+    20212223242526272829\
+    30313233343536373839\
+    40414243444546474849\
+    50515253545556575859\
+    60616263646566676869\
+    70717273747576777879\
+    80818283848586878889\
+    90919293949596979899";
+
+// The two digits of r, a number below 100, at a place of out.
+fn put_pair(out: &mut [u8], at: usize, r: u64)
+    requires { (r < 100) × (at + 1 < length out.old) }
     ensures { out.new ≡ set (set out.old (at + 1) (48 + r % 10)) at (48 + r / 10) }
 {
     let i = (2 * r) as usize;
-    let tens = table[i];
-    let ones = table[i + 1];
+    let tens = PAIRS[i];
+    let ones = PAIRS[i + 1];
     out[at + 1] = ones;
     out[at] = tens;
 }
 
-// The digits of n from the back, two a division; where their number is odd, the first stands alone.
+// The digits of n, from the back, two a division; where their number is odd, the first stands alone.
 // The number left ends the loop and no place does: chunks of two from the back would ask in each turn whether one is short.
 #[tactic(auto, using(crate::proofs::Backward::sizes))]
-fn put_pairs(out: &mut [u8], table: &[u8], n: u64) -> usize
-    requires { (table.now ≡ pairs) × (length (decimal n) ≤ length out.old) }
+pub fn put_number(out: &mut [u8], n: u64) -> usize
+    requires { length (decimal n) ≤ length out.old }
     ensures { Wrote out.old out.new result (decimal n) }
 {
+    // The loop writes a digit alone too: tried without this, and slower: a number of one to eight digits takes a tenth longer.
+    if n < 10 {
+        out[0] = b'0' + n as u8;
+        return 1;
+    }
     let len = number_len(n);
     let mut at = len;
     let mut left = n;
     while left >= 100 {
         at -= 2;
-        put_pair(out, at, table, left % 100);
+        put_pair(out, at, left % 100);
         left /= 100;
     }
     if left < 10 {
         out[0] = b'0' + left as u8;
     } else {
-        put_pair(out, 0, table, left);
+        put_pair(out, 0, left);
     }
     len
-}
-
-// The digits of n by the table, which is laid out anew for each number: so it stands outside of the loop, and a digit alone has none.
-fn put_by_table(out: &mut [u8], n: u64) -> usize
-    requires { length (decimal n) ≤ length out.old }
-    ensures { Wrote out.old out.new result (decimal n) }
-{
-    put_pairs(
-        out,
-        b"\
-            00010203040506070809\
-            10111213141516171819\
-            20212223242526272829\
-            30313233343536373839\
-            40414243444546474849\
-            50515253545556575859\
-            60616263646566676869\
-            70717273747576777879\
-            80818283848586878889\
-            90919293949596979899",
-        n,
-    )
-}
-
-// The digits of n.
-pub fn put_number(out: &mut [u8], n: u64) -> usize
-    requires { length (decimal n) ≤ length out.old }
-    ensures { Wrote out.old out.new result (decimal n) }
-{
-    if n >= 10 {
-        return put_by_table(out, n);
-    }
-    out[0] = b'0' + n as u8;
-    1
 }

@@ -2,7 +2,7 @@
 use mathlib.Core.Path.{◌≡◌}
 use lib.ListN.{length}
 use Rattle.sheet_write.proofs.Backward.{Behind}
-use Rattle.sheet_write.proofs.put_pairs.Given as goal
+use Rattle.sheet_write.proofs.put_number.Given as goal
 
 abbrev pub invariant-loop-left : goal.invariant-loop-left
 invariant-loop-left l = (length l.out ≡ length l.initial.out) × Behind l.initial.out l.n l.out l.at l.left

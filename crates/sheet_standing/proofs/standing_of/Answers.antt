@@ -10,10 +10,12 @@ pub returns-then-contains : goal.returns-then-contains
 unfolding standing lacking
 returns-then-contains c =
     let number : c.args.l.number ≡ Some c.in_ok-n.n = search rules in
-    rw (number, sym c.is_lacking.ensures ∙ c.if-is_lacking.false, sym (any_on c.args.numbers.now c.in_ok-n.n) ∙ sym c.contains.ensures.value ∙ c.if-contains.true)
+    let on = sym (any_on c.args.numbers.now c.in_ok-n.n) ∙ sym c.contains.ensures.value ∙ c.if-contains.true in
+    rw (number, sym c.is_lacking.ensures ∙ c.if-is_lacking.false, on)
 
 pub returns : goal.returns
 unfolding standing lacking
 returns c =
     let number : c.args.l.number ≡ Some c.in_ok-n.n = search rules in
-    rw (number, sym c.is_lacking.ensures ∙ c.if-is_lacking.false, sym (any_on c.args.numbers.now c.in_ok-n.n) ∙ sym c.contains.ensures.value ∙ c.if-contains.false)
+    let on = sym (any_on c.args.numbers.now c.in_ok-n.n) ∙ sym c.contains.ensures.value ∙ c.if-contains.false in
+    rw (number, sym c.is_lacking.ensures ∙ c.if-is_lacking.false, on)

@@ -16,7 +16,6 @@ use Rattle.sheet_weigh.specs.Sheet.{marked}
 use Rattle.sheet_weigh.proofs.Markings.{marked_length, all_light}
 use Rattle.sheet_write.specs.Writing.{ascii}
 use Rattle.sheet_report.specs.Report.{line_bytes, lines_bytes, ending_bytes}
-use Rattle.sheet_outcome.specs.declared.Mark.{Mark}
 use Rattle.sheet_outcome.specs.Outcome.{Weighed}
 use Rattle.sheet_outcome.specs.declared.Ending.{Ending}
 use Rattle.sheet_report.proofs.Reports.{between_length, number_of, line_size}
@@ -57,13 +56,13 @@ number_most L cs i h = go (came L cs i) refl
 line_most : (i : ℕ) (w : Weighed) → i < 10 ^ 20 → number_of w < 10 ^ 20 → length (line_bytes i w) ≤ 46
 line_most i w h k = omega (arith, line_size i w, digits_most 19 i h, digits_most 19 (number_of w) k)
 
-lines_most : (i : ℕ) (ms : List Mark) → ((k : ℕ) → k < length ms → number_of (get_or ms k no_mark).weighed < 10 ^ 20) → i + length ms < 10 ^ 20
+lines_most : (i : ℕ) (ms : List Weighed) → ((k : ℕ) → k < length ms → number_of (get_or ms k no_mark) < 10 ^ 20) → i + length ms < 10 ^ 20
     → length (lines_bytes i ms) ≤ length ms * 46
 unfolding lines_bytes
 lines_most i [] each h = omega arith
 lines_most i (m ∷ ms) each h =
     let ih = lines_most (i + 1) ms (λ k g. each (suc k) (omega (arith, g))) (omega arith) in
-    let l = line_most i m.weighed (omega arith) (each 0 (omega arith)) in
+    let l = line_most i m (omega arith) (each 0 (omega arith)) in
     simp length-append (omega arith)
 
 -- what an ending writes

@@ -25,7 +25,6 @@ use Rattle.sheet_read.specs.Form.{Bank, cylinders_text, text, in_form}
 use Rattle.sheet_read.proofs.Inverse.{the_form}
 use Rattle.sheet_standing.specs.Standing.{lacking, is_on, numbers, standing}
 use Rattle.sheet_outcome.specs.Outcome.{admitted, total, Summed, Weighed}
-use Rattle.sheet_outcome.specs.declared.Mark.{Mark}
 use Rattle.sheet_weigh.specs.Weighing.{if_passed, filled, by_reading, weighed, weighed_after}
 use Rattle.sheet_weigh.specs.Sheet.{mark, marked_after, marked}
 use Rattle.sheet_score.specs.Score.{listed, report}
@@ -177,17 +176,16 @@ module _ (L : Limits) where
   other_mark : (before : List ℕ) (c : Cylinder) (t : Field) → c.kind ≡ Kind.Weighed
       → mark L before (line_of c) ≡ mark L before (line_of (with_temperature t c))
   other_mark before c t e =
-      ap (λ (w : Weighed). record { weighed = w })
-      (rw e (any_temperature before c.number c.temperature t c.value c.volume))
+      rw e (any_temperature before c.number c.temperature t c.value c.volume)
 
   same_marks : (before : List ℕ) {cs ds : List Cylinder} → ButForTemperatures cs ds
       → marked_after L before (map line_of cs) ≡ marked_after L before (map line_of ds)
   unfolding marked_after numbers
   same_marks before no_more = refl
-  same_marks before (alike {c} p) = ap (λ (ms : List Mark). mark L before (line_of c) ∷ ms) (same_marks (before ++ numbers (line_of c ∷ [])) p)
+  same_marks before (alike {c} p) = ap (λ (ms : List Weighed). mark L before (line_of c) ∷ ms) (same_marks (before ++ numbers (line_of c ∷ [])) p)
   same_marks before (other {c} {cs} {ds} t e p) =
-      ap (λ (m : Mark). m ∷ marked_after L (before ++ numbers (line_of c ∷ [])) (map line_of cs)) (other_mark before c t e)
-      ∙ ap (λ (ms : List Mark). mark L before (line_of (with_temperature t c)) ∷ ms) (same_marks (before ++ numbers (line_of c ∷ [])) p)
+      ap (λ (m : Weighed). m ∷ marked_after L (before ++ numbers (line_of c ∷ [])) (map line_of cs)) (other_mark before c t e)
+      ∙ ap (λ (ms : List Weighed). mark L before (line_of (with_temperature t c)) ∷ ms) (same_marks (before ++ numbers (line_of c ∷ [])) p)
 
   same_count : {cs ds : List Cylinder} → ButForTemperatures cs ds → length cs ≡ length ds
   same_count no_more = refl
@@ -230,9 +228,9 @@ module _ (L : Limits) where
   marks_as_then before not_one = refl
   marks_as_then before (not_this {c} {cs} a p) =
       let later = before ++ numbers (line_of c ∷ []) in
-      ap (λ (w : Weighed). record { weighed = w } ∷ marked_after L later (map line_of cs))
+      ap (λ (w : Weighed). w ∷ marked_after L later (map line_of cs))
       (by_fields before c.number c.temperature c.kind c.value c.volume a)
-      ∙ ap (λ (ms : List Mark). record { weighed = came_then before (line_then c) } ∷ ms) (marks_as_then later p)
+      ∙ ap (λ (ms : List Weighed). came_then before (line_then c) ∷ ms) (marks_as_then later p)
 
   bank_as_then : (b : Bank) → NoneOnScale b.cylinders → report L (Some b) ≡ report_then L (Some b)
   unfolding report marked

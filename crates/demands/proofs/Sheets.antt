@@ -28,7 +28,6 @@ use Rattle.sheet_weigh.proofs.Weights.{Under, weighed_under}
 use Rattle.sheet_write.specs.Writing.{overlaid}
 use Rattle.sheet_write.proofs.Writings.{long}
 use Rattle.sheet_report.specs.Report.{lines_bytes, ending_bytes, ReportIs, Written}
-use Rattle.sheet_outcome.specs.declared.Mark.{Mark}
 use Rattle.sheet_outcome.specs.Outcome.{Weighed, is_need, needed, admitted, plus, total, ending, Summed, Admitted}
 use Rattle.sheet_score.specs.Score.{sent_back, listed, report}
 use Rattle.sheet_outcome.specs.declared.Ending.{Ending}
@@ -43,36 +42,35 @@ use Rattle.demands.proofs.Twice.{no_mass, line_at, SomeRefused, some_alone, some
 
 -- ---- the total of marks: refused where one of them is, and else the sum of their milligrams
 
-abbrev massed : List ℕ → List Mark
-massed mgs = map (λ (mg : ℕ). record { weighed = Ok (as_milligrams mg) }) mgs
+abbrev massed : List ℕ → List Weighed
+massed mgs = map (λ (mg : ℕ). Ok (as_milligrams mg)) mgs
 
-pub data Tally (ms : List Mark) : Summed → Type 0 where
-  refused : (i n : ℕ) → i < length ms → (get_or ms i no_mark).weighed ≡ refusal.refused n → Tally ms None
+pub data Tally (ms : List Weighed) : Summed → Type 0 where
+  refused : (i n : ℕ) → i < length ms → get_or ms i no_mark ≡ refusal.refused n → Tally ms None
   summed : (mgs : List ℕ) → ms ≡ massed mgs → Tally ms (Some (as_milligrams (sum mgs)))
 
-one_mark : (m : Mark) (ms : List Mark) (w : Weighed) → m.weighed ≡ w → (t : Summed) → Tally ms t → Tally (m ∷ ms) (plus w t)
-one_mark m ms (Err n) e t r = refused 0 n.0 (omega arith) e
-one_mark m ms (Ok mg) e t (refused i n h r) = refused (suc i) n (omega arith) r
-one_mark m ms (Ok mg) e t (summed mgs a) =
-    summed (mg.0 ∷ mgs) (ap (λ (w : Weighed). record { weighed = w } ∷ ms) e ∙ ap (λ (l : List Mark). record { weighed = Ok mg } ∷ l) a)
+one_mark : (m : Weighed) (ms : List Weighed) (t : Summed) → Tally ms t → Tally (m ∷ ms) (plus m t)
+one_mark (Err n) ms t r = refused 0 n.0 (omega arith) refl
+one_mark (Ok mg) ms t (refused i n h r) = refused (suc i) n (omega arith) r
+one_mark (Ok mg) ms t (summed mgs a) = summed (mg.0 ∷ mgs) (ap (λ (l : List Weighed). Ok mg ∷ l) a)
 
-pub tally : (ms : List Mark) → Tally ms (total ms)
+pub tally : (ms : List Weighed) → Tally ms (total ms)
 unfolding total
 tally [] = summed [] refl
-tally (m ∷ ms) = one_mark m ms m.weighed refl (total ms) (tally ms)
+tally (m ∷ ms) = one_mark m ms (total ms) (tally ms)
 
-pub refused_total : (ms : List Mark) (i n : ℕ) → i < length ms → (get_or ms i no_mark).weighed ≡ refusal.refused n → total ms ≡ None
+pub refused_total : (ms : List Weighed) (i n : ℕ) → i < length ms → get_or ms i no_mark ≡ refusal.refused n → total ms ≡ None
 unfolding total
 refused_total [] i n h e = absurd (omega arith)
 refused_total (m ∷ ms) zero n h e = rw e
-refused_total (m ∷ ms) (suc i) n h e = rw (refused_total ms i n (le_of_suc-le-suc h) e) (any m.weighed)
+refused_total (m ∷ ms) (suc i) n h e = rw (refused_total ms i n (le_of_suc-le-suc h) e) (any m)
   where
     any : (w : Weighed) → plus w None ≡ None
     any (Ok mg) = refl
     any (Err k) = refl
 
 -- none of these is refused
-mass_at : (mgs : List ℕ) (i n : ℕ) → i < length mgs → (get_or (massed mgs) i no_mark).weighed ≡ refusal.refused n → ⊥
+mass_at : (mgs : List ℕ) (i n : ℕ) → i < length mgs → get_or (massed mgs) i no_mark ≡ refusal.refused n → ⊥
 mass_at [] i n h e = omega arith
 mass_at (mg ∷ mgs) zero n h e = no_mass (sym e)
 mass_at (mg ∷ mgs) (suc i) n h e = mass_at mgs i n (le_of_suc-le-suc h) e
@@ -100,7 +98,7 @@ module _ (L : Limits) where
   all_weighed [] [] e = none_left
   all_weighed [] (mg ∷ mgs) e = let z : 0 ≡ suc (length (massed mgs)) = ap length e in absurd (omega arith)
   all_weighed (l ∷ ls) [] e = let z : suc (length (marked_before L ls)) ≡ 0 = ap length e in absurd (omega arith)
-  all_weighed (l ∷ ls) (mg ∷ mgs) e = one_more (ap (λ (ms : List Mark). (get_or ms 0 no_mark).weighed) e) (all_weighed ls mgs (ap (drop 1) e))
+  all_weighed (l ∷ ls) (mg ∷ mgs) e = one_more (ap (λ (ms : List Weighed). get_or ms 0 no_mark) e) (all_weighed ls mgs (ap (drop 1) e))
 
   weighed_total : {ls : List (Line Float)} {mgs : List ℕ} → AllWeighed L ls mgs → total (marked_before L ls) ≡ Some (as_milligrams (sum mgs))
   unfolding total
@@ -108,7 +106,7 @@ module _ (L : Limits) where
   weighed_total (one_more e a) = rw (e, weighed_total a)
 
   module _ (cs : List Cylinder) where
-    abbrev marks : List Mark
+    abbrev marks : List Weighed
     marks = marked L (map line_of cs)
 
     pub marks_many : length marks ≡ length cs
@@ -137,7 +135,7 @@ module _ (L : Limits) where
     none_twice mgs a t =
         let r = some_twice L cs t in
         let n : length marks ≡ length mgs = ap length a ∙ length-map mgs _ in
-        mass_at mgs r.place r.number (omega (arith, r.within, marks_many)) (ap (λ (ms : List Mark). (get_or ms r.place no_mark).weighed) (sym a) ∙ r.refused)
+        mass_at mgs r.place r.number (omega (arith, r.within, marks_many)) (ap (λ (ms : List Weighed). get_or ms r.place no_mark) (sym a) ∙ r.refused)
 
     pub each_alone : (mgs : List ℕ) → marks ≡ massed mgs → AllWeighed L (map line_of cs) mgs
     each_alone mgs a = all_weighed (map line_of cs) mgs (sym (marked_as_before L cs (none_twice mgs a)) ∙ a)
@@ -147,7 +145,7 @@ module _ (L : Limits) where
       by_line : OneRefused L (map line_of cs) → Sent
       by_number : Twice cs → Sent
 
-    sent : (i n : ℕ) → i < length marks → (get_or marks i no_mark).weighed ≡ refusal.refused n → Sent
+    sent : (i n : ℕ) → i < length marks → get_or marks i no_mark ≡ refusal.refused n → Sent
     sent i n h e = go ((refusals_at L cs i k n).0 e)
       where
         k : i < length cs
@@ -174,7 +172,7 @@ above_none {n} z = omega (arith, z)
 
 module _ (L : Limits) (t : List ℕ) where
   module _ (b : Bank) where
-    abbrev bank : List Mark
+    abbrev bank : List Weighed
     bank = marked L (lines b)
 
     of_sent : {need : ℕ} → Needs t b need → Sent L b.cylinders → Reported L t (lines_bytes 1 bank ++ sent_back 13)

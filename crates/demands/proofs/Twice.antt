@@ -23,8 +23,7 @@ use Rattle.sheet_read.specs.Form.{Bank}
 use Rattle.door_checks.specs.Check.{Check}
 use Rattle.sheet_standing.specs.Standing.{if_numbered, no_volume, no_reading, lacking, is_on, numbers, standing}
 use Rattle.sheet_standing.proofs.Named.{named, is_named}
-use Rattle.sheet_outcome.specs.Outcome.{admitted, Weighed}
-use Rattle.sheet_outcome.specs.declared.Mark.{Mark}
+use Rattle.sheet_outcome.specs.Outcome.{admitted}
 use Rattle.sheet_weigh.specs.Weighing.{weighed, if_passed, weighed_after}
 use Rattle.sheet_weigh.specs.Sheet.{marked}
 use Rattle.sheet_weigh.proofs.Markings.{marked_length, marked_at}
@@ -177,10 +176,7 @@ module _ (cs : List Cylinder) (i : ℕ) where
 pub no_mass : {A : Type 0} {n : ℕ} {mg : Milligrams} → refusal.refused n ≡ Ok mg → A
 no_mass e = let z : ◌≡◌ {A = ℕ} 0 1 = cc in absurd (omega arith)
 
-abbrev mark_alone : Limits → Line Float → Mark
-mark_alone L l = record { weighed = weighed L l }
-
-alone_at : (L : Limits) (cs : List Cylinder) (i : ℕ) → i < length cs → (get_or (marked_before L (map line_of cs)) i no_mark).weighed ≡ weighed L (line_of (at cs i))
+alone_at : (L : Limits) (cs : List Cylinder) (i : ℕ) → i < length cs → get_or (marked_before L (map line_of cs)) i no_mark ≡ weighed L (line_of (at cs i))
 alone_at L [] i h = absurd (omega arith)
 alone_at L (c ∷ cs) zero h = refl
 alone_at L (c ∷ cs) (suc i) h = alone_at L cs i (le_of_suc-le-suc h)
@@ -190,7 +186,7 @@ module _ (L : Limits) where
     came_as : came L cs i ≡ if_passed (stands cs i) (weighed L (line_of (at cs i)))
     unfolding weighed_after
     came_as =
-        ap (λ (m : Mark). m.weighed) (marked_at L (map line_of cs) i _ blank_line (omega (arith, length-map cs line_of)))
+        marked_at L (map line_of cs) i _ blank_line (omega (arith, length-map cs line_of))
         ∙ ap (weighed_after L (numbers (above cs i))) (line_at cs i)
 
     came_lacking : Dashed (at cs i) → came L cs i ≡ refusal.refused 1
@@ -278,9 +274,9 @@ module _ (L : Limits) where
     pub marked_as_before : (Twice cs → ⊥) → marked L (map line_of cs) ≡ marked_before L (map line_of cs)
     marked_as_before once =
         let n = length-map cs line_of in
-        ext_get_or no_mark _ _ (marked_length L (map line_of cs) ∙ sym (length-map (map line_of cs) (mark_alone L)))
+        ext_get_or no_mark _ _ (marked_length L (map line_of cs) ∙ sym (length-map (map line_of cs) (weighed L)))
         (λ i h. let k : i < length cs = omega (arith, h, n, marked_length L (map line_of cs)) in
-        ap (λ (w : Weighed). record { weighed = w }) (came_alone once i k ∙ sym (alone_at L cs i k)))
+        came_alone once i k ∙ sym (alone_at L cs i k))
 
   -- and the report is what it was
   pub report_as_before : (o : Option Bank) → ((b : Bank) → o ≡ Some b → Twice b.cylinders → ⊥) → report L o ≡ report_before L o

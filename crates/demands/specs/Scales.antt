@@ -24,7 +24,6 @@ use Rattle.sheet_line.specs.declared.line.Line.{Line}
 use Rattle.sheet_read.specs.Form.{Bank, Fair, text, in_form}
 use Rattle.sheet_standing.specs.Standing.{if_numbered, no_temperature, no_volume, is_on, numbers}
 use Rattle.sheet_outcome.specs.Outcome.{admitted, total, Weighed}
-use Rattle.sheet_outcome.specs.declared.Mark.{Mark}
 use Rattle.sheet_weigh.specs.Weighing.{if_passed, if_number, if_kelvin, is_volume, by_answer}
 use Rattle.sheet_weigh.specs.Sheet.{marked}
 use Rattle.sheet_score.specs.Score.{sent_back, listed, report}
@@ -159,9 +158,9 @@ module _ (L : Limits) where
   abbrev pub weighed_then : Line Float → Weighed
   weighed_then l = if_number l.number (λ _. if_number l.volume (λ v. by_reading_then l.temperature v l.reading))
 
-  unfoldable pub marked_then : List ℕ → List (Line Float) → List Mark
+  unfoldable pub marked_then : List ℕ → List (Line Float) → List Weighed
   marked_then before [] = []
-  marked_then before (l ∷ ls) = record { weighed = if_passed (standing_then before l) (weighed_then l) } ∷ marked_then (before ++ numbers (l ∷ [])) ls
+  marked_then before (l ∷ ls) = if_passed (standing_then before l) (weighed_then l) ∷ marked_then (before ++ numbers (l ∷ [])) ls
 
   abbrev pub report_then : Option Bank → List ℕ
   report_then None = sent_back 14

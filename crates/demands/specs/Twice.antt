@@ -9,7 +9,6 @@ use Rattle.sheet_line.specs.declared.cylinder.Cylinder.{Cylinder}
 use Rattle.sheet_line.specs.declared.line.Line.{Line}
 use Rattle.sheet_read.specs.Form.{Bank}
 use Rattle.sheet_outcome.specs.Outcome.{admitted, Weighed}
-use Rattle.sheet_outcome.specs.declared.Mark.{Mark}
 use Rattle.sheet_weigh.specs.Weighing.{weighed}
 use Rattle.sheet_weigh.specs.Sheet.{marked}
 use Rattle.sheet_score.specs.Score.{sent_back, listed}
@@ -21,8 +20,8 @@ abbrev pub no_cylinder : Cylinder
 no_cylinder = record { number = None; temperature = None; kind = Kind.Pressure; value = None; volume = None }
 
 -- and where there is no mark
-abbrev pub no_mark : Mark
-no_mark = record { weighed = Ok (as_milligrams 0) }
+abbrev pub no_mark : Weighed
+no_mark = Ok (as_milligrams 0)
 
 -- the line at a place, the first being 0
 abbrev pub at : List Cylinder → ℕ → Cylinder
@@ -53,7 +52,7 @@ pub data NumberedAt : ℕ → Type 0 where
 module _ (L : Limits) where
   -- what came of the line at i
   abbrev pub came : List Cylinder → ℕ → Weighed
-  came cs i = (get_or (marked L (map line_of cs)) i no_mark).weighed
+  came cs i = get_or (marked L (map line_of cs)) i no_mark
 
   -- when it is refused, and by which number: by 1, by 30, or as the line alone is
   pub data RefusesAt (cs : List Cylinder) (i : ℕ) : ℕ → Type 0 where
@@ -68,8 +67,8 @@ module _ (L : Limits) where
 
   -- ---- as it was before: each line's mark is that of the line alone
 
-  abbrev pub marked_before : List (Line Float) → List Mark
-  marked_before ls = map (λ (l : Line Float). record { weighed = weighed L l }) ls
+  abbrev pub marked_before : List (Line Float) → List Weighed
+  marked_before ls = map (weighed L) ls
 
   abbrev pub report_before : Option Bank → List ℕ
   report_before None = sent_back 14

@@ -10,8 +10,7 @@ use lib.Seq.{get_or-take, take-take, length-take-le}
 use Rattle.door_limits.specs.declared.Limits.{Limits}
 use Rattle.sheet_line.specs.declared.line.Line.{Line}
 use Rattle.sheet_read.specs.declared.Sheet.{Sheet}
-use Rattle.sheet_outcome.specs.Outcome.{admitted}
-use Rattle.sheet_outcome.specs.declared.Mark.{Mark}
+use Rattle.sheet_outcome.specs.Outcome.{admitted, Weighed}
 use Rattle.sheet_outcome.proofs.Admissions.{few}
 use Rattle.sheet_standing.specs.Standing.{numbers}
 use Rattle.sheet_weigh.specs.Weighing.{weighed_after}
@@ -27,10 +26,10 @@ module _ (L : Limits) where
   unfolding marks_for
   of_lines ls i d h k =
       let m = marks_for (marked L ls) in
-      let none : Mark = record { weighed = refused 0 } in
+      let none : Weighed = refused 0 in
       let there = get_or-take m.count m.marks i none (omega (arith, marked_length L ls)) in
-      let back = ap (λ (ms : List Mark). get_or ms i none) (marks_of_lem L ls h) in
-      ap (λ (x : Mark). x.weighed) (sym there ∙ back ∙ marked_at L ls i none d k)
+      let back = ap (λ (ms : List Weighed). get_or ms i none) (marks_of_lem L ls h) in
+      sym there ∙ back ∙ marked_at L ls i none d k
 
   -- of a text that is in the form
   module _ (s : Sheet) (mg : ℕ) (e : admitted true s.count s.need ≡ Ok mg) (size : length s.lines ≡ 32) where

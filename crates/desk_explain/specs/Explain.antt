@@ -9,7 +9,7 @@ use Rattle.sheet_standing.specs.Standing.{first_with}
 
 -- what came of the line after i others; past the array stands the filler, whose 0 is no refusal
 abbrev pub mark_at : Marks → ℕ → Weighed
-mark_at m i = (get_or m.marks i (record { weighed = refused 0 })).weighed
+mark_at m i = get_or m.marks i (refused 0)
 
 -- the place of the first line that has the cylinder number; 0 for a blank, which is none
 abbrev pub first_of : Sheet → Field → ℕ

@@ -26,10 +26,7 @@ use sheet_weigh::weigh_sheet;
 fn mark_at(m: &Marks, i: usize) -> Result<Milligrams, Refusal>
     ensures { result ≡ mark_at m.now i }
 {
-    match m.marks.get(i) {
-        Some(mark) => mark.weighed,
-        None => Err(Refusal(0)),
-    }
+    m.marks.get(i).copied().unwrap_or(Err(Refusal(0)))
 }
 
 // The first line that has the cylinder number; a blank is none.

@@ -11,8 +11,7 @@ use lib.ListN.{length, drop, get_or, drop_of_length-le}
 use lib.Seq.{drop-cons}
 use Rattle.sheet_mass.specs.Mass.{as_milligrams}
 use Rattle.sheet_mass.specs.declared.Milligrams.{Milligrams}
-use Rattle.sheet_outcome.specs.Outcome.{plus, total, Summed}
-use Rattle.sheet_outcome.specs.declared.Mark.{Mark}
+use Rattle.sheet_outcome.specs.Outcome.{plus, total, Summed, Weighed}
 
 abbrev summed : ℕ → Summed
 summed n = Some (as_milligrams n)
@@ -31,17 +30,17 @@ onto_plus s mg None = refl
 
 -- ---- one turn of the loop that adds them
 
-module _ (ms : List Mark) (s i : ℕ) (e : total ms ≡ onto s (total (drop i ms))) where
+module _ (ms : List Weighed) (s i : ℕ) (e : total ms ≡ onto s (total (drop i ms))) where
   pub at_end : length ms ≤ i → summed s ≡ total ms
   unfolding total
   at_end h = sym (e ∙ rw (drop_of_length-le ms h) (ap summed (omega arith)))
 
-  module _ (d : Mark) (h : i < length ms) where
-    pub one_refused : (n : Refusal) → (get_or ms i d).weighed ≡ Err n → None ≡ total ms
+  module _ (d : Weighed) (h : i < length ms) where
+    pub one_refused : (n : Refusal) → get_or ms i d ≡ Err n → None ≡ total ms
     unfolding total
     one_refused n r = sym (e ∙ rw (drop-cons ms i d h, r))
 
-    pub one_more : (mg : Milligrams) → (get_or ms i d).weighed ≡ Ok mg → total ms ≡ onto (s + mg.0) (total (drop (i + 1) ms))
+    pub one_more : (mg : Milligrams) → get_or ms i d ≡ Ok mg → total ms ≡ onto (s + mg.0) (total (drop (i + 1) ms))
     unfolding total
     one_more mg r = e ∙ rw (drop-cons ms i d h, r, add-one) (onto_plus s mg (total (drop (suc i) ms)))
 

@@ -3,7 +3,6 @@ use Rattle.refusal.specs.Refused.{refused}
 use Rattle.std.specs.Prelude.{ℕ, ◌+◌, Bool, not, cond, ◌&&◌, List, [], ◌∷◌, leb, ltb, eqb, take, Some, None, Ok, Err, Result, Option}
 use Rattle.sheet_text.specs.Field.{Field}
 use Rattle.sheet_mass.specs.Mass.{as_milligrams}
-use Rattle.sheet_outcome.specs.declared.Mark.{Mark}
 use Rattle.sheet_outcome.specs.declared.Marks.{Marks}
 use Rattle.sheet_outcome.specs.declared.Ending.{Ending}
 use Rattle.sheet_mass.specs.declared.Milligrams.{Milligrams}
@@ -43,7 +42,7 @@ admitted ok count need =
 -- ---- the lines
 
 -- of the 32 marks the first `count` are the sheet's lines
-abbrev pub marks_of : Marks → List Mark
+abbrev pub marks_of : Marks → List Weighed
 marks_of m = take m.count m.marks
 
 abbrev pub plus : Weighed → Summed → Summed
@@ -52,9 +51,9 @@ plus (Ok mg) None = None
 plus (Err n) t = None
 
 -- the exact sum of the lines' milligrams, or that some line was refused
-unfoldable pub total : List Mark → Summed
+unfoldable pub total : List Weighed → Summed
 total [] = Some (as_milligrams 0)
-total (m ∷ ms) = plus m.weighed (total ms)
+total (m ∷ ms) = plus m (total ms)
 
 -- ---- after them
 

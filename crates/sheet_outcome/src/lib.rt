@@ -8,16 +8,11 @@ ghost use Rattle.sheet_outcome.specs.Outcome.{is_need, needed, admitted, ending}
 use refusal::Refusal;
 use sheet_mass::Milligrams;
 
-// A cylinder line's milligrams, or the number of its refusal.
-#[derive(Clone, Copy)]
-pub struct Mark {
-    pub weighed: Result<Milligrams, Refusal>,
-}
-
-// The first `count` marks are the sheet's lines. No heap (RULES 11): an array and its count.
+// A mark is a cylinder line's milligrams, or the number of its refusal; the first `count` marks are the sheet's lines.
+// No heap (RULES 11): an array and its count.
 #[derive(Clone, Copy)]
 pub struct Marks {
-    pub marks: [Mark; 32],
+    pub marks: [Result<Milligrams, Refusal>; 32],
     pub count: usize,
 }
 

@@ -3,7 +3,6 @@ use Rattle.std.specs.Prelude.{ℕ, ◌+◌, ◌≤◌, ◌<◌, ◌≡◌, List,
 use Rattle.sheet_text.specs.Decimal.{decimal}
 use Rattle.sheet_write.specs.Writing.{ascii, Wrote}
 use Rattle.sheet_outcome.specs.Outcome.{marks_of, Weighed}
-use Rattle.sheet_outcome.specs.declared.Mark.{Mark}
 use Rattle.sheet_outcome.specs.declared.Ending.{Ending}
 use Rattle.sheet_outcome.specs.declared.Outcome.{Outcome}
 use Rattle.refusal.specs.declared.Refusal.{Refusal}
@@ -22,9 +21,9 @@ unfoldable pub line_bytes : ℕ → Weighed → List ℕ
 line_bytes i w = ascii "L " ++ decimal i ++ ascii " " ++ weighed_bytes w
 
 -- a line for each of the marks, counted from i
-unfoldable pub lines_bytes : ℕ → List Mark → List ℕ
+unfoldable pub lines_bytes : ℕ → List Weighed → List ℕ
 lines_bytes i [] = []
-lines_bytes i (m ∷ ms) = line_bytes i m.weighed ++ lines_bytes (i + 1) ms
+lines_bytes i (m ∷ ms) = line_bytes i m ++ lines_bytes (i + 1) ms
 
 -- RULES 7.2: the last line
 unfoldable pub ending_bytes : Ending → List ℕ

@@ -9,7 +9,7 @@ ghost use Rattle.sheet_report.specs.Report.{weighed_bytes, line_bytes, lines_byt
 
 use refusal::Refusal;
 use sheet_mass::Milligrams;
-use sheet_outcome::{Ending, Mark, Outcome};
+use sheet_outcome::{Ending, Outcome};
 use sheet_write::{number_len, put, put_number};
 
 // RULES 3.1: the report is longer than the output lent for it.
@@ -45,13 +45,13 @@ fn put_line(out: &mut [u8], i: u64, w: Result<Milligrams, Refusal>) -> usize
 }
 
 // Each line is handed what the one before it left of out.
-fn put_lines(out: &mut [u8], marks: &[Mark]) -> usize
+fn put_lines(out: &mut [u8], marks: &[Result<Milligrams, Refusal>]) -> usize
     requires { length (lines_bytes 1 marks.now) ≤ length out.old }
     ensures { Wrote out.old out.new result (lines_bytes 1 marks.now) }
 {
     let mut at = 0;
     for (i, mark) in marks.iter().enumerate() {
-        at += put_line(&mut out[at..], i as u64 + 1, mark.weighed);
+        at += put_line(&mut out[at..], i as u64 + 1, *mark);
     }
     at
 }
@@ -80,13 +80,13 @@ fn line_len(i: u64, w: Result<Milligrams, Refusal>) -> usize
 }
 
 #[tactic(auto, using(crate::proofs::Reports::sizes))]
-fn lines_len(marks: &[Mark]) -> usize
+fn lines_len(marks: &[Result<Milligrams, Refusal>]) -> usize
     requires { length marks.now ≤ 32 }
     ensures { (result ≡ length (lines_bytes 1 marks.now)) × (result ≤ 1472) }
 {
     let mut sum = 0;
     for (i, mark) in marks.iter().enumerate() {
-        sum += line_len(i as u64 + 1, mark.weighed);
+        sum += line_len(i as u64 + 1, *mark);
     }
     sum
 }

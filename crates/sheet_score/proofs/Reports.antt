@@ -14,8 +14,7 @@ use Rattle.sheet_read.specs.Form.{Bank}
 use Rattle.sheet_read.specs.Padded.{padded}
 use Rattle.sheet_read.specs.Sheet.{sheet_of, sheet_read}
 use Rattle.sheet_read.proofs.Paddings.{taken_back}
-use Rattle.sheet_outcome.specs.Outcome.{admitted, Admitted}
-use Rattle.sheet_outcome.specs.declared.Mark.{Mark}
+use Rattle.sheet_outcome.specs.Outcome.{admitted, Admitted, Weighed}
 use Rattle.sheet_outcome.proofs.Admissions.{few}
 use Rattle.sheet_weigh.specs.Sheet.{marks_for, finished, marked, outcome}
 use Rattle.sheet_weigh.proofs.Markings.{marks_of_lem}
@@ -23,7 +22,7 @@ use Rattle.sheet_report.specs.Report.{lines_bytes, report_bytes}
 use Rattle.sheet_score.specs.Score.{sent_back, listed, report}
 
 -- a sheet that is sent back has the one line
-sent_back_lem : (refusal : Refusal) (ms : List Mark) → report_bytes (finished (Err refusal) ms) ≡ sent_back refusal.0
+sent_back_lem : (refusal : Refusal) (ms : List Weighed) → report_bytes (finished (Err refusal) ms) ≡ sent_back refusal.0
 unfolding report_bytes lines_bytes marks_for
 sent_back_lem refusal ms = refl
 

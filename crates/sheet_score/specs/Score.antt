@@ -3,8 +3,7 @@ use Rattle.std.specs.Prelude.{ℕ, true, List, ◌++◌, map, length, Ok, Err, O
 use Rattle.door_limits.specs.declared.Limits.{Limits}
 use Rattle.sheet_line.specs.Line.{line_of}
 use Rattle.sheet_read.specs.Form.{Bank}
-use Rattle.sheet_outcome.specs.Outcome.{admitted, total, ending, Admitted}
-use Rattle.sheet_outcome.specs.declared.Mark.{Mark}
+use Rattle.sheet_outcome.specs.Outcome.{admitted, total, ending, Admitted, Weighed}
 use Rattle.sheet_outcome.specs.declared.Ending.{Ending}
 use Rattle.sheet_weigh.specs.Sheet.{marked}
 use Rattle.sheet_report.specs.Report.{lines_bytes, ending_bytes}
@@ -14,7 +13,7 @@ abbrev pub sent_back : ℕ → List ℕ
 sent_back number = ending_bytes (Ending.SentBack (record { 0 = number }))
 
 -- a line for each cylinder, and then the ending
-abbrev pub listed : Admitted → List Mark → List ℕ
+abbrev pub listed : Admitted → List Weighed → List ℕ
 listed (Err refusal) ms = sent_back refusal.0
 listed (Ok mg) ms = lines_bytes 1 ms ++ ending_bytes (ending mg (total ms))
 

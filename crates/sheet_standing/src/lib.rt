@@ -28,9 +28,7 @@ fn is_lacking(l: Line<f64>) -> bool
 pub fn standing_of(numbers: &[u64], l: Line<f64>) -> Result<(), Refusal>
     ensures { result ≡ standing numbers.now l }
 {
-    let Some(n) = l.number else {
-        return Err(Refusal(1));
-    };
+    let n = l.number.ok_or(Refusal(1))?;
     if is_lacking(l) {
         return Err(Refusal(1));
     }

@@ -15,13 +15,12 @@ use Rattle.sheet_read.proofs.Paddings.{padded_set, taken_back}
 use Rattle.sheet_standing.specs.Standing.{numbers}
 use Rattle.sheet_standing.proofs.Standings.{numbers_joined}
 use Rattle.sheet_outcome.specs.Outcome.{marks_of, Weighed}
-use Rattle.sheet_outcome.specs.declared.Mark.{Mark}
 use Rattle.sheet_weigh.specs.Weighing.{weighed_after}
 use Rattle.sheet_weigh.specs.Sheet.{marks_for, mark, marked_after, marked, Light}
 use Rattle.sheet_weigh.proofs.Weights.{Under, after_under}
 
 -- marks that the array holds are taken back
-pub marks_back : (ms : List Mark) → length ms ≤ 32 → marks_of (marks_for ms) ≡ ms
+pub marks_back : (ms : List Weighed) → length ms ≤ 32 → marks_of (marks_for ms) ≡ ms
 unfolding marks_for
 marks_back ms h = taken_back _ 32 ms h
 
@@ -36,7 +35,7 @@ module _ (L : Limits) where
   one_before before l ls =
       append_assoc before (numbers (l ∷ [])) (numbers ls) ∙ ap (λ (ms : List ℕ). before ++ ms) (sym (numbers_joined (l ∷ []) ls))
 
-  after_at : (before : List ℕ) (ls : List (Line Float)) (i : ℕ) (d : Mark) (e : Line Float) → i < length ls
+  after_at : (before : List ℕ) (ls : List (Line Float)) (i : ℕ) (d : Weighed) (e : Line Float) → i < length ls
       → get_or (marked_after L before ls) i d ≡ mark L (before ++ numbers (take i ls)) (get_or ls i e)
   unfolding marked_after numbers
   after_at before [] i d e h = absurd (omega arith)
@@ -50,7 +49,7 @@ module _ (L : Limits) where
   unfolding marked_after numbers
   after_snoc before [] l = rw (append-nil before)
   after_snoc before (k ∷ ls) l =
-      ap (λ (ms : List Mark). mark L before k ∷ ms) (after_snoc (before ++ numbers (k ∷ [])) ls l
+      ap (λ (ms : List Weighed). mark L before k ∷ ms) (after_snoc (before ++ numbers (k ∷ [])) ls l
       ∙ ap (λ (ns : List ℕ). marked_after L (before ++ numbers (k ∷ [])) ls ++ (mark L ns l ∷ [])) (one_before before k ls))
 
   pub marked_length : (ls : List (Line Float)) → length (marked L ls) ≡ length ls
@@ -58,7 +57,7 @@ module _ (L : Limits) where
   marked_length ls = after_length [] ls
 
   -- the n-th, by the numbers of the lines before it
-  pub marked_at : (ls : List (Line Float)) (i : ℕ) (d : Mark) (e : Line Float) → i < length ls → get_or (marked L ls) i d ≡ mark L (numbers (take i ls)) (get_or ls i e)
+  pub marked_at : (ls : List (Line Float)) (i : ℕ) (d : Weighed) (e : Line Float) → i < length ls → get_or (marked L ls) i d ≡ mark L (numbers (take i ls)) (get_or ls i e)
   unfolding marked
   marked_at ls i d e h = after_at [] ls i d e h
 
@@ -69,7 +68,7 @@ module _ (L : Limits) where
   pub all_light : (ls : List (Line Float)) → Light (marked L ls)
   all_light ls i mg d h e =
       let k = marked_at ls i d blank_line (omega (arith, marked_length ls)) in
-      subst Under (ap (λ (m : Mark). m.weighed) (sym k) ∙ e) (after_under L (numbers (take i ls)) (get_or ls i blank_line))
+      subst Under (sym k ∙ e) (after_under L (numbers (take i ls)) (get_or ls i blank_line))
 
   -- ---- the marks of 32 lines at most, in the array: they are taken back, and can be added
 
@@ -83,11 +82,11 @@ module _ (L : Limits) where
   -- ---- one turn of the loop that weighs the lines
 
   -- the array after i lines
-  abbrev pub held : List (Line Float) → ℕ → List Mark
+  abbrev pub held : List (Line Float) → ℕ → List Weighed
   held ls i = (marks_for (marked L (take i ls))).marks
 
-  pub held_more : (ls : List (Line Float)) (i : ℕ) (d : Line Float) (w : Weighed) (ms : List Mark) → i < length ls → i < 32
-      → w ≡ weighed_after L (numbers (take i ls)) (get_or ls i d) → ms ≡ held ls i → set ms i (record { weighed = w }) ≡ held ls (i + 1)
+  pub held_more : (ls : List (Line Float)) (i : ℕ) (d : Line Float) (w : Weighed) (ms : List Weighed) → i < length ls → i < 32
+      → w ≡ weighed_after L (numbers (take i ls)) (get_or ls i d) → ms ≡ held ls i → set ms i w ≡ held ls (i + 1)
   unfolding marks_for
   held_more ls i d w ms h room ew es =
       let size : length (marked L (take i ls)) ≡ i = marked_length (take i ls) ∙ length-take-le i ls (omega arith) in

@@ -14,7 +14,7 @@ use num_whole::whole_below;
 use refusal::Refusal;
 use sheet_line::line::{Line, Reading};
 use sheet_mass::{Milligrams, from_scale};
-use sheet_outcome::{Ending, Mark, Marks, Outcome, admit, conclude};
+use sheet_outcome::{Ending, Marks, Outcome, admit, conclude};
 use sheet_read::Sheet;
 use sheet_standing::standing_of;
 
@@ -98,16 +98,12 @@ fn weigh_all(limits: Limits, s: Sheet) -> Marks
     requires { s.count ≤ 32 }
     ensures { result ≡ marks_for (marked limits (take s.count s.lines)) }
 {
-    let none = Mark {
-        weighed: Err(Refusal(0)),
-    };
-    let mut marks = [none; 32];
+    let mut marks = [Err(Refusal(0)); 32];
     let mut numbers: [u64; 32] = [0; 32];
     let mut known: usize = 0;
     for i in 0..s.count {
         let l = s.lines[i];
-        let weighed = weigh_after(limits, &numbers[..known], l);
-        marks[i] = Mark { weighed };
+        marks[i] = weigh_after(limits, &numbers[..known], l);
         if let Some(number) = l.number {
             numbers[known] = number;
             known += 1;
@@ -127,7 +123,7 @@ fn total(m: Marks) -> Option<Milligrams>
 {
     let mut sum: u64 = 0;
     for mark in &m.marks[..m.count] {
-        let mg = mark.weighed.ok()?;
+        let mg = mark.ok()?;
         sum += mg.0;
     }
     Some(Milligrams(sum))
@@ -138,12 +134,9 @@ fn total(m: Marks) -> Option<Milligrams>
 fn send_back(why: Refusal) -> Outcome
     ensures { result ≡ finished (Err why) [] }
 {
-    let none = Mark {
-        weighed: Err(Refusal(0)),
-    };
     Outcome {
         marks: Marks {
-            marks: [none; 32],
+            marks: [Err(Refusal(0)); 32],
             count: 0,
         },
         ending: Ending::SentBack(why),

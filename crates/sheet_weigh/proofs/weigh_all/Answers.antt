@@ -7,7 +7,6 @@ use lib.ListN.{length, take}
 use lib.Seq.{length-take-le}
 use Rattle.sheet_line.specs.Line.{blank_line}
 use Rattle.sheet_read.specs.Padded.{padded}
-use Rattle.sheet_outcome.proofs.Arrays.{unmapped}
 use Rattle.sheet_weigh.specs.Sheet.{marks_for, marked_after, marked}
 use Rattle.sheet_weigh.proofs.Knowns.{Known, none_known, known_most, known_room, known_taken, one_blank, one_known}
 use Rattle.sheet_weigh.proofs.Markings.{marked_length, held_more}
@@ -27,9 +26,9 @@ pub loop-i-preserved : goal.loop-i-preserved
 loop-i-preserved c =
     let ls = c.args.s.lines in
     let i = c.loop-i.i in
-    let size : length ls ≡ 32 = search (rules, unmapped) in
+    let size : length ls ≡ 32 = search rules in
     let k = c.loop-i.invariant.1 in
-    let w = rw (known_taken k (omega arith)) at c.weigh_after-weighed.ensures in
+    let w = rw (known_taken k (omega arith)) at c.weigh_after.ensures in
     let after : Known ls (i + 1) c.match-l.numbers c.match-l.known =
     elim c.match-l.branch [
       | in-Some w ↦ rw (w.numbers-is, w.known-is) (one_known k blank_line (omega arith) _ (omega arith) w.in-Some.is)
@@ -42,7 +41,7 @@ unfolding marks_for
 returns c =
     let s = c.args.s in
     let ls = take s.count s.lines in
-    let size : length s.lines ≡ 32 = search (rules, unmapped) in
+    let size : length s.lines ≡ 32 = search rules in
     let all : c.loop-i.i ≡ s.count = omega arith in
     let many : length (marked c.args.limits ls) ≡ s.count = marked_length c.args.limits ls ∙ length-take-le s.count s.lines (omega arith) in
     rw (c.loop-i.invariant.0, all, many)

@@ -119,10 +119,10 @@ impl<'a> Explained<'a> {
 
     // Whether the report has lines: not where the sheet was sent back by 14, 10, 11 or 12.
     fn has_lines(&self) -> bool {
-        match self.outcome.ending {
-            Ending::Covered(_) | Ending::Short(_) => true,
-            Ending::SentBack(n) => n.0 == 13,
-        }
+        matches!(
+            self.outcome.ending,
+            Ending::Covered(_) | Ending::Short(_) | Ending::SentBack(Refusal(13))
+        )
     }
 
     // What is made of one line of the report after the other.
@@ -180,8 +180,7 @@ impl<'a> Explained<'a> {
 
     fn say_ending(&self, p: Paper) -> Paper {
         match self.outcome.ending {
-            Ending::Covered(mg) => self.say_held(p, mg.0),
-            Ending::Short(mg) => self.say_held(p, mg.0),
+            Ending::Covered(mg) | Ending::Short(mg) => self.say_held(p, mg.0),
             Ending::SentBack(n) => self.say_sent_back(p, n),
         }
     }

@@ -27,6 +27,7 @@ pub struct Weight {
     pub overfull: bool,
 }
 
+// What is said of a line is one of three: no Result, since a refusal is said as the others are.
 #[derive(Clone, Copy)]
 pub enum Look {
     Mass(Held),

@@ -55,7 +55,7 @@ pub fn celsius(n: u64) -> Shown
     shortest(n - 2_731_500, 4)
 }
 
-// From Pa.
+// From Pa. Public, as `thousandth` is: a line each over `shortest`, and `kilograms_down` and `kilograms_up` over `fixed`.
 #[tactic(auto, unfolding(crate::specs::Units::bar))]
 pub fn bar(n: u64) -> Shown
     ensures { result ≡ bar n }

@@ -14,8 +14,8 @@ pub fn answer_with(s: Option<State>) -> Result<State, Refusal>
     s.ok_or(Refusal(7))
 }
 
-// The number of a refusal; 0 of a state. A public function, `refusal_number`, which stays: what is refused is handed on
-// by `?`.
+// The number of a refusal; 0 of a state. What is refused is handed on by `?`: the function is public, and stays. So is
+// `number_of` (`door_checks`), of another type and with a definition of its own.
 pub fn refusal_number(a: Result<State, Refusal>) -> u8
     ensures { result ≡ refusal_number a }
 {

@@ -79,7 +79,8 @@ fn point_by(delta: f64, powers: [f64; 11], e: [f64; 12]) -> Point
     }
 }
 
-// For a state, which is told how many terms fell away, or for a pressure, which is not.
+// For a state, which is told how many terms fell away, or for a pressure, which is not: a plain parameter, as `all` of
+// the sums is (`eos_residual`).
 pub fn at_density(told: bool, iso: Isotherm, delta: f64) -> Told
     ensures { result ≡ at_density told iso delta }
 {

@@ -98,7 +98,7 @@ pub fn put_state(a: Result<State, Refusal>, figures: &mut [f64]) -> u32
     put_conducted(with_conductivity(asked, a), figures)
 }
 
-// The three numbers over the front of the figures.
+// The three numbers over the front of the figures; as `put_eight`, a line of the library's `copy_from_slice`.
 #[tactic(auto, unfolding(crate::specs::Figures::with_three))]
 fn put_three(s: Saturation, figures: &mut [f64])
     requires { 3 ≤ length figures.old }

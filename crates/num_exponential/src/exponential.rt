@@ -56,6 +56,7 @@ fn squared(s: f64) -> f64
     ensures { checked result ≡ squared 10 (checked s) }
 {
     let mut s = s;
+    // n is not read: the proof names it.
     for n in (1..11u32).rev() {
         s = s * s;
     }

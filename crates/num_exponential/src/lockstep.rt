@@ -39,7 +39,7 @@ fn parts(y: [f64; 12], k: f64, c: f64, h: f64) -> [f64; 12]
     each(y, |v| part(v, k, c, h))
 }
 
-// s becomes 1 − (y/k)·s, with q·h for y/k.
+// s becomes 1 − (y/k)·s, with q·h for y/k. By index: two arrays are read beside the one that is written.
 fn step(s: [f64; 12], q: [f64; 12], h: f64) -> [f64; 12]
     ensures { result ≡ pairs (turn h) q s }
 {
@@ -51,7 +51,7 @@ fn step(s: [f64; 12], q: [f64; 12], h: f64) -> [f64; 12]
 }
 
 // The steps for k = 14, 13, .., 1, with y/(k·2ᵗ) as y/k times 2⁻ᵗ, as in `eased`. Beside each k stand 1/k less a little
-// and 1/k and a little more.
+// and 1/k and a little more. Written out, since each step has a quotient and a factor of its own.
 pub(crate) fn chains(y: [f64; 12]) -> [f64; 12]
     requires { T (every normal y) }
     ensures { result ≡ map (λ v. chain v 14 (whole 1)) y }
@@ -93,6 +93,7 @@ pub(crate) fn ten_squarings(s: [f64; 12]) -> [f64; 12]
     ensures { result ≡ map (squarings 10) s }
 {
     let mut s = s;
+    // n is not read: the proof names it.
     for n in (0..10u32).rev() {
         square(&mut s);
     }

@@ -11,6 +11,7 @@ pub fn whole_power(x: f64, n: usize) -> f64
         return 1.0;
     }
     let mut p = x;
+    // i is not read: the proof names it.
     for i in 1..n {
         p = p * x;
     }

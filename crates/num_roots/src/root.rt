@@ -136,7 +136,8 @@ fn wider(width: u64) -> u64
     width.saturating_mul(2)
 }
 
-// The bits, from those of 0 to those of 2²⁰, where the k-th whole power passes t. A guess of 0 is none.
+// The bits, from those of 0 to those of 2²⁰, where the k-th whole power passes t. A guess of 0 is as any other:
+// it lies below every place, and the search looks further out.
 fn crossing(t: f64, k: usize, guess: u64) -> Result<u64, Missed>
     requires t { T (nonneg t) }
     requires le_k { (1 ≤ k) × (k ≤ 51) }
@@ -180,6 +181,7 @@ fn three_powers(x: f64, y: f64, z: f64, k: usize) -> Three
     let mut below = x;
     let mut here = y;
     let mut above = z;
+    // i is not read: the proof names it.
     for i in 1..k {
         below = below * x;
         here = here * y;
@@ -225,7 +227,8 @@ fn looked_for(x: f64, e: Exponent) -> Option<f64>
     searched(x, m, k)
 }
 
-// Whether x^(m/k) has to be searched for, and 2²⁰, the search's upper end, has a k-th whole power.
+// Whether x^(m/k) has to be searched for, and 2²⁰, the search's upper end, has a k-th whole power. Test by test as the
+// definition has them: as one `&&` the proof didn't close.
 pub(crate) fn searchable(x: f64, e: Exponent) -> bool
     ensures { result ≡ searchable e x }
 {

@@ -17,7 +17,8 @@ pub struct TwoRoots {
     pub second: f64,
 }
 
-// Two of one number, and the first of another.
+// Two of one number, and the first of another. No twin of `TwoRoots` by a size: its second is guessed in another way
+// (`three_searched`).
 #[derive(Clone, Copy)]
 pub struct ThreeRoots {
     pub first: f64,

@@ -1,6 +1,6 @@
 // RULES 3.1: a refusal, the error of whatever refuses, by its number.
 #![tactic(auto)]
 
-// Any number: what is done with a refusal, in a report or in C, is promised of each.
+// Any number, and no enum of those of RULES 3.1: `write_report`, `put_answer` and `number_of` promise for each.
 #[derive(Clone, Copy)]
 pub struct Refusal(pub u8);

@@ -8,7 +8,7 @@ use desk_paper::paper::{Paper, Stream, paper_of};
 use desk_words::put_words;
 use door_limits::document_01;
 use run_print::bits::{numbered, say};
-use run_texts::sheets::{each, reported};
+use run_texts::sheets::{each_by, reported};
 use run_texts::texts::{fill, load};
 
 fn shown(p: Paper, title: &[u8], text: &[u8]) {
@@ -50,7 +50,7 @@ fn main(rt: HostRuntime) {
     let n = load(&rt, complaints, b"sheets.txt", &mut space);
     say(b"= help\n");
     say_help(p);
-    each(&space[..n], |title, text| shown(p, title, text));
+    each_by(&space[..n], |title, text| shown(p, title, text));
     long(p, b"= 65,536 bytes", b"N 1\n", b"C 1 1 P 1 1\n");
     long(p, b"= 65,537 bytes", b"N 10\n", b"C 1 1 P 1 1\n");
     long(

@@ -8,7 +8,7 @@ use run_print::failure::Finding;
 use run_print::table::Row;
 use run_print::tally::{Count, Tally};
 
-// The columns. Pressures are printed in MPa, u and h in kJ/kg, the heat capacities in kJ/(kg K).
+// The columns, by their places in a row of the table. Pressures are printed in MPa, u and h in kJ/kg, the heat capacities in kJ/(kg K).
 pub const P: usize = 0;
 
 pub const T: usize = 1;

@@ -81,7 +81,7 @@ fn main(rt: HostRuntime) {
     let complaints = paper_of(Stream::Complaints(rt.stderr()));
     let mut space = io::large_buffer();
     let n = load(&rt, complaints, b"sheets.txt", &mut space);
-    each(&space[..n], reported);
+    each(&space[..n]);
     each(
         b"= CR LF in the first line\nN 1\r\nC 7 3000000 P 5000000 1\n\
         = CR LF in the last line\nN 1\nC 7 3000000 P 5000000 1\r\n\

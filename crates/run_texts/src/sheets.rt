@@ -14,8 +14,13 @@ pub fn reported(title: &[u8], text: &[u8]) {
     }
 }
 
+// Each sheet of a list, with its report.
+pub fn each(list: &[u8]) {
+    each_by(list, reported);
+}
+
 // Shows each sheet of a list, by its title and its text.
-pub fn each<F: Fn(&[u8], &[u8])>(list: &[u8], show: F)
+pub fn each_by<F: Fn(&[u8], &[u8])>(list: &[u8], show: F)
     requires { F.IsAlwaysCallable show }
 {
     let mut at = 0;

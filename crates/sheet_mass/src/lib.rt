@@ -12,7 +12,7 @@ pub struct Grams(pub u64);
 #[derive(Clone, Copy)]
 pub struct Milligrams(pub u64);
 
-// RULES 2.4, in g.
+// RULES 2.4, in g. A need has the same bounds by a rule of its own (`sheet_outcome`).
 fn is_mass(g: u64) -> bool
     ensures { result ≡ is_mass g }
 {

@@ -16,7 +16,8 @@ pub struct Marks {
     pub count: usize,
 }
 
-// The total's milligrams and what they come to, or the number that the sheet is sent back with.
+// The total's milligrams and what they come to, or the number that the sheet is sent back with: the three last lines of
+// RULES 7.2, and no Result, since a report has each of them.
 #[derive(Clone, Copy)]
 pub enum Ending {
     Covered(Milligrams),
@@ -47,7 +48,7 @@ fn need_of(need: Option<u64>) -> Result<u64, Refusal>
     }
 }
 
-// ok: the text is in the form.
+// ok: the text is in the form. Public, and promises 14 where it is not.
 #[tactic(auto, unfolding(crate::specs::Outcome::admitted))]
 pub fn admit(ok: bool, count: usize, need: Option<u64>) -> Result<u64, Refusal>
     ensures { result ≡ admitted ok count need }

@@ -51,7 +51,8 @@ fn place_of(lines: &[Line<f64>], n: u64) -> Option<usize>
     lines.iter().position(|l| has_number(*l, n))
 }
 
-// The first line that has the number, by its place, that of the first of all being 1; 0 where none has it.
+// The first line that has the number, by its place, that of the first of all being 1; 0 where none has it. A number and
+// no Option: `first_with` is public, and promises that 0.
 #[tactic(auto, using(crate::proofs::Firsts::first_none, crate::proofs::Firsts::first_some))]
 pub fn first_with(s: Sheet, n: u64) -> usize
     ensures { result ≡ first_with 1 s.lines n }

@@ -55,6 +55,7 @@ fn by_reading(
 {
     match r {
         Reading::Blank => Err(Refusal(1)),
+        // This arm and the next are alike but for the door: with the door handed in, each would name it all the same.
         Reading::Pressure(p) => {
             let t = k.ok_or(Refusal(1))?;
             in_volume(v)?;
@@ -98,6 +99,7 @@ fn weigh_all(limits: Limits, s: Sheet) -> Marks
     requires { s.count ≤ 32 }
     ensures { result ≡ marks_for (marked limits (take s.count s.lines)) }
 {
+    // Behind the lines stands what no line has (`marks_for`); `known` of the numbers are read: fixed memory.
     let mut marks = [Err(Refusal(0)); 32];
     let mut numbers: [u64; 32] = [0; 32];
     let mut known: usize = 0;

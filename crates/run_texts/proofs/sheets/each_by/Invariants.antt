@@ -1,6 +1,6 @@
 -- A title ends after it starts, and its text ends no sooner. The measure is what is left of the list. Assumes nothing.
 use Rattle.std.proofs.Common.{◌-◌, ◌≤◌, length}
-use Rattle.run_texts.proofs.sheets.each.Given as goal
+use Rattle.run_texts.proofs.sheets.each_by.Given as goal
 
 abbrev pub invariant-loop-at : goal.invariant-loop-at
 invariant-loop-at g l = goal.F-IsAlwaysCallable g l.show × (l.at ≤ length l.list)

@@ -29,14 +29,12 @@ fn mark_at(m: &Marks, i: usize) -> Result<Milligrams, Refusal>
     m.marks.get(i).copied().unwrap_or(Err(Refusal(0)))
 }
 
-// The first line that has the cylinder number; a blank is none.
-fn first_of(sheet: Sheet, number: Option<u64>) -> usize
+// The first line that has the cylinder number; a blank has none, and `first_with` answers 0 where there is none.
+fn first_of(sheet: Sheet, number: Option<u64>) -> Option<usize>
     ensures { result ≡ first_of sheet number }
 {
-    match number {
-        None => 0,
-        Some(n) => first_with(sheet, n),
-    }
+    let place = first_with(sheet, number?);
+    (place > 0).then_some(place)
 }
 
 // How many gauges can't tell, and how many lines hold more than a cylinder is filled with.

@@ -58,7 +58,7 @@ fn has(s: &[u8], at: usize, b: u8) -> bool {
     s.get(at) == Some(&b)
 }
 
-// A byte of a line's form, which has `L` for `P`, `D` or `W`.
+// A byte of a line's form, which has `L` for `P`, `D` or `W`. Bytes and no kinds: a form is written as the line is, `C # # L # #`.
 fn fits(form: u8, b: u8) -> bool {
     if form == b'L' {
         matches!(b, b'P' | b'D' | b'W')

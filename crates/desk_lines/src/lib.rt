@@ -62,12 +62,9 @@ fn say_weight(p: Paper, x: Weight) -> Paper {
 }
 
 // Behind the words of 30, the first line that has the cylinder's number.
-fn say_first(p: Paper, n: Refusal, first: usize) -> Paper {
-    match n {
-        Refusal(30) => p
-            .say(b" It stands in L ")
-            .say_number(first as u64)
-            .say(b"."),
+fn say_first(p: Paper, n: Refusal, first: Option<usize>) -> Paper {
+    match (n, first) {
+        (Refusal(30), Some(i)) => p.say(b" It stands in L ").say_number(i as u64).say(b"."),
         _ => p,
     }
 }
@@ -118,7 +115,7 @@ pub struct Told {
     pub cylinder: Cylinder,
     pub look: Look,
     pub doubt: Option<Doubt>,
-    pub first: usize,
+    pub first: Option<usize>,
 }
 
 impl Told {

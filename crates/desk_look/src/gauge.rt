@@ -57,11 +57,7 @@ fn gauge_in(limits: Limits, t: f64, p: f64, v: u64) -> Option<Doubt>
         return None;
     }
     let s = saturated_at(limits, t).ok()?;
-    if is_near(p, s.pressure) {
-        Some(doubt_of(s, v))
-    } else {
-        None
-    }
+    is_near(p, s.pressure).then(|| doubt_of(s, v))
 }
 
 #[tactic(auto, unfolding(crate::specs::Gauge::gauge))]

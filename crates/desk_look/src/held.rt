@@ -59,10 +59,7 @@ fn held_with(mg: Milligrams, a: Result<State, Refusal>) -> Look
 fn is_overfull(mg: Milligrams, volume: Option<u64>) -> bool
     ensures { result ≡ overfull mg volume }
 {
-    match volume {
-        Some(v) if is_volume(v) => mg.0 > 750 * v,
-        _ => false,
-    }
+    volume.is_some_and(|v| is_volume(v) && mg.0 > 750 * v)
 }
 
 // With the state that the milligrams are of, by the door of the reading's kind, or that they were weighed.

@@ -1,10 +1,10 @@
 // RULES 12: what the functions for C hand over in the figures that a caller lends, and the number that they return.
 #![tactic(auto)]
 
-ghost use Rattle.std.specs.Prelude.{◌≡◌, ◌≤◌, Ok, length, set};
+ghost use Rattle.std.specs.Prelude.{◌≡◌, ◌≤◌, ◌++◌, Ok, drop, length, set};
 ghost use Rattle.equation.specs.Equation.{of1996};
 ghost use Rattle.door_conductivity.specs.Conducted.{with_conductivity};
-ghost use Rattle.interface_figures.specs.Figures.{phase_number, with_eight, with_three, asked, AnsweredIn, CarriedIn, CountedIn, SaturatedIn};
+ghost use Rattle.interface_figures.specs.Figures.{phase_number, asked, AnsweredIn, CarriedIn, CountedIn, SaturatedIn};
 
 use door_conductivity::{Carried, with_conductivity};
 use door_saturation::Saturation;
@@ -22,16 +22,16 @@ fn phase_number(phase: Phase) -> u32
     }
 }
 
-// The eight numbers over the front of the figures.
-#[tactic(auto, unfolding(crate::specs::Figures::with_eight))]
-fn put_eight(s: State, figures: &mut [f64])
-    requires { 8 ≤ length figures.old }
-    ensures { figures.new ≡ with_eight s figures.old }
+// Numbers over the front of the figures.
+fn put_front<const N: usize>(numbers: [f64; N], figures: &mut [f64])
+    requires { N ≤ length figures.old }
+    ensures { figures.new ≡ numbers.entry ++ drop N figures.old }
 {
-    figures[..8].copy_from_slice(&[s.t, s.p, s.rho, s.u, s.h, s.cv, s.cp, s.w]);
+    figures[..N].copy_from_slice(&numbers);
 }
 
 // Of a door: its eight numbers.
+#[tactic(auto, unfolding(crate::specs::Figures::with_eight))]
 pub fn put_answer(a: Result<State, Refusal>, figures: &mut [f64]) -> u32
     ensures { AnsweredIn figures.old figures.new a result }
 {
@@ -40,7 +40,7 @@ pub fn put_answer(a: Result<State, Refusal>, figures: &mut [f64]) -> u32
     }
     match a {
         Ok(s) => {
-            put_eight(s, figures);
+            put_front([s.t, s.p, s.rho, s.u, s.h, s.cv, s.cp, s.w], figures);
             phase_number(s.phase)
         }
         Err(Refusal(n)) => u32::from(n),
@@ -98,16 +98,8 @@ pub fn put_state(a: Result<State, Refusal>, figures: &mut [f64]) -> u32
     put_conducted(with_conductivity(asked, a), figures)
 }
 
-// The three numbers over the front of the figures; as `put_eight`, a line of the library's `copy_from_slice`.
-#[tactic(auto, unfolding(crate::specs::Figures::with_three))]
-fn put_three(s: Saturation, figures: &mut [f64])
-    requires { 3 ≤ length figures.old }
-    ensures { figures.new ≡ with_three s figures.old }
-{
-    figures[..3].copy_from_slice(&[s.pressure, s.vapour, s.liquid]);
-}
-
 // As put_answer: one function of both would take the numbers, how many they are and the number for C, and say less.
+#[tactic(auto, unfolding(crate::specs::Figures::with_three))]
 pub fn put_saturated(s: Result<Saturation, Refusal>, figures: &mut [f64]) -> u32
     ensures { SaturatedIn figures.old figures.new s result }
 {
@@ -116,7 +108,7 @@ pub fn put_saturated(s: Result<Saturation, Refusal>, figures: &mut [f64]) -> u32
     }
     match s {
         Ok(x) => {
-            put_three(x, figures);
+            put_front([x.pressure, x.vapour, x.liquid], figures);
             259
         }
         Err(Refusal(n)) => u32::from(n),

@@ -4,6 +4,7 @@ use door_limits::{document_01, is_outside};
 use door_pressure::from_pressure;
 use eos_state::State;
 use refusal::Refusal;
+use run_print::decimal::Decimal;
 use run_print::failure::Finding;
 use run_print::table::Row;
 use run_print::tally::{Count, Tally};
@@ -39,20 +40,36 @@ fn number(row: Row, column: usize, scale: f64) -> f64 {
     }
 }
 
+// What a comparison found, counted and told; where a damaged cell left none, that is counted.
+// A row and the tally stay apart here and below: `lines` lends the one tally to each row, and `Row::judged` takes it alone.
+pub fn judged(
+    row: Row,
+    tally: &mut Tally,
+    column: usize,
+    which: Count,
+    found: Option<Finding>,
+    left_out: Count,
+) {
+    match found {
+        Some(found) => row.judged(column, tally, which, found),
+        None => tally.counted(left_out),
+    }
+}
+
 // Right within one unit of the cell's last digit.
-fn quantity(row: Row, tally: &mut Tally, column: usize, scale: f64, x: f64) {
-    let Some(d) = row.printed(column) else {
-        tally.counted(Count::Damaged);
-        return;
-    };
+fn within(d: Decimal, scale: f64, x: f64) -> Finding<'static> {
     let one = d.unit(scale);
     let y = d.value(scale);
-    let found = Finding {
+    Finding {
         right: x - one <= y && y <= x + one,
         words: b", worked ",
         x: x / scale,
-    };
-    row.judged(column, tally, Count::Cells, found);
+    }
+}
+
+fn quantity(row: Row, tally: &mut Tally, column: usize, scale: f64, x: f64) {
+    let found = row.printed(column).map(|d| within(d, scale, x));
+    judged(row, tally, column, Count::Cells, found, Count::Damaged);
 }
 
 // h − u = p/ρ within the printed digits: a unit of h, one of u, and p/ρ² times one of ρ. None where a cell of the three is damaged.
@@ -72,10 +89,15 @@ fn balance(row: Row, p: f64) -> Option<Finding<'static>> {
 }
 
 fn difference(row: Row, tally: &mut Tally, p: f64) {
-    match balance(row, p) {
-        Some(found) => row.judged(RHO, tally, Count::Differences, found),
-        None => tally.counted(Count::DifferencesLeftOut),
-    }
+    let found = balance(row, p);
+    judged(
+        row,
+        tally,
+        RHO,
+        Count::Differences,
+        found,
+        Count::DifferencesLeftOut,
+    );
 }
 
 fn compared(row: Row, tally: &mut Tally, x: State) {

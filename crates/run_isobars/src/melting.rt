@@ -1,6 +1,6 @@
 // RULES 8.4: the rows that 004's Table 35 marks as melting, in our ranges and beyond them, against the melting pressure
 // alone: it passes the printed pressure within half a unit of the printed temperature.
-use crate::isobar::{FLAG, MEGA, P, T};
+use crate::isobar::{FLAG, MEGA, P, T, judged};
 use eos_melting::melting_pressure;
 use num_working::plain;
 use run_print::failure::Finding;
@@ -27,8 +27,5 @@ pub fn compare(row: Row, tally: &mut Tally) {
         return;
     }
     tally.counted(Count::OnMeltingLine);
-    match passed(row) {
-        Some(found) => row.judged(T, tally, Count::Cells, found),
-        None => tally.counted(Count::Damaged),
-    }
+    judged(row, tally, T, Count::Cells, passed(row), Count::Damaged);
 }

@@ -1,9 +1,11 @@
 // 004's Table 34, saturation, up to the critical point, against the auxiliary equations (3.13) to (3.15). The table is
 // the equal-area solution and they are not, so they are compared at the uncertainties that 004 gives them
 // (docs/READING.md, Saturation).
+use crate::isobar::judged;
 use eos_densities::{liquid_density, vapour_density};
 use eos_saturation::vapour_pressure;
 use num_working::plain;
+use run_print::decimal::Decimal;
 use run_print::failure::Finding;
 use run_print::table::Row;
 use run_print::tally::{Count, Tally};
@@ -30,6 +32,17 @@ fn uncertainty(t: f64, to_295: f64, to_303: f64) -> f64 {
     }
 }
 
+// Right within a part of the cell's value.
+fn within(d: Decimal, scale: f64, x: f64, uncertainty: f64) -> Finding<'static> {
+    let y = d.value(scale);
+    let room = uncertainty * y;
+    Finding {
+        right: y - room <= x && x <= y + room,
+        words: b", worked ",
+        x: x / scale,
+    }
+}
+
 // A cell that `scale` of make one of the working's unit, and the part of itself by which the worked may be off.
 fn near(
     row: Row,
@@ -39,19 +52,10 @@ fn near(
     worked: Option<f64>,
     uncertainty: f64,
 ) {
-    let Some(d) = row.printed(column) else {
-        tally.counted(Count::Damaged);
-        return;
-    };
-    let y = d.value(scale);
-    let x = plain(worked);
-    let room = uncertainty * y;
-    let found = Finding {
-        right: y - room <= x && x <= y + room,
-        words: b", worked ",
-        x: x / scale,
-    };
-    row.judged(column, tally, Count::Cells, found);
+    let found = row
+        .printed(column)
+        .map(|d| within(d, scale, plain(worked), uncertainty));
+    judged(row, tally, column, Count::Cells, found, Count::Damaged);
 }
 
 // 0.025 % to 295 K and 0.08 % to 303 K.

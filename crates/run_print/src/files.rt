@@ -4,6 +4,7 @@ ghost use Rattle.io.specs.Counts.{IsPrefixLen};
 use std::io::Read;
 
 // What an open file has, as far as there is space, or up to where a read fails.
+// It answers a length and no slice: public, it keeps its promise of one (`IsPrefixLen`).
 pub fn read_full<R: Read>(from: &mut R, space: &mut [u8]) -> usize
     ensures { IsPrefixLen result space.new }
 {

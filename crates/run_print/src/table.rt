@@ -81,11 +81,7 @@ impl<'a> Row<'a> {
 
     // The name of a column.
     pub(crate) fn name(&self, column: usize) -> &'a [u8] {
-        Row {
-            text: self.text,
-            line: 0,
-        }
-        .cell(column)
+        Row { line: 0, ..*self }.cell(column)
     }
 
     // Whether a cell holds these bytes.

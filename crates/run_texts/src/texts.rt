@@ -9,6 +9,7 @@ use sheet_write::put;
 use std::rt::Files;
 
 // What a file has, as far as there is space. Where it can't be opened, that is said.
+// It and `fill` answer a length and no slice: public, they keep their promise of one (`IsPrefixLen`).
 pub fn load<R: Files>(files: &R, complaints: Paper, file: &[u8], space: &mut [u8]) -> usize
     ensures { IsPrefixLen result space.new }
 {
@@ -33,6 +34,7 @@ pub fn find(text: &[u8], from: usize, mark: u8) -> usize
 }
 
 // A title and a text in a list: where the title ends, and where the text starts and the next title.
+// Places and no slices: `titled` is public, and its promise is of these places and their order.
 #[derive(Clone, Copy)]
 pub struct Places {
     pub end: usize,

@@ -16,7 +16,8 @@ use std::env::FillError;
 use std::io::{Error, IsTerminal};
 use std::rt::{Env, Stderr, Stdout};
 
-// Reads to the end of the input, or until the space is full; answers how many bytes were read.
+// Reads to the end of the input, or until the space is full; answers how many bytes were read. run_print's `read_full`
+// ends at a read that fails, and can't fail itself: here the failure has to be said (RULES 13).
 fn read_text<R: std::io::Read>(from: &mut R, space: &mut [u8]) -> Result<usize, Error>
     ensures { ReadInto space.new result }
 {
@@ -69,14 +70,6 @@ fn is_written(p: Paper, to: Stderr) -> bool {
     p.failure.is_none()
 }
 
-// The name of a sheet, where there are several.
-fn say_name(p: Paper, a: Asked, name: &[u8]) -> Paper {
-    if matches!(a.named, Named::Several) {
-        return p.say(b"== ").say(name).say(b"\n");
-    }
-    p
-}
-
 // What has to be said of a sheet on standard error, where it isn't explained.
 fn warn_of(p: Paper, name: &[u8], text: &[u8]) {
     if text.len() > 65536 {
@@ -84,33 +77,6 @@ fn warn_of(p: Paper, name: &[u8], text: &[u8]) {
         p.say(b": The text has more than 65,536 bytes.\n");
     }
     warn(p, document_01(), text, name);
-}
-
-// The sheet in an open file; whether to go on.
-// RULES 6.1: a sheet has 65,536 bytes at most, so that one byte more is enough to know.
-fn answer<R: std::io::Read>(rt: HostRuntime, from: &mut R, name: &[u8], a: Asked) -> bool {
-    let mut space = [0; 65537];
-    let mut out = [0; 1512];
-    match score_from(from, &mut space, &mut out) {
-        Ok((n, long)) => tell(rt, name, a, &space[..n], &out[..long]),
-        Err(e) => {
-            complaints(rt.stderr()).say_failure(name, e);
-            true
-        }
-    }
-}
-
-// A text and its report; whether to go on.
-fn tell(rt: HostRuntime, name: &[u8], a: Asked, text: &[u8], out: &[u8]) -> bool {
-    let report = say_name(output(rt.stdout()), a, name).say(out);
-    if a.explained {
-        return is_written(explain(report, document_01(), text), rt.stderr());
-    }
-    if !is_written(report, rt.stderr()) {
-        return false;
-    }
-    warn_of(complaints(rt.stderr()), name, text);
-    true
 }
 
 // The numbers of Linux for why a file can't be opened.
@@ -122,42 +88,6 @@ fn error_of(e: FillError) -> Error {
     match e {
         FillError::NotPresent => Error::from_raw_os_error(INVALID),
         FillError::TooLong => Error::from_raw_os_error(NAME_TOO_LONG),
-    }
-}
-
-// The file of this name.
-fn answer_file(rt: HostRuntime, name: &[u8], a: Asked) -> bool {
-    match open(&rt, name) {
-        Ok(mut from) => answer(rt, &mut from, name, a),
-        Err(e) => {
-            complaints(rt.stderr()).say_failure(name, e);
-            true
-        }
-    }
-}
-
-// The file that the word at a place names.
-fn answer_place(rt: HostRuntime, place: usize, a: Asked) -> bool {
-    let mut name = io::buffer();
-    match rt.arg(place, &mut name) {
-        Ok(n) => answer_file(rt, &name[..n], a),
-        Err(e) => {
-            complaints(rt.stderr()).say_failure(b"FILE", error_of(e));
-            true
-        }
-    }
-}
-
-fn answer_input(rt: HostRuntime, a: Asked) -> bool {
-    answer(rt, &mut rt.stdin(), b"standard input", a)
-}
-
-// A word, where it names a sheet; whether to go on.
-fn answer_word(rt: HostRuntime, place: usize, w: Word, a: Asked) -> bool {
-    match w {
-        Word::Input => answer_input(rt, a),
-        Word::File => answer_place(rt, place, a),
-        _ => true,
     }
 }
 
@@ -183,34 +113,111 @@ fn asked_for<E: Env>(env: &E) -> Asked {
     a
 }
 
-fn answer_each(rt: HostRuntime, a: Asked) {
-    let mut ended = false;
-    for i in 1..usize::MAX {
-        let Some(w) = word_at(&rt, i, ended) else {
-            return;
-        };
-        if !answer_word(rt, i, w, a) {
-            return;
+// What the program runs on, and what its words ask for.
+#[derive(Clone, Copy)]
+struct Run {
+    rt: HostRuntime,
+    asked: Asked,
+}
+
+impl Run {
+    // The name of a sheet, where there are several.
+    fn say_name(self, p: Paper, name: &[u8]) -> Paper {
+        if matches!(self.asked.named, Named::Several) {
+            return p.say(b"== ").say(name).say(b"\n");
         }
-        ended = ended || matches!(w, Word::End);
+        p
     }
-}
 
-// Nobody is to wait for a program that waits for him.
-fn answer_nothing_named(rt: HostRuntime, a: Asked) {
-    if rt.stdin().is_terminal() {
-        complaints(rt.stderr()).say(
-            b"scorer: reading a sheet from standard input; scorer --help shows how one is written\n",
-        );
+    // Why a file can't be read; the other files are still answered.
+    fn refuse(self, name: &[u8], e: Error) -> bool {
+        complaints(self.rt.stderr()).say_failure(name, e);
+        true
     }
-    answer_input(rt, a);
-}
 
-fn answer_named(rt: HostRuntime, a: Asked) {
-    if matches!(a.named, Named::Nothing) {
-        answer_nothing_named(rt, a);
-    } else {
-        answer_each(rt, a);
+    // A text and its report; whether to go on.
+    fn tell(self, name: &[u8], text: &[u8], out: &[u8]) -> bool {
+        let report = self.say_name(output(self.rt.stdout()), name).say(out);
+        if self.asked.explained {
+            return is_written(explain(report, document_01(), text), self.rt.stderr());
+        }
+        if !is_written(report, self.rt.stderr()) {
+            return false;
+        }
+        warn_of(complaints(self.rt.stderr()), name, text);
+        true
+    }
+
+    // The sheet in an open file; whether to go on.
+    // RULES 6.1: a sheet has 65,536 bytes at most, so that one byte more is enough to know.
+    fn answer<R: std::io::Read>(self, from: &mut R, name: &[u8]) -> bool {
+        let mut space = [0; 65537];
+        let mut out = [0; 1512];
+        match score_from(from, &mut space, &mut out) {
+            Ok((n, long)) => self.tell(name, &space[..n], &out[..long]),
+            Err(e) => self.refuse(name, e),
+        }
+    }
+
+    // The file of this name.
+    fn answer_file(self, name: &[u8]) -> bool {
+        match open(&self.rt, name) {
+            Ok(mut from) => self.answer(&mut from, name),
+            Err(e) => self.refuse(name, e),
+        }
+    }
+
+    // The file that the word at a place names.
+    fn answer_place(self, place: usize) -> bool {
+        let mut name = io::buffer();
+        match self.rt.arg(place, &mut name) {
+            Ok(n) => self.answer_file(&name[..n]),
+            Err(e) => self.refuse(b"FILE", error_of(e)),
+        }
+    }
+
+    fn answer_input(self) -> bool {
+        self.answer(&mut self.rt.stdin(), b"standard input")
+    }
+
+    // A word, where it names a sheet; whether to go on.
+    fn answer_word(self, place: usize, w: Word) -> bool {
+        match w {
+            Word::Input => self.answer_input(),
+            Word::File => self.answer_place(place),
+            _ => true,
+        }
+    }
+
+    fn answer_each(self) {
+        let mut ended = false;
+        for i in 1..usize::MAX {
+            let Some(w) = word_at(&self.rt, i, ended) else {
+                return;
+            };
+            if !self.answer_word(i, w) {
+                return;
+            }
+            ended = ended || matches!(w, Word::End);
+        }
+    }
+
+    // Nobody is to wait for a program that waits for him.
+    fn answer_nothing_named(self) {
+        if self.rt.stdin().is_terminal() {
+            complaints(self.rt.stderr()).say(
+                b"scorer: reading a sheet from standard input; scorer --help shows how one is written\n",
+            );
+        }
+        self.answer_input();
+    }
+
+    fn answer_named(self) {
+        if matches!(self.asked.named, Named::Nothing) {
+            self.answer_nothing_named();
+        } else {
+            self.answer_each();
+        }
     }
 }
 
@@ -233,9 +240,9 @@ fn no_flag<E: Env>(env: &E, p: Paper, place: usize) {
 }
 
 fn main(rt: HostRuntime) {
-    let a = asked_for(&rt);
-    match a.wish {
-        Wish::Score => answer_named(rt, a),
+    let asked = asked_for(&rt);
+    match asked.wish {
+        Wish::Score => Run { rt, asked }.answer_named(),
         Wish::Help => {
             is_written(say_help(output(rt.stdout())), rt.stderr());
         }

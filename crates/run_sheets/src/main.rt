@@ -88,7 +88,6 @@ fn main(rt: HostRuntime) {
         = a tab\nN 1\nC 7\t3000000 P 5000000 1\n\
         = a NUL byte\nN 1\nC 7 3000000 P 5000000 1\0\n\
         = a byte above 127\nN 1\nC 7 3000000 P 5000000 \xb1\n",
-        reported,
     );
     banks(&rt, complaints);
     long();

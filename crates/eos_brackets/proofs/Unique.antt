@@ -7,6 +7,7 @@ use Rattle.eos_brackets.proofs.exponential_brackets.Reads as exponential_bracket
 use Rattle.eos_brackets.proofs.first_bracket.Reads as first_bracket
 use Rattle.eos_brackets.proofs.gaussian_brackets.Reads as gaussian_brackets
 use Rattle.eos_brackets.proofs.times.Reads as times
+use Rattle.eos_brackets.proofs.grow_first.Reads as grow_first
 use Rattle.eos_brackets.proofs.grow.Reads as grow
 
 pub polynomial_brackets_once : OneAnswer Five (polynomial_brackets.Post tt)
@@ -23,6 +24,9 @@ gaussian_brackets_once a r s x y = by_equation
 
 pub times_once : OneAnswer Five (times.Post tt)
 times_once a r s x y = by_equation
+
+pub grow_first_once : OneAnswer Five (grow_first.Post tt)
+grow_first_once a r s x y = by_equation
 
 pub grow_once : OneAnswer Five (grow.Post tt)
 grow_once a r s x y = by_equation

@@ -3,7 +3,7 @@
 // times its brackets, are added up: all five, or the first, which a pressure needs.
 #![tactic(auto)]
 
-ghost use Rattle.std.specs.Prelude.{◌≡◌};
+ghost use Rattle.std.specs.Prelude.{◌≡◌, false};
 ghost use Rattle.num_formulas.specs.Formula.{num, value};
 ghost use Rattle.eos_brackets.specs.Derivative.{of, five, times, grown};
 ghost use Rattle.eos_brackets.specs.Bracket.{polynomial, first, exponential, gaussian};
@@ -89,20 +89,30 @@ pub fn times(term: f64, brackets: Five) -> Five
     }
 }
 
+// The first sum so far, and a row's figure of it added; the others stay as they are.
+pub fn grow_first(s: Five, term: f64, bracket: f64) -> Five
+    ensures { result ≡ grown false s term (λ k. bracket) }
+{
+    Five {
+        d: s.d + term * bracket,
+        ..s
+    }
+}
+
 // The sums so far, and a row's figures added.
 pub fn grow(all: bool, s: Five, term: f64, brackets: Five) -> Five
     ensures { result ≡ grown all s term (of brackets) }
 {
-    let d = s.d + term * brackets.d;
+    let first = grow_first(s, term, brackets.d);
     if all {
         Five {
-            d,
             dd: s.dd + term * brackets.dd,
             t: s.t + term * brackets.t,
             tt: s.tt + term * brackets.tt,
             dt: s.dt + term * brackets.dt,
+            ..first
         }
     } else {
-        Five { d, ..s }
+        first
     }
 }

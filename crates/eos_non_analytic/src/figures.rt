@@ -2,12 +2,12 @@
 // sums so far: all five, or the first, which a pressure needs.
 ghost use Rattle.std.specs.Prelude.{◌≡◌};
 ghost use Rattle.num_formulas.specs.Formula.{num, value};
-ghost use Rattle.eos_brackets.specs.Derivative.{five, grown};
+ghost use Rattle.eos_brackets.specs.Derivative.{Delta, five, grown};
 ghost use Rattle.eos_non_analytic.specs.Parts.{held_near, held_edge};
 ghost use Rattle.eos_non_analytic.specs.Figures.{m, brackets_by, non_analytic_term, non_analytic_bracket};
 
 use crate::parts::{Edge, Near};
-use eos_brackets::{Five, grow};
+use eos_brackets::{Five, grow, grow_first};
 use eos_rows::NonAnalytic;
 use num_working::over;
 
@@ -28,6 +28,24 @@ impl Placed {
     {
         let Placed { row, n, edge, .. } = self;
         row.ka * edge.theta * (20.0 / 3.0) * n.v + 2.0 * row.kb * row.a * edge.low
+    }
+
+    // The first bracket alone: in it no P₂ stands.
+    #[inline(always)]
+    fn first_bracket(self) -> f64
+        ensures { result ≡ value (non_analytic_bracket self.row (held_near self.n) (held_edge self.edge) self.delta self.tau Delta) }
+    {
+        let Placed {
+            row,
+            n,
+            edge,
+            delta,
+            ..
+        } = self;
+        let delta_d = n.e * self.m();
+        let l = delta * (row.b * edge.p1 * delta_d);
+        let k = delta * -(2.0 * row.kc * n.e);
+        edge.p0 * (1.0 + k) + l
     }
 
     // The five brackets by m and P₂: what they share is worked once.
@@ -96,17 +114,17 @@ pub fn add<const ALL: bool>(
 ) -> Five
     ensures { result ≡ grown ALL s (value (non_analytic_term row delta (num psi))) (λ k. value (non_analytic_bracket row (held_near n) (held_edge edge) delta tau k)) }
 {
-    grow(
-        ALL,
-        s,
-        row.n * delta * psi,
-        Placed {
-            row,
-            n,
-            edge,
-            delta,
-            tau,
-        }
-        .brackets(),
-    )
+    let term = row.n * delta * psi;
+    let placed = Placed {
+        row,
+        n,
+        edge,
+        delta,
+        tau,
+    };
+    if ALL {
+        grow(ALL, s, term, placed.brackets())
+    } else {
+        grow_first(s, term, placed.first_bracket())
+    }
 }

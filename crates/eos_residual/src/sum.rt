@@ -3,8 +3,9 @@
 // at its end. What hangs on the temperature comes with the isotherm.
 ghost use Rattle.std.specs.Prelude.{◌≡◌, ◌+◌, ◌≤◌, cond};
 ghost use Rattle.num_working.specs.Working.{checked};
-ghost use Rattle.num_formulas.specs.Formula.{value};
-ghost use Rattle.eos_brackets.specs.Derivative.{Delta, of};
+ghost use Rattle.num_formulas.specs.Formula.{num, value};
+ghost use Rattle.eos_brackets.specs.Derivative.{Delta, of, grown};
+ghost use Rattle.eos_brackets.specs.Bracket.{exponential};
 ghost use Rattle.eos_non_analytic.specs.Parts as Parts;
 ghost use Rattle.eos_non_analytic.specs.Figures.{non_analytic_figures};
 ghost use Rattle.eos_terms.specs.Term as Term;
@@ -13,7 +14,8 @@ ghost use Rattle.eos_terms.specs.Fallen.{fallen_terms};
 ghost use Rattle.eos_residual.specs.Sum.{onto, total, Meet, Nine, polynomial_figures, exponential_figures, gaussian_figures, residual, all_five, residual_part};
 
 use eos_brackets::{
-    Five, exponential_brackets, gaussian_brackets, grow, polynomial_brackets, times,
+    Five, exponential_brackets, first_bracket, gaussian_brackets, grow, grow_first,
+    polynomial_brackets, times,
 };
 use eos_isotherm::Isotherm;
 use eos_non_analytic::figures::add;
@@ -42,6 +44,19 @@ fn in_quarters(q: u8) -> f64
     ensures { result ≡ value (in_quarters q) }
 {
     q as f64 / 4.0
+}
+
+// The sums so far, and the figures of a row of 8 to 34: by all five brackets, or by the first alone. z is δᶜ.
+#[inline(always)]
+fn grow_exponential<const ALL: bool>(s: Five, term: f64, d: f64, q: u8, c: f64, z: f64) -> Five
+    ensures { result ≡ grown ALL s term (λ k. value (exponential (num d) (in_quarters q) (num c) (num z) k)) }
+{
+    if ALL {
+        let t = in_quarters(q);
+        grow(ALL, s, term, exponential_brackets(d, t, c, z))
+    } else {
+        grow_first(s, term, first_bracket(d, c, z))
+    }
 }
 
 // What all rows are worked from, at a density on an isotherm. Lent to each of its methods, it is copied for none.
@@ -95,9 +110,7 @@ impl Terms {
             let c = cs[i];
             let z = c as usize;
             let term = ns[7 + i] * xs[d as usize] * ys[7 + i] * es[z - 1];
-            let t = in_quarters(qs[7 + i]);
-            let brackets = exponential_brackets(d as f64, t, c as f64, xs[z]);
-            s = grow(ALL, s, term, brackets);
+            s = grow_exponential::<ALL>(s, term, d as f64, qs[7 + i], c as f64, xs[z]);
         }
         s
     }

@@ -3,17 +3,19 @@ use mathlib.Core.Path.{◌≡◌, refl}
 use Prim.Native.Nat.{◌+◌}
 use native.Mathlib.Omega.{arith}
 use Rattle.num_working.specs.Number.{whole}
+use Rattle.num_formulas.specs.Formula.{value}
+use Rattle.eos_brackets.specs.Bracket.{exponential}
 use Rattle.eos_terms.proofs.Points.{its_powers, its_decays}
 use Rattle.eos_residual.proofs.Sums.{dues_more}
 use Rattle.eos_residual.proofs.Figures.{placed_by, exponential_placed}
 use Rattle.eos_residual.proofs.sum.Terms.nine_rows.Goals as goal
 
 pub loop-i-preserved : goal.loop-i-preserved
-unfolding whole
+unfolding exponential value whole
 loop-i-preserved g c = λ iso delta y x e.
-    dues_more _ _ _ _ _ _ _ _ c.grow-s.ensures
+    dues_more _ _ _ _ _ _ _ _ c.grow_exponential-s.ensures
     (exponential_placed iso delta y x _ c.coefficients-ns.ensures c.delta_powers-ds.ensures c.tau_quarters-qs.ensures c.decay_powers-cs.ensures e
-    (omega arith) c.in_quarters-t.ensures c.exponential_brackets-brackets.ensures)
+    (omega arith) refl refl)
     (c.loop-i.invariant iso delta y x e)
 
 -- the row that a turn comes to has its exponents' places in the arrays

@@ -32,7 +32,9 @@ pub trait Probed {
         ensures { result ≡ figure self.now place.bits };
 }
 
-// From where the figure is not above t to where it is above.
+// From where the figure is not above t to where it is above. Laid out where it is called: by itself it would have the
+// whole of what is probed copied at each turn, from behind the reference.
+#[inline(always)]
 fn narrow<P: Probed>(probed: &P, t: f64, from: u64, to: Place) -> Result<u64, Missed>
     requires from_lt_to { from < to.bits }
     requires not_above { NotAbove (P.figure probed.now) t from }

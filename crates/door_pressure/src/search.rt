@@ -11,7 +11,7 @@ ghost use Rattle.equation.proofs.Curves.{pressure_finite};
 use door_answers::answer_with;
 use eos_state::{Phase, State};
 use equation::{Curve, curve_at, pressure_on, state_on};
-use num_halving::{Missed, Probed, halve};
+use num_halving::{Missed, Place, Probed, halve};
 use refusal::Refusal;
 
 // The pressure at a density on a curve, as a figure that a halving probes.
@@ -25,8 +25,8 @@ impl Probed for Pressure {
 
     ghost sound = { λ s b x e. pressure_finite s.curve (of_bits binary64 b) x e };
 
-    fn at(&self, bits: u64) -> Option<f64> {
-        pressure_on(self.curve, f64::from_bits(bits))
+    fn at(&self, place: Place) -> Option<f64> {
+        pressure_on(self.curve, f64::from_bits(place.bits))
     }
 }
 
@@ -39,7 +39,10 @@ pub(crate) fn search_at(t: f64, phase: Phase, from: f64, to: f64, p: f64) -> Res
     ensures { result ≡ searched (of1996.pressure t) (of1996.state t phase) from to p }
 {
     let pressure = Pressure { curve: curve_at(t) };
-    match halve(&pressure, p, f64::to_bits(from), f64::to_bits(to)) {
+    let top = Place {
+        bits: f64::to_bits(to),
+    };
+    match halve(&pressure, p, f64::to_bits(from), top) {
         Ok(b) => answer_with(state_on(pressure.curve, phase, f64::from_bits(b))),
         Err(Missed::Nowhere) => Err(Refusal(9)),
         Err(Missed::Broke) => Err(Refusal(7)),

@@ -15,30 +15,37 @@ pub enum Missed {
     Broke,
 }
 
-// A figure that is worked at the bits of numbers without a minus sign. Where it is worked, it is finite.
+// Where a figure can be worked: the bits of a number that is finite and has no minus sign.
+#[derive(Clone, Copy)]
+pub struct Place {
+    pub bits: u64,
+    pub ghost below_infinity: { bits < 0x7ff0_0000_0000_0000 },
+}
+
+// A figure that is worked at places. Where it is worked, it is finite.
 pub trait Probed {
     ghost figure: { Self → ℕ → Worked };
 
     ghost sound: { (s : Self) (b : ℕ) (x : Float) → figure s b ≡ Some x → finite x ≡ true };
 
-    fn at(&self, bits: u64) -> Option<f64>
-        requires { bits < 0x7ff0_0000_0000_0000 }
-        ensures { result ≡ figure self.now bits };
+    fn at(&self, place: Place) -> Option<f64>
+        ensures { result ≡ figure self.now place.bits };
 }
 
-// From where the figure is not above t to where it is above.
-fn narrow<P: Probed>(probed: &P, t: f64, from: u64, to: u64) -> Result<u64, Missed>
-    requires from_lt_to { from < to }
-    requires to_bound { to < 0x7ff0_0000_0000_0000 }
+// From where the figure is not above t to where it is above. Laid out where it is called: by itself it would have the
+// whole of what is probed copied at each turn, from behind the reference.
+#[inline(always)]
+fn narrow<P: Probed>(probed: &P, t: f64, from: u64, to: Place) -> Result<u64, Missed>
+    requires from_lt_to { from < to.bits }
     requires not_above { NotAbove (P.figure probed.now) t from }
-    requires above { Above (P.figure probed.now) t to }
-    ensures { result ≡ halve (P.figure probed.now) t from to }
+    requires above { Above (P.figure probed.now) t to.bits }
+    ensures { result ≡ halve (P.figure probed.now) t from to.bits }
 {
     let mut lo = from;
-    let mut hi = to;
+    let mut hi = to.bits;
     while lo + 1 < hi {
         let mid = lo + (hi - lo) / 2;
-        let x = probed.at(mid).ok_or(Missed::Broke)?;
+        let x = probed.at(Place { bits: mid }).ok_or(Missed::Broke)?;
         if t < x {
             hi = mid;
         } else {
@@ -48,14 +55,13 @@ fn narrow<P: Probed>(probed: &P, t: f64, from: u64, to: u64) -> Result<u64, Miss
     Ok(lo)
 }
 
-pub fn halve<P: Probed>(probed: &P, t: f64, from: u64, to: u64) -> Result<u64, Missed>
-    requires { to < 0x7ff0_0000_0000_0000 }
-    ensures { result ≡ halve (P.figure probed.now) t from to }
+pub fn halve<P: Probed>(probed: &P, t: f64, from: u64, to: Place) -> Result<u64, Missed>
+    ensures { result ≡ halve (P.figure probed.now) t from to.bits }
 {
-    if to <= from {
+    if to.bits <= from {
         return Err(Missed::Nowhere);
     }
-    let low = probed.at(from).ok_or(Missed::Broke)?;
+    let low = probed.at(Place { bits: from }).ok_or(Missed::Broke)?;
     let high = probed.at(to).ok_or(Missed::Broke)?;
     if t < low {
         return Err(Missed::Nowhere);

@@ -10,7 +10,7 @@ use Rattle.num_halving.proofs.narrow.Goals as goal
 pub loop-lo-init : goal.loop-lo-init
 loop-lo-init g c =
     let a = c.args in
-    (omega arith, begins (g.P.Probed.figure a.probed.now) a.t a.from a.to (omega arith) (omega arith) c.requires.not_above c.requires.above)
+    (omega arith, begins (g.P.Probed.figure a.probed.now) a.t a.from a.to.bits (omega arith) (omega arith) c.requires.not_above c.requires.above)
 
 pub returns-in_err-x : goal.returns-in_err-x
 unfolding middle

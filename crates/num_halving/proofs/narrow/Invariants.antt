@@ -7,7 +7,7 @@ use Rattle.num_halving.proofs.narrow.Given as goal
 abbrev pub invariant-loop-lo : goal.invariant-loop-lo
 invariant-loop-lo g l =
     let f = g.P.Probed.figure l.probed in
-    (l.hi ≤ l.to) × Narrowing f l.t (halve f l.t l.from l.to) l.lo l.hi
+    (l.hi ≤ l.fn.to.bits) × Narrowing f l.t (halve f l.t l.from l.fn.to.bits) l.lo l.hi
 
 abbrev pub decreases-loop-lo : goal.decreases-loop-lo
 decreases-loop-lo g l = l.hi - l.lo

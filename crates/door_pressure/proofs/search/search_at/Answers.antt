@@ -12,11 +12,11 @@ use Rattle.door_pressure.proofs.search.search_at.Goals as goal
 pub float_to_bits-from : goal.float_to_bits-from
 float_to_bits-from c = nonneg_no_nan c.args.from c.requires.from_nonneg
 
-pub float_to_bits-to : goal.float_to_bits-to
-float_to_bits-to c = nonneg_no_nan c.args.to c.requires.to_nonneg
+pub float_to_bits-top : goal.float_to_bits-top
+float_to_bits-top c = nonneg_no_nan c.args.to c.requires.to_nonneg
 
-pub halve-requires : goal.halve-requires
-halve-requires c = bits_below c.args.to c.requires.to_nonneg c.requires.to_fits
+pub invariant_of-top : goal.invariant_of-top
+invariant_of-top c = record { below_infinity = bits_below c.args.to c.requires.to_nonneg c.requires.to_fits }
 
 pub float_from_bits-b : goal.float_from_bits-b
 float_from_bits-b c =

@@ -2,5 +2,5 @@
 use Rattle.num_working.proofs.Numbers.{no_nan}
 use Rattle.door_pressure.proofs.search.PressureProbed.at.Goals as goal
 
-pub float_from_bits-bits : goal.float_from_bits-bits
-float_from_bits-bits c = no_nan _ c.requires
+pub float_from_bits-place : goal.float_from_bits-place
+float_from_bits-place c = no_nan _ c.args.place.below_infinity

@@ -1,7 +1,7 @@
 // RULES 14.5: the byte of a line at which it stops being in the form, and what is expected there. Words hang on it, and
 // no more: promised is that it does not lie before the line.
-ghost use Rattle.std.specs.Prelude.{◌≤◌};
-ghost use Rattle.desk_form.specs.Stop.{StepsOn};
+ghost use Rattle.std.specs.Prelude.{◌≡◌, ◌≤◌};
+ghost use Rattle.desk_form.specs.Stop.{StepsOn, stop_of};
 
 #[derive(Clone, Copy)]
 pub enum Expected {
@@ -40,6 +40,20 @@ fn stopped(at: usize, expected: Expected, behind: Behind) -> Result<usize, Stop>
         expected,
         behind,
     })
+}
+
+// Of a step that stopped; the end of the line at the place where none did.
+fn stop_of(step: Result<usize, Stop>) -> Stop
+    ensures { result ≡ stop_of step }
+{
+    match step {
+        Err(stop) => stop,
+        Ok(at) => Stop {
+            at,
+            expected: Expected::LineEnd,
+            behind: Behind::Other,
+        },
+    }
 }
 
 // The first place from one on that has no digit.
@@ -150,7 +164,7 @@ fn over_form(form: &[u8], s: &[u8], from: usize) -> Result<usize, Stop>
     Ok(at)
 }
 
-// In the line that begins at a place: the need's, which is line 1, or a cylinder's. Where no step stops, its end is expected.
+// In the line that begins at a place: the need's, which is line 1, or a cylinder's.
 pub fn stop_in(s: &[u8], line: usize, from: usize) -> Stop
     ensures { from ≤ result.at }
 {
@@ -159,12 +173,5 @@ pub fn stop_in(s: &[u8], line: usize, from: usize) -> Stop
     } else {
         b"C # # L # #\n".as_slice()
     };
-    match over_form(form, s, from) {
-        Err(stop) => stop,
-        Ok(at) => Stop {
-            at,
-            expected: Expected::LineEnd,
-            behind: Behind::Other,
-        },
-    }
+    stop_of(over_form(form, s, from))
 }

@@ -35,11 +35,11 @@ more {o} {out} {k} {bs} v w h =
       bytes = rw (w.count, w.bytes) (overlaid_set o bs v (omega (arith, w.count)));
     }
 
-pub next_byte : {o out : List ℕ} {i : ℕ} (text : List ℕ) → Wrote o out i (take i text) → i < length text → length text ≤ length o
+pub next_byte : {o out : List ℕ} {i : ℕ} (text : List ℕ) → Wrote o out i (take i text) → i < length text → i < length o
     → Wrote o (set out i (get_or text i 0)) (i + 1) (take (i + 1) text)
 next_byte {o} {out} {i} text w h g =
     let e : take (i + 1) text ≡ take i text ++ (get_or text i 0 ∷ []) = rw (add-one, take-suc text i 0 h) in
-    rw e (more (get_or text i 0) w (omega arith))
+    rw e (more (get_or text i 0) w g)
 
 pub all_bytes : {o out : List ℕ} {i : ℕ} (text : List ℕ) → Wrote o out i (take i text) → length text ≤ i → i ≤ length text → Wrote o out (length text) text
 all_bytes {o} {out} {i} text w h g =

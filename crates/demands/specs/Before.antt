@@ -12,6 +12,7 @@ use Rattle.door_checks.specs.Check.{ranged}
 use Rattle.door_answers.specs.Answer.{passed, answer_with, Answer}
 use Rattle.door_pressure.specs.PressureDoor.{unboxed, pressure_door}
 use Rattle.door_density.specs.DensityDoor.{in_phase, density_door}
+use Rattle.demands.specs.Then as answer
 
 -- the same equation, with a melting pressure that no pressure is above
 abbrev pub never_solid : Equation → Equation
@@ -45,7 +46,7 @@ module _ (E : Equation) (L : Limits) where
 
   abbrev pub InPhaseBefore : Type 0
   InPhaseBefore = (phase : Phase) (t rho : Float) → in_phase (never_solid E) L phase t rho
-      ≡ or_else (E.pressure t rho) (refused 7) (λ p. cond (outside L.asked.pressure p) (refused 5) (answer_with (E.state t phase rho)))
+      ≡ or_else (E.pressure t rho) (answer.Refused 7) (λ p. cond (outside L.asked.pressure p) (answer.Refused 5) (answer_with (E.state t phase rho)))
 
   -- and whatever is asked, each door's answer is kept
   abbrev pub PressureKept : Type 0

@@ -14,6 +14,7 @@ use Rattle.door_limits.specs.declared.Limits.{Limits}
 use Rattle.door_answers.specs.Answer.{Answer}
 use Rattle.door_pressure.specs.PressureDoor.{pressure_door}
 use Rattle.door_density.specs.DensityDoor.{density_door}
+use Rattle.demands.specs.Then.{Unknown}
 
 module _ (E : Equation) (L : Limits) where
   abbrev pub PressureCounts : Type 0
@@ -57,7 +58,7 @@ uncounted E = record {
 abbrev pub StateBefore : Type 0
 StateBefore = (t : Float) (phase : Phase) (rho : Float)
     → (uncounted of1996).state t phase rho
-    ≡ or_else (work (delta rho)) None (λ δ. then_sums (five_sums (isotherm t) δ) (state_ideal phase 0 t (isotherm t) rho))
+    ≡ or_else (work (delta rho)) Unknown (λ δ. then_sums (five_sums (isotherm t) δ) (state_ideal phase 0 t (isotherm t) rho))
 
 -- and the doors look at no count: whatever is asked, the eight numbers and the phase, or the refusal, are those of the doors with no count
 module _ (E : Equation) (L : Limits) where

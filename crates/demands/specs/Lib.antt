@@ -1,4 +1,5 @@
 pub mod Demands
+pub mod Then
 pub mod Before
 pub mod Counts
 pub mod Conductivities

@@ -30,6 +30,8 @@ use Rattle.sheet_score.specs.Score.{sent_back, listed, report}
 use Rattle.demands.specs.Demands.{Exactly}
 use Rattle.demands.specs.Lines.{AtDoor, Volume, NoVolume, Mass, NoMass, OnScale}
 use Rattle.demands.specs.Twice.{at, Again, came}
+use Rattle.demands.specs.Then.{No, Passed, Mark}
+use Rattle.demands.specs.Then as Weighed
 
 -- ---- a line's record keeps all that the line says: its number, temperature and volume, whatever they are, and its value with its kind, unless it is blank
 
@@ -143,28 +145,28 @@ abbrev pub lacking_then : Line Float → Bool
 lacking_then l = no_temperature l.temperature || (no_volume l.volume || no_reading_then l.reading)
 
 abbrev pub standing_then : List ℕ → Line Float → Check
-standing_then before l = if_numbered l.number (λ n. cond (lacking_then l) (refused 1) (cond (is_on before n) (refused 30) (Ok tt)))
+standing_then before l = if_numbered l.number (λ n. cond (lacking_then l) (No 1) (cond (is_on before n) (No 30) Passed))
 
 abbrev pub filled_then : ℕ → Answer → Weighed
-filled_then v a = cond (is_volume v) (by_answer a v) (refused 2)
+filled_then v a = cond (is_volume v) (by_answer a v) (Weighed.Refused 2)
 
 module _ (L : Limits) where
   abbrev pub by_reading_then : Temperature → ℕ → Reading Float → Weighed
-  by_reading_then k v Reading.Blank = refused 1
+  by_reading_then k v Reading.Blank = Weighed.Refused 1
   by_reading_then k v (Reading.Pressure p) = if_kelvin k (λ t. filled_then v (pressure_door of1996 L t p))
   by_reading_then k v (Reading.Density d) = if_kelvin k (λ t. filled_then v (density_door of1996 L t d))
-  by_reading_then k v (Reading.Weighed g) = refused 1
+  by_reading_then k v (Reading.Weighed g) = Weighed.Refused 1
 
   abbrev pub weighed_then : Line Float → Weighed
   weighed_then l = if_number l.number (λ _. if_number l.volume (λ v. by_reading_then l.temperature v l.reading))
 
-  unfoldable pub marked_then : List ℕ → List (Line Float) → List Weighed
+  unfoldable pub marked_then : List ℕ → List (Line Float) → List Mark
   marked_then before [] = []
-  marked_then before (l ∷ ls) = if_passed (standing_then before l) (weighed_then l) ∷ marked_then (before ++ numbers (l ∷ [])) ls
+  marked_then before (l ∷ ls) = record { weighed = if_passed (standing_then before l) (weighed_then l) } ∷ marked_then (before ++ numbers (l ∷ [])) ls
 
   abbrev pub report_then : Option Bank → List ℕ
   report_then None = sent_back 14
-  report_then (Some b) = listed (admitted true (length b.cylinders) b.need) (marked_then [] (map line_then b.cylinders))
+  report_then (Some b) = listed (admitted true (length b.cylinders) b.need) (map (λ (m : Mark). m.weighed) (marked_then [] (map line_then b.cylinders)))
 
   abbrev pub AsThen : Type 0
   AsThen = (o : Option Bank) → ((b : Bank) → o ≡ Some b → NoneOnScale b.cylinders) → report L o ≡ report_then o

@@ -4,6 +4,7 @@
 ghost use Rattle.std.specs.Prelude.{◌≡◌};
 ghost use Rattle.door_answers.specs.Answer.{answer_with, refusal_number};
 
+use door_checks::number_of;
 use eos_state::State;
 use refusal::Refusal;
 
@@ -14,13 +15,9 @@ pub fn answer_with(s: Option<State>) -> Result<State, Refusal>
     s.ok_or(Refusal(7))
 }
 
-// The number of a refusal; 0 of a state. What is refused is handed on by `?`: the function is public, and stays. So is
-// `number_of` (`door_checks`), of another type and with a definition of its own.
+// The number of a refusal, to be handed on; 0 of a state, which is a check passed.
 pub fn refusal_number(a: Result<State, Refusal>) -> u8
     ensures { result ≡ refusal_number a }
 {
-    match a {
-        Err(Refusal(n)) => n,
-        Ok(_) => 0,
-    }
+    number_of(a.and(Ok(())))
 }

@@ -10,8 +10,8 @@ use door_limits::{Range, is_outside};
 use num_working::is_finite;
 use refusal::Refusal;
 
-// The number of a check that was not passed; 0 of one that was. A public function, `number_of`, which stays: a door hands
-// a refusal on by `?`.
+// The number of a check that was not passed, to be handed on; 0 of one that was. A door hands the refusal itself on, by
+// `?`: its number is asked for where it leaves for C (`refusal_number`, `door_answers`).
 pub fn number_of(c: Result<(), Refusal>) -> u8
     ensures { result ≡ number_of c }
 {

@@ -31,7 +31,7 @@ impl Probed for Pressure {
 }
 
 // Over densities that have no minus sign.
-#[tactic(auto, using(equation::proofs::Curves::on_curve, equation::proofs::Curves::state_on_curve), unfolding(crate::specs::Search::searched))]
+#[tactic(auto, using(equation::proofs::Curves::on_curve, equation::proofs::Curves::state_on_curve, crate::proofs::Searches::bits_below), unfolding(crate::specs::Search::searched))]
 pub(crate) fn search_at(t: f64, phase: Phase, from: f64, to: f64, p: f64) -> Result<State, Refusal>
     requires from_nonneg { T (nonneg from) }
     requires to_nonneg { T (nonneg to) }

@@ -1,6 +1,6 @@
 // The whole powers that Table 31 needs, each worked once and handed on together (RULES 4.3; docs/ARRANGEMENT.md,
 // section 2), as arrays whose sizes are the table's.
-#![tactic(auto, unfolding(num_powers::specs::Power::powers))]
+#![tactic(auto, unfolding(num_powers::specs::Power::powers, num_powers::specs::Power::power))]
 
 ghost use Rattle.std.specs.Prelude.{◌≡◌, map};
 ghost use Rattle.std.specs.List.{range_with_len};

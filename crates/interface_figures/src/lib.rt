@@ -6,6 +6,7 @@ ghost use Rattle.equation.specs.Equation.{of1996};
 ghost use Rattle.door_conductivity.specs.Conducted.{with_conductivity};
 ghost use Rattle.interface_figures.specs.Figures.{phase_number, asked, AnsweredIn, CarriedIn, CountedIn, SaturatedIn};
 
+use door_answers::refusal_number;
 use door_conductivity::{Carried, with_conductivity};
 use door_saturation::Saturation;
 use eos_state::{Phase, State};
@@ -43,7 +44,7 @@ pub fn put_answer(a: Result<State, Refusal>, figures: &mut [f64]) -> u32
             put_front([s.t, s.p, s.rho, s.u, s.h, s.cv, s.cp, s.w], figures);
             phase_number(s.phase)
         }
-        Err(Refusal(n)) => u32::from(n),
+        Err(_) => u32::from(refusal_number(a)),
     }
 }
 

@@ -15,14 +15,11 @@ float_to_bits-from c = nonneg_no_nan c.args.from c.requires.from_nonneg
 pub float_to_bits-top : goal.float_to_bits-top
 float_to_bits-top c = nonneg_no_nan c.args.to c.requires.to_nonneg
 
-pub invariant_of-top : goal.invariant_of-top
-invariant_of-top c = record { below_infinity = bits_below c.args.to c.requires.to_nonneg c.requires.to_fits }
-
 pub float_from_bits-b : goal.float_from_bits-b
 float_from_bits-b c =
     let a = c.args in
     let h = bits_below a.to c.requires.to_nonneg c.requires.to_fits in
     let e = sym c.halve.ensures ∙ c.in-Ok.is in
-    let f = answer (figure (pressure_on c.curve_at.result)) a.p (to_bits binary64 a.from) (to_bits binary64 a.to) _ (omega arith) e in
+    let f = answer (figure (pressure_on c.curve_at.result)) a.p (to_bits binary64 a.from) _ _ (omega arith) e in
     let l = f.to in
     no_nan _ (omega arith)

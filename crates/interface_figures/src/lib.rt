@@ -7,6 +7,7 @@ ghost use Rattle.door_conductivity.specs.Conducted.{with_conductivity};
 ghost use Rattle.interface_figures.specs.Figures.{phase_number, asked, AnsweredIn, CarriedIn, CountedIn, SaturatedIn};
 
 use door_answers::refusal_number;
+use door_checks::number_of;
 use door_conductivity::{Carried, with_conductivity};
 use door_saturation::Saturation;
 use eos_state::{Phase, State};
@@ -112,6 +113,6 @@ pub fn put_saturated(s: Result<Saturation, Refusal>, figures: &mut [f64]) -> u32
             put_front([x.pressure, x.vapour, x.liquid], figures);
             259
         }
-        Err(Refusal(n)) => u32::from(n),
+        Err(refusal) => u32::from(number_of(Err(refusal))),
     }
 }

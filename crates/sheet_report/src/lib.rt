@@ -7,6 +7,7 @@ ghost use Rattle.sheet_text.specs.Decimal.{decimal};
 ghost use Rattle.sheet_write.specs.Writing.{Wrote};
 ghost use Rattle.sheet_report.specs.Report.{weighed_bytes, line_bytes, lines_bytes, ending_bytes, report_bytes, ReportIs};
 
+use door_checks::number_of;
 use refusal::Refusal;
 use sheet_mass::Milligrams;
 use sheet_outcome::{Ending, Outcome};
@@ -31,7 +32,7 @@ fn put_weighed(out: &mut [u8], w: Result<Milligrams, Refusal>) -> usize
 {
     match w {
         Ok(mg) => put_between(out, b"M ", mg.0, b"\n"),
-        Err(refusal) => put_between(out, b"R ", u64::from(refusal.0), b"\n"),
+        Err(refusal) => put_between(out, b"R ", u64::from(number_of(Err(refusal))), b"\n"),
     }
 }
 
@@ -74,7 +75,7 @@ fn line_len(i: u64, w: Result<Milligrams, Refusal>) -> usize
 {
     let number = match w {
         Ok(mg) => mg.0,
-        Err(refusal) => u64::from(refusal.0),
+        Err(refusal) => u64::from(number_of(Err(refusal))),
     };
     number_len(i) + number_len(number) + 6
 }

@@ -3,6 +3,7 @@ ghost use Rattle.std.specs.Prelude.{◌≤◌};
 
 use desk_units::{Shown, kilograms_down, put_shown};
 use desk_words::put_words;
+use door_checks::number_of;
 use refusal::Refusal;
 use std::io::{Cursor, Error, Print, Stderr, Stdout, Write};
 
@@ -100,9 +101,10 @@ impl Paper {
 
     // RULES 14.1: the number of a refusal and its words.
     pub fn say_refused(self, n: Refusal) -> Paper {
+        let number = number_of(Err(n));
         let mut space = [0; 512];
-        let long = put_words(u32::from(n.0), &mut space);
-        self.say_number(u64::from(n.0))
+        let long = put_words(u32::from(number), &mut space);
+        self.say_number(u64::from(number))
             .say(b". ")
             .say(&space[..long])
     }

@@ -11,7 +11,7 @@ use num_working::is_finite;
 use refusal::Refusal;
 
 // The number of a check that was not passed, to be handed on; 0 of one that was. A door hands the refusal itself on, by
-// `?`: its number is asked for where it leaves, in a report (`sheet_report`) or for C (`interface_figures`).
+// `?`: its number is asked for where it leaves, in a report's lines, for C, or in what a person is told.
 pub fn number_of(c: Result<(), Refusal>) -> u8
     ensures { result ≡ number_of c }
 {

@@ -4,6 +4,7 @@
 // state whose conductivity fails, which no door gives.
 #![tactic(auto)]
 
+use door_answers::refusal_number;
 use door_conductivity::{Carried, with_conductivity};
 use door_density::from_density;
 use door_limits::document_01;
@@ -144,8 +145,8 @@ fn at_a_pole() -> State {
 fn tell_refusal(c: Result<Carried, Refusal>) {
     match c {
         Ok(_) => say(b"answered\n"),
-        Err(Refusal(n)) => {
-            numbered(b"refused by ", u64::from(n));
+        Err(refusal) => {
+            numbered(b"refused by ", u64::from(refusal_number(Err(refusal))));
             say(b"\n");
         }
     }

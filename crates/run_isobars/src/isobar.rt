@@ -1,5 +1,6 @@
 // RULES 8.3: 004's Table 35, its isobars, against the pressure door at the printed temperature and pressure
 // (docs/READING.md, D).
+use door_answers::refusal_number;
 use door_limits::{document_01, is_outside};
 use door_pressure::from_pressure;
 use eos_state::State;
@@ -118,11 +119,11 @@ fn asked(row: Row, tally: &mut Tally, t: f64, p: f64) {
             difference(row, tally, p);
         }
         Err(Refusal(6)) => tally.counted(Count::InCriticalBox),
-        Err(Refusal(n)) => {
+        Err(refusal) => {
             let found = Finding {
                 right: false,
                 words: b", refused by ",
-                x: f64::from(n),
+                x: f64::from(refusal_number(Err(refusal))),
             };
             row.judged(RHO, tally, Count::Cells, found);
         }

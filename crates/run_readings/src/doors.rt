@@ -2,6 +2,7 @@
 // floats beside them, both sides of the saturation line, the edges of the critical box, both sides of the melting line
 // (RULES 8.4), the states of docs/ARRANGEMENT.md, section 12, and what is no number; then doors that are asked for the
 // thermal conductivity too (RULES 5.5). Bits and counts worked elsewhere (crosscheck/doors.py).
+use door_answers::refusal_number;
 use door_conductivity::{Carried, with_conductivity};
 use door_density::from_density;
 use door_limits::{Limits, document_01};
@@ -46,7 +47,7 @@ fn tell_carried(c: Carried) {
 fn tell_answer(c: Result<Carried, Refusal>) {
     match c {
         Ok(x) => tell_carried(x),
-        Err(Refusal(n)) => numbered(b" refused by ", u64::from(n)),
+        Err(refusal) => numbered(b" refused by ", u64::from(refusal_number(Err(refusal)))),
     }
     say(b"\n");
 }

@@ -1,5 +1,6 @@
 -- The five in turn, each tested: the first that fails is the answer. Assumes nothing.
 use mathlib.Core.Path.{refl, sym, ◌∙◌}
+use Rattle.num_working.proofs.Workings.{checked_number}
 use Rattle.eos_residual.specs.Sum.{all_five}
 use Rattle.eos_residual.proofs.sum.all_five.Goals as goal
 
@@ -54,10 +55,21 @@ returns-in_err-checked-5 c =
 pub returns : goal.returns
 unfolding all_five
 returns c =
+    let d = sym c.checked.ensures ∙ c.in_ok-checked.was in
+    let dd = sym c.checked-2.ensures ∙ c.in_ok-checked-2.was in
+    let t = sym c.checked-3.ensures ∙ c.in_ok-checked-3.was in
+    let tt = sym c.checked-4.ensures ∙ c.in_ok-checked-4.was in
+    let dt = sym c.checked-5.ensures ∙ c.in_ok-checked-5.was in
+    -- what passed its test is the number that was tested
     rw (
-      sym c.checked.ensures ∙ c.in_ok-checked.was,
-      sym c.checked-2.ensures ∙ c.in_ok-checked-2.was,
-      sym c.checked-3.ensures ∙ c.in_ok-checked-3.was,
-      sym c.checked-4.ensures ∙ c.in_ok-checked-4.was,
-      sym c.checked-5.ensures ∙ c.in_ok-checked-5.was,
+      d,
+      dd,
+      t,
+      tt,
+      dt,
+      sym (checked_number _ _ d).0,
+      sym (checked_number _ _ dd).0,
+      sym (checked_number _ _ t).0,
+      sym (checked_number _ _ tt).0,
+      sym (checked_number _ _ dt).0,
     ) refl

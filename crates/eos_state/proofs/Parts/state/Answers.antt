@@ -1,5 +1,7 @@
 -- Each number is its formula in plain f64, tested: the first that fails is the answer. Assumes nothing.
 use mathlib.Core.Path.{refl, sym, ◌∙◌}
+use native.Mathlib.Omega.{arith}
+use Rattle.num_working.proofs.Workings.{checked_number}
 use Rattle.num_formulas.proofs.Tests.{tested}
 use Rattle.eos_state.specs.State.{state_of}
 use Rattle.eos_state.proofs.Parts.state.Goals as goal
@@ -75,4 +77,7 @@ returns c =
       tested _ _ _ c.heat_v.ensures c.checked-4.ensures ∙ c.in_ok-checked-4.was,
       tested _ _ _ c.heat_p.ensures c.checked-5.ensures ∙ c.in_ok-checked-5.was,
       tested _ _ _ c.sound_speed.ensures c.checked-6.ensures ∙ c.in_ok-checked-6.was,
-    ) refl
+      -- the enthalpy that passed its test is the one that was tested
+      sym (checked_number _ _ (sym c.checked-3.ensures ∙ c.in_ok-checked-3.was)).0,
+      c.enthalpy.ensures,
+    ) (grind arith)

@@ -33,7 +33,7 @@ use Rattle.demands.specs.Lines.{AtDoor, for_pressure, for_density, Dashed, in_nu
 use Rattle.demands.specs.Twice.{at, Again, RefusesAt, lacks, is_again, alone, WeighsAt}
 use Rattle.demands.specs.Scales.{Lacks, lacks_number, lacks_value, lacks_volume, RefusesScale, by_1, by_30, by_2, by_23, AnswersScale, thousandfold, ScaleRefusals, ScaleAnswers, with_temperature, ButForTemperatures, no_more, alike, other, TemperatureNotUsed, largest, LargestTotal, heaviest, LargestReached, NoneOnScale, not_one, not_this, line_then, standing_then, weighed_then, marked_then, report_then, AsThen, TextAsThen, KeepsReading, keeps_none, keeps_pressure, keeps_density, keeps_grams, Keeps, Without, ReportedThen, was_in_form, was_not}
 use Rattle.demands.specs.Sheets.{sum, AllWeighed, none_left, one_more}
-use Rattle.demands.specs.Then.{Mark}
+use Rattle.demands.specs.Then.{weighed_of}
 use Rattle.demands.proofs.Mosts.{line_most}
 use Rattle.demands.proofs.Lines.{not_weighed, line_answers}
 use Rattle.demands.proofs.Twice.{refusals_at, answers_at}
@@ -223,9 +223,6 @@ module _ (L : Limits) where
   by_fields before (Some n) (Some t) Kind.Pressure (Some x) (Some v) a = refl
   by_fields before (Some n) (Some t) Kind.Density (Some x) (Some v) a = refl
   by_fields before (Some n) t Kind.Weighed (Some x) (Some v) a = absurd (not_weighed a refl)
-
-  abbrev weighed_of : Mark → Weighed
-  weighed_of m = m.weighed
 
   marks_as_then : (before : List ℕ) {cs : List Cylinder} → NoneOnScale cs → marked_after L before (map line_of cs) ≡ map weighed_of (marked_then L before (map line_then cs))
   unfolding marked_after marked_then numbers

@@ -30,7 +30,7 @@ use Rattle.sheet_score.specs.Score.{sent_back, listed, report}
 use Rattle.demands.specs.Demands.{Exactly}
 use Rattle.demands.specs.Lines.{AtDoor, Volume, NoVolume, Mass, NoMass, OnScale}
 use Rattle.demands.specs.Twice.{at, Again, came}
-use Rattle.demands.specs.Then.{No, Passed, Mark}
+use Rattle.demands.specs.Then.{No, Passed, Mark, weighed_of}
 use Rattle.demands.specs.Then as Weighed
 
 -- ---- a line's record keeps all that the line says: its number, temperature and volume, whatever they are, and its value with its kind, unless it is blank
@@ -166,7 +166,7 @@ module _ (L : Limits) where
 
   abbrev pub report_then : Option Bank → List ℕ
   report_then None = sent_back 14
-  report_then (Some b) = listed (admitted true (length b.cylinders) b.need) (map (λ (m : Mark). m.weighed) (marked_then [] (map line_then b.cylinders)))
+  report_then (Some b) = listed (admitted true (length b.cylinders) b.need) (map weighed_of (marked_then [] (map line_then b.cylinders)))
 
   abbrev pub AsThen : Type 0
   AsThen = (o : Option Bank) → ((b : Bank) → o ≡ Some b → NoneOnScale b.cylinders) → report L o ≡ report_then o

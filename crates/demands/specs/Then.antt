@@ -1,4 +1,4 @@
--- The names in which definitions stood that are kept word for word (Before.antt, Counts.antt, Scales.antt), as what is named so today. Definitions only.
+-- Before.antt, Counts.antt and Scales.antt keep definitions word for word as they once stood. What the names in them mean today. Definitions only.
 use Rattle.std.specs.Prelude.{ℕ, None, Ok, Result}
 use Rattle.eos_state.specs.State.{Stated}
 use Rattle.refusal.specs.Refused.{refused}
@@ -21,6 +21,9 @@ Refused n = refused n
 abbrev pub Unknown : Stated
 Unknown = None
 
--- what came of a line
+-- what came of a line, in a struct then
 pub record Mark : Type 0 where
   pub weighed : Weighed
+
+abbrev pub weighed_of : Mark → Weighed
+weighed_of m = m.weighed
